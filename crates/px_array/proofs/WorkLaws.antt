@@ -1,5 +1,5 @@
 -- Work that does not stop at the greatest u64. Upper crates cite it.
-use Rattle.std.proofs.Common.{◌≡◌, ℕ, ◌+◌, ◌^◌, ◌<◌, ◌∙◌, ap, arith}
+use Rattle.px_num.proofs.Basics.{◌≡◌, ℕ, ◌+◌, ◌^◌, ◌<◌, ◌∙◌, ap, arith}
 use Rattle.px_array.specs.Slots.{worked}
 
 -- the clocks are all counted where a u64 can have as many

@@ -1,7 +1,7 @@
 -- One ask after another. Upper crates cite them.
-use Rattle.std.proofs.Common.{◌≡◌, ℕ, List, [], ◌∷◌, ◌++◌, Option, Some, None, Result, Ok, Err, refl, sym}
-use Rattle.std.proofs.Common.{append_assoc, append-nil}
-use Rattle.std.specs.Io.KnownBytes.{Consumes, ReadConsumes}
+use Rattle.px_num.proofs.Basics.{◌≡◌, ℕ, List, [], ◌∷◌, ◌++◌, Option, Some, None, Result, Ok, Err, refl, sym}
+use Rattle.px_num.proofs.Basics.{append_assoc, append-nil, Consumes}
+use Rattle.std.specs.Io.KnownBytes.{ReadConsumes}
 use Rattle.px_io.proofs.ToldLaws.{consumes_kept, consumes_none}
 use Rattle.px_asked.specs.Asks.{Ask, Asked, all_given, given}
 

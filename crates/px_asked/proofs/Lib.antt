@@ -1,1 +1,4 @@
 pub mod AskLaws
+pub mod ListenLemmas
+pub mod PartLemmas
+pub mod ReadLemmas

@@ -1,2 +1,9 @@
 pub mod Asks
+pub mod Hearings
+pub mod Lines
+pub mod Listenings
+pub mod PartLaws
+pub mod Parts
+pub mod Readings
+pub mod Searches
 pub mod Telling

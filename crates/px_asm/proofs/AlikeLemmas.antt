@@ -1,16 +1,13 @@
 -- Two runs of the same micros from states of which some parts are known to be the same.
-use Rattle.std.proofs.Common.{◌≡◌, ℕ, zero, suc, ◌+◌, ◌-◌, ◌*◌, ◌/◌, ◌%◌, ◌^◌, ◌<◌, ◌≤◌, ◌==◌, Bool, true, false}
-use Rattle.std.proofs.Common.{if◌then◌else◌, nat_lt, List, [], ◌∷◌, All, refl, sym, subst, ap, ◌∙◌, arith}
+use Rattle.px_num.proofs.Basics.{◌≡◌, ℕ, zero, suc, ◌+◌, ◌-◌, ◌*◌, ◌/◌, ◌%◌, ◌^◌, ◌<◌, ◌≤◌, ◌==◌, Bool, true, false}
+use Rattle.px_num.proofs.Basics.{if◌then◌else◌, List, [], ◌∷◌, All, refl, sym, subst, ap, ◌∙◌, arith, nat_tests}
 use Rattle.std.proofs.lemmas.List.{ext_get_or}
-use Rattle.std.proofs.lemmas.Bool.Decides.{nat_tests}
 use Rattle.px_pixel.specs.Acts.{after_act}
 use Rattle.px_pixel.specs.Pixels.{PixelState}
 use Rattle.px_pixel.specs.declared.act.Act.{Act}
-use Rattle.px_pixel.specs.declared.act.Act.TheVariants as act
-use Rattle.px_tree.specs.Nodes.{TreeState, leaf_output}
+use Rattle.px_tree.specs.Nodes.{TreeState}
 use Rattle.px_macro.specs.Macros.{IsLawful}
 use Rattle.px_macro.specs.declared.operation.Macro.{Macro}
-use Rattle.px_macro.specs.declared.operation.Macro.TheVariants as m
 use Rattle.px_array.specs.Arrays.{HasGrid, State, no_pixel, pixel_at}
 use Rattle.px_array.specs.Clocks.{after_clock, after_clocks, after_tree_op}
 use Rattle.px_array.specs.declared.micro.Micro.{Micro}
@@ -20,6 +17,8 @@ use Rattle.px_array.proofs.ClockLaws.{grid_after_clock, pixel_at-after_clock, af
 use Rattle.px_asm.specs.Micros.{act_at, all_micros, cycles, micro_at, micros, tree_at}
 use Rattle.px_asm.specs.Operated.{Known, all_known, all_renewed, renewed}
 use Rattle.px_asm.proofs.StepLemmas.{run_is_steps, steps}
+use Rattle.px_pixel.specs.declared.act.Act.TheVariants as act
+use Rattle.px_macro.specs.declared.operation.Macro.TheVariants as m
 
 pub record AlikePixels (k : Known) (p q : PixelState) : Type 0 where
   pub memory : p.memory ≡ q.memory
@@ -74,31 +73,9 @@ act_alike (act.StoreConst at v) k b c p q fit tree h =
     record { memory = rw (h.memory, h.enable) refl; enable = h.enable; carry = h.carry; latch = h.latch }
 act_alike (act.Toggle at) k b c p q fit tree h =
     record { memory = rw (h.memory, h.enable) refl; enable = h.enable; carry = h.carry; latch = h.latch }
-act_alike (act.CarryTree at) k b c p q fit tree h =
-    record {
-      memory = h.memory;
-      enable = h.enable;
-      carry = λ e. rw (h.memory, h.carry e, tree fit) refl;
-      latch =
-          h.latch;
-    }
-act_alike (act.CarryLatch at) k b c p q fit tree h =
-    record {
-      memory = h.memory;
-      enable = h.enable;
-      carry = λ e. rw (h.memory, h.carry e, h.latch fit) refl;
-      latch =
-          h.latch;
-    }
-act_alike (act.AddTree at) k b c p q fit tree h =
-    let same = h.carry fit.1 in
-    let bit = tree fit.0 in
-    record {
-      memory = rw (h.memory, h.enable, same, bit) refl;
-      enable = h.enable;
-      carry = λ e. rw (h.memory, same, bit) refl;
-      latch = h.latch;
-    }
+act_alike (act.CarryTree at) k b c p q fit tree h = grind arith
+act_alike (act.CarryLatch at) k b c p q fit tree h = grind arith
+act_alike (act.AddTree at) k b c p q fit tree h = grind arith
 
 -- ---- one clock
 
@@ -131,16 +108,8 @@ clock_alike bits nx ny micro k s t fit h =
     record {
       first = grid_after_clock bits nx ny micro s h.first;
       second = grid_after_clock bits nx ny micro t h.second;
-      pixels = λ place inside.
-          let in_s : place < 2 ^ (s.tree.nx + s.tree.ny) = rw (h.first.columns, h.first.rows) inside in
-          let in_t : place < 2 ^ (t.tree.nx + t.tree.ny) = rw (h.second.columns, h.second.rows) inside in
-          let one = act_alike micro.act k (leaf_output s.tree place) (leaf_output t.tree place) (pixel_at s place)
-          (pixel_at t place) fit (λ e. ap (λ (tree : TreeState). leaf_output tree place) (h.tree e))
-          (h.pixels place inside) in
-          rw (pixel_at-after_clock micro s place in_s, pixel_at-after_clock micro t place in_t)
-          (op_alike micro.tree (known_by_act micro.act k) _ _ one);
-      tree = trees_alike micro.tree (known_by_act micro.act k) s.tree t.tree (h.first.columns ∙ sym h.second.columns)
-          (h.first.rows ∙ sym h.second.rows) (λ e. h.tree (sym (act_keeps_tree micro.act k) ∙ e));
+      pixels = grind (arith, act_alike, pixel_at-after_clock, op_alike);
+      tree = grind (arith, trees_alike, act_keeps_tree);
     }
 
 -- ---- a run of clocks that need nothing but what is known
@@ -186,10 +155,7 @@ op_keeps op carry latch = refl
 keeps_fed : (op : TreeOp) (a : Act) (carry latch : Bool) → suits a (while_fed carry latch)
     → known_by_act a (while_fed carry latch) ≡ while_fed carry latch
     → Keeps (record { tree = op; act = a }) (while_fed carry latch)
-keeps_fed op a carry latch fit same = record {
-  fit = fit;
-  same = ap (known_by_op op) same ∙ op_keeps op carry latch;
-}
+keeps_fed op a carry latch fit same = grind (arith, op_keeps)
 
 not_first : (i n : ℕ) → i < n → (i == n) ≡ false
 not_first i n low = grind (arith, nat_tests)
@@ -201,16 +167,12 @@ not_zero i some = grind (arith, nat_tests)
 bits_keep : (op : TreeOp) (levels i : ℕ) (first : Act) (each : ℕ → Act) (carry latch : Bool) → 1 ≤ i
     → ((t : ℕ) → Keeps (record { tree = op; act = each t }) (while_fed carry latch))
     → Keeps (record { tree = op; act = act_at levels first each i }) (while_fed carry latch)
-bits_keep op levels i first each carry latch some keeps =
-    rw (not_zero i some) (keeps_act op (nat_lt levels i) (each (i - 1 - levels)) act.Nop _ (keeps (i - 1 - levels))
-    (keeps_fed op act.Nop carry latch tt refl))
+bits_keep op levels i first each carry latch some keeps = grind (arith, not_zero, keeps_act, keeps_fed)
 
 -- the first clock, and then those that need nothing but what is known
 first_then : (bits nx ny : ℕ) (micro : ℕ → Micro) (k l : Known) (n count : ℕ) (s t : State) → count ≡ 1 + n
-    → suits (micro 0).act k → known_by (micro 0) k ≡ l
-    → ((i : ℕ) → 1 ≤ i → i < count → Keeps (micro i) l)
-    → Alike bits nx ny k s t
-    → Alike bits nx ny l (steps micro count s) (steps micro count t)
+    → suits (micro 0).act k → known_by (micro 0) k ≡ l → ((i : ℕ) → 1 ≤ i → i < count → Keeps (micro i) l)
+    → Alike bits nx ny k s t → Alike bits nx ny l (steps micro count s) (steps micro count t)
 first_then bits nx ny micro k l n count s t total fit known keeps h =
     let one = clock_alike bits nx ny (micro 0) k s t fit h in
     let start : Alike bits nx ny l (steps micro 1 s) (steps micro 1 t) = rw known at one in
@@ -221,9 +183,8 @@ module _ (bits nx ny : ℕ) (k : Known) (s t : State) (h : Alike bits nx ny k s 
   one_clock : (micro : ℕ → Micro) → Keeps (micro 0) k → Alike bits nx ny k (steps micro 1 s) (steps micro 1 t)
   one_clock micro keeps = rw (← keeps.same) (clock_alike bits nx ny (micro 0) k s t keeps.fit h)
 
-  steps_alike : (op : Macro) → IsLawful op bits
-      → Alike bits nx ny (renewed op k) (steps (micro_at op nx ny) (cycles op nx ny) s)
-      (steps (micro_at op nx ny) (cycles op nx ny) t)
+  steps_alike : (op : Macro) → IsLawful op bits → Alike bits nx ny (renewed op k)
+      (steps (micro_at op nx ny) (cycles op nx ny) s) (steps (micro_at op nx ny) (cycles op nx ny) t)
   steps_alike (m.KeepSign form) lawful =
       let last = 40 + (nx + ny) in
       let early : (0 == last) ≡ false = not_first 0 last (omega arith) in
@@ -271,7 +232,6 @@ module _ (bits nx ny : ℕ) (k : Known) (s t : State) (h : Alike bits nx ny k s 
       (record { fit = tt; same = refl }) (record { fit = refl; same = refl })) h
   steps_alike (m.KeepLess f g) lawful =
       let micro = micro_at (m.KeepLess f g) nx ny in
-      let some = lawful.fields.0.from_one in
       let l : Known = record { tree = k.tree; carry = true; latch = k.latch } in
       let l2 : Known = record { tree = k.tree; carry = true; latch = true } in
       let one = clock_alike bits nx ny (micro 0) k s t tt h in
@@ -290,34 +250,22 @@ module _ (bits nx ny : ℕ) (k : Known) (s t : State) (h : Alike bits nx ny k s 
 
 pub micros_alike : (bits nx ny : ℕ) (k : Known) (s t : State) (op : Macro) → IsLawful op bits → Alike bits nx ny k s t
     → Alike bits nx ny (renewed op k) (after_clocks (micros op nx ny) s) (after_clocks (micros op nx ny) t)
-micros_alike bits nx ny k s t op lawful h =
-    rw (run_is_steps (micro_at op nx ny) (cycles op nx ny) s, run_is_steps (micro_at op nx ny) (cycles op nx ny) t)
-    (steps_alike bits nx ny k s t h op lawful)
+micros_alike bits nx ny k s t op lawful h = grind (arith, run_is_steps, steps_alike)
 
 pub all_micros_alike : (bits nx ny : ℕ) (ops : List Macro) → All (λ op. IsLawful op bits) ops
-    → (k : Known) (s t : State)
-    → Alike bits nx ny k s t
-    → Alike bits nx ny (all_renewed ops k) (after_clocks (all_micros ops nx ny) s)
-    (after_clocks (all_micros ops nx ny) t)
+    → (k : Known) (s t : State) → Alike bits nx ny k s t → Alike bits nx ny (all_renewed ops k)
+    (after_clocks (all_micros ops nx ny) s) (after_clocks (all_micros ops nx ny) t)
 all_micros_alike bits nx ny [] lawful k s t h = h
 all_micros_alike bits nx ny (op ∷ ops) lawful k s t h =
     let rest : All (λ m. IsLawful m bits) ops = λ i d low. lawful (suc i) d (omega arith) in
     let first = micros_alike bits nx ny k s t op (lawful 0 op (omega arith)) h in
-    rw (
-      after_clocks-append (micros op nx ny) (all_micros ops nx ny) s,
-      after_clocks-append (micros op nx ny) (all_micros ops nx ny) t,
-    )
-    (all_micros_alike bits nx ny ops rest (renewed op k) _ _ first)
+    grind (arith, after_clocks-append, all_micros_alike bits nx ny ops rest (renewed op k) _ _ first)
 
 -- ---- where all is known, the states are the same
 
 pub same_pixel : (p q : PixelState) → p.memory ≡ q.memory → p.enable ≡ q.enable → p.carry ≡ q.carry
     → p.latch ≡ q.latch → p ≡ q
-same_pixel p q memory enable carry latch =
-    ap (λ (x : List Bool). record { memory = x; enable = p.enable; carry = p.carry; latch = p.latch }) memory
-    ∙ (ap (λ (x : Bool). record { memory = q.memory; enable = x; carry = p.carry; latch = p.latch }) enable
-    ∙ (ap (λ (x : Bool). record { memory = q.memory; enable = q.enable; carry = x; latch = p.latch }) carry
-    ∙ ap (λ (x : Bool). record { memory = q.memory; enable = q.enable; carry = q.carry; latch = x }) latch))
+same_pixel p q memory enable carry latch = grind arith
 
 pub same_state : (bits nx ny : ℕ) (s t : State) → Alike bits nx ny all_known s t → s ≡ t
 same_state bits nx ny s t h =
@@ -326,5 +274,4 @@ same_state bits nx ny s t h =
     (λ place inside.
     let one = h.pixels place (omega (arith, h.first.pixels)) in
     same_pixel (pixel_at s place) (pixel_at t place) one.memory one.enable (one.carry refl) (one.latch refl)) in
-    ap (λ (ps : List PixelState). record { pixels = ps; tree = s.tree }) pixels
-    ∙ ap (λ (tree : TreeState). record { pixels = t.pixels; tree = tree }) (h.tree refl)
+    grind arith

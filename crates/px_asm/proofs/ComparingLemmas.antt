@@ -1,15 +1,11 @@
 -- What is left of one pixel by acts that compare two numbers, bit by bit.
-use Rattle.std.proofs.Common.{◌≡◌, ℕ, zero, suc, ◌+◌, ◌-◌, ◌*◌, ◌%◌, ◌^◌, ◌<◌, ◌≤◌, ℤ, pos, Bool, true}
-use Rattle.std.proofs.Common.{false, nat_le, nat_lt, refl, ap, ◌∙◌, arith}
-use Rattle.std.specs.Bool.{beq}
-use Rattle.std.proofs.Math.Nat.{mod-eq_of_lt}
-use Rattle.std.proofs.lemmas.Bool.Decides.{nat_tests}
+use Rattle.px_num.proofs.Basics.{◌≡◌, ℕ, zero, suc, ◌+◌, ◌-◌, ◌*◌, ◌%◌, ◌^◌, ◌<◌, ◌≤◌, ℤ, pos, Bool, true, false}
+use Rattle.px_num.proofs.Basics.{nat_le, nat_lt, refl, ap, ◌∙◌, arith, beq, mod-eq_of_lt, nat_tests}
 use Rattle.px_num.proofs.AdderLaws.{carry_is_overflow, flipped, flipped_bit, modulo-flipped, number}
 use Rattle.px_num.proofs.BitLaws.{modulo_below}
 use Rattle.px_num.specs.Bits.{carry_from, modulo}
 use Rattle.px_pixel.specs.Acts.{kept}
 use Rattle.px_pixel.specs.Pixels.{PixelState}
-use Rattle.px_pixel.specs.declared.act.Act.TheVariants as act
 use Rattle.px_macro.specs.FieldLaws.{BitsOfNumber, NumberIsBelow}
 use Rattle.px_macro.specs.Fields.{number_in}
 use Rattle.px_macro.specs.Macros.{keep}
@@ -18,6 +14,7 @@ use Rattle.px_asm.specs.Micros.{less_act}
 use Rattle.px_asm.specs.Microprograms.{bits_of}
 use Rattle.px_asm.proofs.ActingLemmas.{after_acts}
 use Rattle.px_asm.proofs.StoringLemmas.{two_more}
+use Rattle.px_pixel.specs.declared.act.Act.TheVariants as act
 
 rest_of_small : (n w : ℕ) → n < 2 ^ w → n % 2 ^ w ≡ n
 rest_of_small n w below = mod-eq_of_lt below
@@ -28,9 +25,7 @@ le_by_sum power u n m below sum = grind (arith, nat_tests)
 -- the carry past the last bit of n and the turned bits of u says whether u is at most n
 pub carry_is_at_most : (u : ℤ) (n w : ℕ) → n < 2 ^ w → carry_from true (flipped u) (pos n) w ≡ nat_le (modulo u w) n
 carry_is_at_most u n w below =
-    carry_is_overflow true (flipped u) (pos n) w
-    ∙ le_by_sum (2 ^ w) (modulo u w) n (modulo (flipped u) w + modulo (pos n) w + 1) (modulo_below u w)
-    (omega (arith, modulo-flipped u w, rest_of_small n w below, modulo_below u w))
+    grind (arith, carry_is_overflow, flipped, le_by_sum, modulo_below, modulo-flipped, rest_of_small)
 
 -- the acts have left memory and enable as they were, and the carry compares the lowest bits
 pub record HasCompared (u : ℤ) (number n : ℕ) (p q : PixelState) : Type 0 where
@@ -54,12 +49,10 @@ last_place : (f g : Field) → less_act f g (suc (2 * f.len)) ≡ act.EnableCarr
 last_place f g = grind (arith, nat_tests)
 
 pub compared_by_latch : BitsOfNumber → (f g : Field) (tree : ℕ → Bool) (n : ℕ) (p : PixelState) → n ≤ f.len
-    → f.len ≡ g.len
-    → HasCompared (pos (number_in g p.memory)) (number_in f p.memory) n p
-    (after_acts (less_act f g) tree (suc (2 * n)) p)
+    → f.len ≡ g.len → HasCompared (pos (number_in g p.memory))
+    (number_in f p.memory) n p (after_acts (less_act f g) tree (suc (2 * n)) p)
 compared_by_latch bits f g tree zero p low same = record { memory = refl; enable = refl; carry = refl }
 compared_by_latch bits f g tree (suc n) p low same =
-    let q = after_acts (less_act f g) tree (suc (2 * n)) p in
     let before = compared_by_latch bits f g tree n p (omega arith) same in
     let fetched = bits g p.memory n (omega arith) in
     let here = bits f p.memory n (omega arith) in
@@ -80,11 +73,9 @@ kept_if_less bits below f g tree p same =
     let q = after_acts (less_act f g) tree (suc (2 * f.len)) p in
     let count : 2 + 2 * f.len ≡ suc (suc (2 * f.len)) = omega arith in
     let compared = compared_by_latch bits f g tree f.len p (omega arith) same in
-    let second : number_in g p.memory < 2 ^ f.len = rw same (below g p.memory) in
     let less : beq (nat_le (modulo (pos (number_in g p.memory)) f.len) (number_in f p.memory)) false
     ≡ nat_lt (number_in f p.memory) (number_in g p.memory) =
-    rw (rest_of_small (number_in g p.memory) f.len second)
-    (less_by_carry (number_in g p.memory) (number_in f p.memory)) in
+    grind (arith, rest_of_small, less_by_carry) in
     ap (λ i. bits_of (after_acts (less_act f g) tree i p)) count
     ∙ rw (last_place f g) (kept_by_carry (pos (number_in g p.memory)) (number_in f p.memory) f.len p q false
     (nat_lt (number_in f p.memory) (number_in g p.memory)) (below f p.memory) compared less)

@@ -1,10 +1,10 @@
 -- The clocks of an operation are few.
-use Rattle.std.proofs.Common.{ℕ, ◌≤◌, arith}
+use Rattle.px_num.proofs.Basics.{ℕ, ◌≤◌, arith}
 use Rattle.px_asm.specs.Micros.{cycles}
 use Rattle.px_macro.specs.Macros.{IsLawful}
 use Rattle.px_macro.specs.declared.operation.Macro.{Macro}
-use Rattle.px_macro.specs.declared.operation.Macro.TheVariants as m
 use Rattle.px_tree.specs.Nodes.{IsGrid}
+use Rattle.px_macro.specs.declared.operation.Macro.TheVariants as m
 
 -- no operation takes more than 82 clocks
 pub few_cycles : (op : Macro) (nx ny : ℕ) → IsGrid nx ny → IsLawful op 256 → cycles op nx ny ≤ 82

@@ -1,10 +1,6 @@
 -- What the acts of the operations on a form leave of one pixel, to which the tree brings the bits of its value.
-use Rattle.std.proofs.Common.{◌≡◌, ℕ, zero, suc, ◌+◌, ◌<◌, ◌≤◌, ◌==◌, ℤ, pos, ◌+ℤ◌, Bool, true, false, not}
-use Rattle.std.proofs.Common.{length, if◌then◌else◌, nat_le, inr, refl, sym, ap, ◌∙◌, arith}
-use Rattle.std.specs.Bool.{beq}
-use Rattle.std.specs.Int.{is_negative}
-use Rattle.std.proofs.lemmas.Bool.Decides.{nat_tests}
-use Rattle.std.proofs.lemmas.Int.{ints}
+use Rattle.px_num.proofs.Basics.{◌≡◌, ℕ, zero, suc, ◌+◌, ◌<◌, ◌≤◌, ◌==◌, ℤ, pos, ◌+ℤ◌, Bool, true, false, not, length}
+use Rattle.px_num.proofs.Basics.{if◌then◌else◌, nat_le, refl, ap, ◌∙◌, arith, beq, is_negative, nat_tests, ints}
 use Rattle.px_num.proofs.AdderLaws.{flipped_bit, sum_bit}
 use Rattle.px_num.proofs.BitLaws.{modulo_bit}
 use Rattle.px_num.specs.Bits.{bit_at, bit_of, carry_from, modulo, nat_bit}
@@ -12,7 +8,6 @@ use Rattle.px_num.proofs.TruthLaws.{beq_true, itself_true}
 use Rattle.px_pixel.specs.Acts.{after_act}
 use Rattle.px_pixel.specs.Pixels.{PixelState}
 use Rattle.px_pixel.specs.declared.act.Act.{Act}
-use Rattle.px_pixel.specs.declared.act.Act.TheVariants as act
 use Rattle.px_macro.specs.FieldLaws.{BitsOfNumber, NumberIsBelow}
 use Rattle.px_macro.specs.Fields.{number_in, with_number}
 use Rattle.px_macro.specs.Macros.{keep, with_field}
@@ -23,6 +18,7 @@ use Rattle.px_asm.proofs.ActingLemmas.{after_acts, after_acts-parts, after_acts-
 use Rattle.px_asm.proofs.ComparingLemmas.{HasCompared, kept_by_carry}
 use Rattle.px_asm.proofs.StoringLemmas.{put_by_stores, same_bits}
 use Rattle.px_asm.proofs.WrittenLemmas.{IsWritten, none_written, one_written, whole_written}
+use Rattle.px_pixel.specs.declared.act.Act.TheVariants as act
 
 waiting_act : (levels : ℕ) (first : Act) (each : ℕ → Act) (i : ℕ) → suc i ≤ levels → act_at levels first each (suc i)
     ≡ act.Nop
@@ -40,8 +36,7 @@ waiting levels first each tree (suc n) p low =
 
 -- the first act, and then one for each bit of the value
 pub after_bits : (levels count len : ℕ) (first : Act) (each : ℕ → Act) (tree : ℕ → Bool) (v : ℤ) (p : PixelState)
-    → count ≡ 1 + levels + len
-    → ((t : ℕ) → t < len → tree (suc (t + levels)) ≡ bit_of v t)
+    → count ≡ 1 + levels + len → ((t : ℕ) → t < len → tree (suc (t + levels)) ≡ bit_of v t)
     → after_acts (act_at levels first each) tree count p ≡ after_acts each (bit_of v) len (after_act first (tree 0) p)
 after_bits levels count len first each tree v p total bits =
     let whole : count ≡ suc levels + len = omega arith in
@@ -76,19 +71,13 @@ abbrev pub add_act : Field → ℕ → Act
 add_act f t = act.AddTree (f.at + t)
 
 pub added : BitsOfNumber → (f : Field) (v : ℤ) (n : ℕ) (p : PixelState) → n ≤ f.len → f.at + f.len ≤ length p.memory
-    → p.carry ≡ false
-    → HasAdded v f (number_in f p.memory) n p (after_acts (add_act f) (bit_of v) n p)
-added bits f v zero p low room none = record {
-  enable = refl;
-  carry = none;
-  written = none_written f.at (bit_of (v +ℤ pos (number_in f p.memory))) p.enable p.memory;
-}
+    → p.carry ≡ false → HasAdded v f (number_in f p.memory) n p (after_acts (add_act f) (bit_of v) n p)
+added bits f v zero p low room none = grind (arith, none_written)
 added bits f v (suc n) p low room none =
     let q = after_acts (add_act f) (bit_of v) n p in
     let number = number_in f p.memory in
     let before = added bits f v n p (omega arith) room none in
-    let here : bit_at q.memory (f.at + n) ≡ nat_bit number n = before.written.others (f.at + n) (inr (omega arith))
-    ∙ sym (bits f p.memory n (omega arith)) in
+    let here : bit_at q.memory (f.at + n) ≡ nat_bit number n = grind arith in
     record {
       enable = before.enable;
       carry = rw (here, before.carry) refl;
@@ -120,13 +109,7 @@ pub compared_by_tree : BitsOfNumber → (f : Field) (v : ℤ) (n : ℕ) (p : Pix
     → HasCompared v (number_in f p.memory) n p (after_acts (compare_act f) (bit_of v) n p)
 compared_by_tree bits f v zero p low set = record { memory = refl; enable = refl; carry = set }
 compared_by_tree bits f v (suc n) p low set =
-    let before = compared_by_tree bits f v n p (omega arith) set in
-    let here = bits f p.memory n (omega arith) in
-    record {
-      memory = before.memory;
-      enable = before.enable;
-      carry = rw (before.memory, before.carry, flipped_bit v n, here) refl;
-    }
+    grind (arith, flipped_bit, compared_by_tree bits f v n p (omega arith) set)
 
 abbrev pub at_most_act : (levels : ℕ) → Field → ℕ → Act
 at_most_act levels f i =
@@ -143,18 +126,13 @@ pub kept_if_at_most : BitsOfNumber → NumberIsBelow → (levels count : ℕ) (f
 kept_if_at_most bits below levels count f tree v p total seen =
     let last = 1 + levels + f.len in
     let start : PixelState = record p { carry = true } in
-    let number = number_in f p.memory in
     let end = after_acts (compare_act f) (bit_of v) f.len start in
     let fed = act_at levels (act.SetCarry true) (compare_act f) in
     let plain : after_acts (at_most_act levels f) tree last p ≡ end =
     after_acts-same (at_most_act levels f) fed tree tree last p (λ i low. rw (not_last i last low) refl) (λ i low. refl)
     ∙ after_bits levels last f.len (act.SetCarry true) (compare_act f) tree v p refl seen in
     let h = compared_by_tree bits f v f.len start (omega arith) refl in
-    let compared : HasCompared v number f.len p end =
-    record { memory = h.memory; enable = h.enable; carry = h.carry } in
-    rw (total, itself_true last, plain) (kept_by_carry v number f.len p end true (nat_le (modulo v f.len) number)
-    (below f p.memory) compared
-    (beq_true (nat_le (modulo v f.len) number)))
+    grind (arith, itself_true, kept_by_carry, beq_true)
 
 -- the sign
 abbrev pub sign_act : (last : ℕ) → ℕ → Act
@@ -167,11 +145,4 @@ not_same false = refl
 pub kept_by_sign : (last count : ℕ) (tree : ℕ → Bool) (v : ℤ) (p : PixelState) → count ≡ suc last
     → tree last ≡ is_negative v
     → bits_of (after_acts (sign_act last) tree count p) ≡ keep (not (is_negative v)) (bits_of p)
-kept_by_sign last count tree v p total sign =
-    rw (
-      total,
-      itself_true last,
-      after_nops (sign_act last) tree last p (λ i low. rw (not_last i last low) refl),
-      sign,
-      not_same (is_negative v),
-    ) refl
+kept_by_sign last count tree v p total sign = grind (arith, itself_true, after_nops, not_last, not_same)

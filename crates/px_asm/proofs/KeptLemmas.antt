@@ -1,11 +1,9 @@
 -- What the micros of an operation do not begin anew they leave as it was.
-use Rattle.std.proofs.Common.{◌≡◌, ℕ, zero, suc, ◌+◌, ◌-◌, ◌%◌, ◌/◌, ◌^◌, ◌<◌, ◌==◌, Bool, true, false}
-use Rattle.std.proofs.Common.{if◌then◌else◌, nat_lt, refl, sym, ap, ◌∙◌}
+use Rattle.px_num.proofs.Basics.{arith, ◌≡◌, ℕ, zero, suc, ◌+◌, ◌%◌, ◌/◌, ◌^◌, ◌<◌, ◌==◌, Bool, true, false}
+use Rattle.px_num.proofs.Basics.{if◌then◌else◌, refl, sym, ap, ◌∙◌}
 use Rattle.px_pixel.specs.Acts.{after_act}
 use Rattle.px_pixel.specs.Pixels.{PixelState}
 use Rattle.px_pixel.specs.declared.act.Act.{Act}
-use Rattle.px_pixel.specs.declared.act.Act.TheVariants as act
-use Rattle.px_tree.specs.Nodes.{leaf_output}
 use Rattle.px_array.specs.Arrays.{HasGrid, State, pixel_at}
 use Rattle.px_array.specs.Clocks.{after_clocks, after_tree_op}
 use Rattle.px_array.specs.declared.micro.Micro.{Micro}
@@ -13,10 +11,11 @@ use Rattle.px_array.specs.declared.micro.TreeOp.{TreeOp}
 use Rattle.px_array.specs.declared.micro.TreeOp.TheVariants.{Hold}
 use Rattle.px_array.proofs.ClockLaws.{pixel_at-after_clock}
 use Rattle.px_macro.specs.declared.operation.Macro.{Macro}
-use Rattle.px_macro.specs.declared.operation.Macro.TheVariants as m
 use Rattle.px_asm.specs.Micros.{act_at, cycles, micro_at, micros}
 use Rattle.px_asm.specs.Operated.{LeavesTheRest, none_known, renewed}
 use Rattle.px_asm.proofs.StepLemmas.{grid_after_steps, run_is_steps, steps}
+use Rattle.px_pixel.specs.declared.act.Act.TheVariants as act
+use Rattle.px_macro.specs.declared.operation.Macro.TheVariants as m
 
 no : true ≡ false → ⊥
 no e = cc
@@ -54,11 +53,7 @@ module _ (part : PixelState → Bool) (leaves : Act → Bool)
   steps_leave bits nx ny micro zero s grid each place inside = refl
   steps_leave bits nx ny micro (suc n) s grid each place inside =
       let now = grid_after_steps bits nx ny micro n s grid in
-      let there : place < 2 ^ ((steps micro n s).tree.nx + (steps micro n s).tree.ny) =
-      rw (now.columns, now.rows) inside in
-      ap part (pixel_at-after_clock (micro n) (steps micro n s) place there)
-      ∙ (left (micro n).act (leaf_output (steps micro n s).tree place) (pixel_at (steps micro n s) place) (each n)
-      ∙ steps_leave bits nx ny micro n s grid each place inside)
+      grind (arith, pixel_at-after_clock, steps, steps_leave bits nx ny micro n s grid each place inside)
 
 -- one of two acts, one of two micros, and the acts on the bits of a value
 module _ (leaves : Act → Bool) where
@@ -73,9 +68,7 @@ module _ (leaves : Act → Bool) where
 
   on_bits : (levels i : ℕ) (first : Act) (each : ℕ → Act) → leaves first ≡ true → leaves act.Nop ≡ true
       → ((t : ℕ) → leaves (each t) ≡ true) → leaves (act_at levels first each i) ≡ true
-  on_bits levels i first each start rest step =
-      choice (i == 0) first (if nat_lt levels i then each (i - 1 - levels) else act.Nop) start
-      (choice (nat_lt levels i) (each (i - 1 - levels)) act.Nop (step (i - 1 - levels)) rest)
+  on_bits levels i first each start rest step = grind (arith, choice)
 
 micro_leaves_carry : (op : Macro) (nx ny i : ℕ) → (renewed op none_known).carry ≡ false
     → leaves_carry (micro_at op nx ny i).act ≡ true
@@ -96,9 +89,7 @@ micro_leaves_latch (m.KeepSign form) nx ny i e =
     choice leaves_latch (i == 40 + (nx + ny)) (act.EnableTree false) act.Nop refl refl
 micro_leaves_latch (m.LoadLinear form f) nx ny i e =
     on_bits leaves_latch (nx + ny) i act.Nop (λ t. act.StoreTree (f.at + t)) refl refl (λ t. refl)
-micro_leaves_latch (m.KeepAtMost form f) nx ny i e =
-    micro_choice leaves_latch (i == 1 + (nx + ny) + f.len) _ _ refl
-    (on_bits leaves_latch (nx + ny) i (act.SetCarry true) (λ t. act.CarryTree (f.at + t)) refl refl (λ t. refl))
+micro_leaves_latch (m.KeepAtMost form f) nx ny i e = grind (arith, micro_choice, on_bits)
 micro_leaves_latch (m.AddLinear form f) nx ny i e =
     on_bits leaves_latch (nx + ny) i (act.SetCarry false) (λ t. act.AddTree (f.at + t)) refl refl (λ t. refl)
 micro_leaves_latch (m.Copy f g) nx ny i e = absurd (no e)

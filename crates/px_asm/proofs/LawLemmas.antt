@@ -1,6 +1,6 @@
 -- The microprogram law, operation by operation.
-use Rattle.std.proofs.Common.{◌≡◌, ℕ, suc, ◌+◌, ◌*◌, ◌^◌, ◌<◌, ◌==◌, Bool, length, refl, sym, ap, ◌∙◌, arith}
-use Rattle.std.specs.Int.{is_negative}
+use Rattle.px_num.proofs.Basics.{◌≡◌, ℕ, suc, ◌+◌, ◌*◌, ◌^◌, ◌<◌, ◌==◌, Bool, length, refl, sym, ap, ◌∙◌, arith}
+use Rattle.px_num.proofs.Basics.{is_negative}
 use Rattle.px_num.specs.Bits.{bit_of, nat_bit}
 use Rattle.px_num.specs.Forms.{IsInTreeRange, value_at}
 use Rattle.px_num.specs.declared.linear.Linear.{Linear}
@@ -8,9 +8,9 @@ use Rattle.px_tree.specs.Nodes.{IsGrid, leaf_output}
 use Rattle.px_tree.specs.TreeBit.{LeafGivesSign, LeafGivesValue}
 use Rattle.px_macro.specs.FieldLaws.{BitsOfNumber, NumberIsBelow}
 use Rattle.px_macro.specs.declared.field.Field.{Field}
-use Rattle.px_macro.specs.declared.operation.Macro.TheVariants.{KeepSign, LoadLinear, KeepAtMost}
-use Rattle.px_macro.specs.declared.operation.Macro.TheVariants.{AddLinear, LoadConst, Copy, KeepLess}
-use Rattle.px_array.specs.Arrays.{HasGrid, State, pixel_at, pixel_of}
+use Rattle.px_macro.specs.declared.operation.Macro.TheVariants.{KeepSign, LoadLinear, KeepAtMost, AddLinear, LoadConst}
+use Rattle.px_macro.specs.declared.operation.Macro.TheVariants.{Copy, KeepLess}
+use Rattle.px_array.specs.Arrays.{HasGrid, State, pixel_of}
 use Rattle.px_asm.specs.Micros.{micro_at, tree_at}
 use Rattle.px_asm.specs.Microprograms.{LeaveTheMeaning, bits_of}
 use Rattle.px_asm.proofs.ActingLemmas.{after_acts-same}
@@ -23,14 +23,11 @@ use Rattle.px_asm.proofs.StepLemmas.{leaf_while_fed, pixel_after_run, steps}
 
 memory_size : (bits nx ny : ℕ) (s : State) → HasGrid bits nx ny s → (x y : ℕ) → x < 2 ^ nx → y < 2 ^ ny
     → length (pixel_of s x y).memory ≡ bits
-memory_size bits nx ny s grid x y column row =
-    ap (λ rows. length (pixel_at s (x * 2 ^ rows + y)).memory) grid.rows
-    ∙ grid.memory (x * 2 ^ ny + y) (index_below nx ny x y column row)
+memory_size bits nx ny s grid x y column row = grind (arith, index_below)
 
 -- bit 39 of a value is its sign
 sign_of_leaf : LeafGivesValue → LeafGivesSign → (form : Linear) (nx ny x y : ℕ) → IsInTreeRange form → IsGrid nx ny
-    → x < 2 ^ nx → y < 2 ^ ny
-    → bit_of (value_at form x y) 39 ≡ is_negative (value_at form x y)
+    → x < 2 ^ nx → y < 2 ^ ny → bit_of (value_at form x y) 39 ≡ is_negative (value_at form x y)
 sign_of_leaf leaf sign form nx ny x y range sizes column row =
     sym (leaf form nx ny x y 39 sizes.0.0 sizes.1.0 column row) ∙ sign form nx ny x y range sizes column row
 

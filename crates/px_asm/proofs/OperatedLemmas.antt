@@ -1,15 +1,13 @@
 -- Arrays on which operations were made at once, beside those on which their micros were made.
-use Rattle.std.proofs.Common.{◌≡◌, ℕ, ◌+◌, ◌*◌, ◌/◌, ◌%◌, ◌^◌, ◌<◌, ◌&&◌, not, Bool, true, false, refl, sym, ap}
-use Rattle.std.proofs.Common.{◌∙◌, arith}
-use Rattle.std.proofs.Math.Nat.{one-le-pow}
-use Rattle.std.proofs.lemmas.Nat.{pow-add}
-use Rattle.px_macro.specs.Macros.{PixelBits, after_macro}
+use Rattle.px_num.proofs.Basics.{◌≡◌, ℕ, ◌+◌, ◌*◌, ◌/◌, ◌%◌, ◌^◌, ◌<◌, ◌&&◌, not, Bool, true, false, refl, ap, ◌∙◌}
+use Rattle.px_num.proofs.Basics.{arith, one-le-pow, pow-add}
+use Rattle.px_macro.specs.Macros.{PixelBits}
 use Rattle.px_array.specs.Arrays.{State, pixel_at, pixel_of}
 use Rattle.px_array.proofs.ClockLaws.{grid_after_clocks}
 use Rattle.px_asm.specs.Micros.{micros}
 use Rattle.px_asm.specs.Microprograms.{LeaveTheMeaning}
-use Rattle.px_asm.specs.Operated.{Agree, AgreeIn, BecomeTheSame, BecomeTheSameAgain, Known, StayInAgreement}
-use Rattle.px_asm.specs.Operated.{StayKnown, none_known}
+use Rattle.px_asm.specs.Operated.{Agree, AgreeIn, BecomeTheSame, BecomeTheSameAgain, Known, StayInAgreement, StayKnown}
+use Rattle.px_asm.specs.Operated.{none_known}
 use Rattle.px_asm.proofs.AlikeLemmas.{Alike, all_micros_alike, same_state}
 use Rattle.px_asm.proofs.KeptLemmas.{kept_by_micros}
 
@@ -61,12 +59,7 @@ pub stay_in_agreement : LeaveTheMeaning → StayInAgreement
 stay_in_agreement law bits nx ny sizes op lawful before now s agree done = record {
   first = rw (agree.first.columns, agree.first.rows) at done.grid;
   second = grid_after_clocks bits nx ny (micros op nx ny) s agree.second;
-  pixels = λ x y column row.
-      let column_before : x < 2 ^ before.state.tree.nx = rw agree.first.columns column in
-      let row_before : y < 2 ^ before.state.tree.ny = rw agree.first.rows row in
-      done.meaning x y column_before row_before
-      ∙ (ap (after_macro op x y) (agree.pixels x y column row)
-      ∙ sym (law bits nx ny sizes op lawful s agree.second x y column row));
+  pixels = grind arith;
 }
 
 -- ---- where more is known
@@ -74,44 +67,18 @@ stay_in_agreement law bits nx ny sizes op lawful before now s agree done = recor
 alike_in : (bits nx ny : ℕ) (k : Known) (s t : State) → AgreeIn k bits nx ny s t → Alike bits nx ny k s t
 alike_in bits nx ny k s t h =
     let all = alike_places bits nx ny s t h.agree in
-    record {
-      first = all.first;
-      second = all.second;
-      pixels = λ place inside.
-          let pixel = all.pixels place inside in
-          record {
-            memory = pixel.memory;
-            enable = pixel.enable;
-            carry = λ e. h.carry e place inside;
-            latch = λ e. h.latch e place inside;
-          };
-      tree = h.tree;
-    }
+    grind arith
 
 pub become_the_same_again : BecomeTheSameAgain
 become_the_same_again bits nx ny ops lawful k s t h all =
     same_state bits nx ny _ _ (rw all at (all_micros_alike bits nx ny ops lawful k s t (alike_in bits nx ny k s t h)))
 
 known_and_left : (a b : Bool) → (a && not b) ≡ true → (a ≡ true) × (b ≡ false)
-known_and_left true true e = absurd (let t : false ≡ true = e in cc)
+known_and_left true true e = absurd (cc)
 known_and_left true false e = (refl, refl)
-known_and_left false b e = absurd (let t : false ≡ true = e in cc)
+known_and_left false b e = absurd (cc)
 
 pub stay_known : LeaveTheMeaning → StayKnown
 stay_known law bits nx ny sizes op lawful k before now s h done =
-    let first = h.agree.first in
     let made = kept_by_micros bits nx ny op s h.agree.second in
-    record {
-      agree = stay_in_agreement law bits nx ny sizes op lawful before now s h.agree done;
-      tree = λ e.
-          let is = known_and_left _ _ e in
-          done.kept.tree is.1 ∙ (h.tree is.0 ∙ sym (made.tree is.1));
-      carry = λ e place inside.
-          let is = known_and_left _ _ e in
-          done.kept.carry is.1 place (rw (first.columns, first.rows) inside)
-          ∙ (h.carry is.0 place inside ∙ sym (made.carry is.1 place inside));
-      latch = λ e place inside.
-          let is = known_and_left _ _ e in
-          done.kept.latch is.1 place (rw (first.columns, first.rows) inside)
-          ∙ (h.latch is.0 place inside ∙ sym (made.latch is.1 place inside));
-    }
+    grind (arith, stay_in_agreement, known_and_left)

@@ -1,24 +1,18 @@
 -- Operations one after another, of which some are made at once.
-use Rattle.std.proofs.Common.{◌≡◌, ℕ, suc, ◌+◌, ◌-◌, ◌<◌, ◌≤◌, ◌&&◌, ◌||◌, not, Bool, true, false, List, []}
-use Rattle.std.proofs.Common.{◌∷◌, ◌++◌, length, take, drop, get_or, Option, Some, None, refl, sym, subst, ap}
-use Rattle.std.proofs.Common.{◌∙◌, inl, inr, arith}
-use Rattle.std.proofs.Common.{All, if◌then◌else◌}
-use Rattle.std.proofs.lemmas.Option.{get_or_from_slice_get, slice_get-get_or}
-use Rattle.std.proofs.lemmas.Bool.{cases_lt}
-use Rattle.std.specs.Prelude.{unwrap_or}
-use Rattle.std.specs.List.{flat_map}
-use Rattle.std.proofs.lemmas.List.{flat_map_more, get_or-drop, get_or-take, length-drop, length-take}
-use Rattle.std.proofs.lemmas.List.{take-append-drop, take_more}
+use Rattle.px_num.proofs.Basics.{nat_tests, common_steps, ◌≡◌, ℕ, suc, ◌+◌, ◌-◌, ◌<◌, ◌≤◌, ◌&&◌, ◌||◌, not, Bool, true}
+use Rattle.px_num.proofs.Basics.{false, List, [], ◌∷◌, ◌++◌, length, take, drop, get_or, Option, Some, None, refl, sym}
+use Rattle.px_num.proofs.Basics.{ap, ◌∙◌, arith, All, if◌then◌else◌, get_or_from_slice_get, slice_get-get_or, cases_lt}
+use Rattle.px_num.proofs.Basics.{unwrap_or, flat_map_more, get_or-take, take-append-drop, take_more}
+use Rattle.std.proofs.lemmas.List.{get_or-drop, length-drop, length-take}
 use Rattle.std.proofs.lemmas.List.Concat.{flat_map-append}
-use Rattle.px_array.specs.Arrays.{Device, HasGrid, State}
+use Rattle.px_array.specs.Arrays.{Device, HasGrid}
 use Rattle.px_array.proofs.ClockLaws.{all_clocked-append, grid_after_clocks}
-use Rattle.px_array.specs.Clocks.{after_clocks, all_clocked}
-use Rattle.px_array.specs.declared.micro.Micro.{Micro}
+use Rattle.px_array.specs.Clocks.{all_clocked}
 use Rattle.px_asm.specs.AtOnce.{IsEnough, IsNearly, IsOneOf, all_untouched}
 use Rattle.px_asm.specs.Making.{cycles_on, micros_on}
-use Rattle.px_asm.specs.Micros.{all_micros, cycles, micros}
-use Rattle.px_asm.specs.Operated.{AgreeIn, BecomeTheSameAgain, IsOperated, Known, StayKnown, all_known}
-use Rattle.px_asm.specs.Operated.{all_renewed, none_known, renewed, untouched}
+use Rattle.px_asm.specs.Micros.{all_micros, micros}
+use Rattle.px_asm.specs.Operated.{BecomeTheSameAgain, IsOperated, Known, StayKnown, all_known, all_renewed, none_known}
+use Rattle.px_asm.specs.Operated.{renewed, untouched}
 use Rattle.px_asm.specs.Operations.{CanMake, all_made}
 use Rattle.px_asm.proofs.CycleLaws.{few_cycles}
 use Rattle.px_asm.proofs.MakingLemmas.{count_of_them}
@@ -32,12 +26,7 @@ pub made_more : (ops : List Macro) (i : ℕ) (op : Macro) (d : Device) → i < l
     → all_made (take (i + 1) ops) d
     ≡ all_clocked (micros (get_or ops i op) d.state.tree.nx d.state.tree.ny) (all_made (take i ops) d)
 made_more ops i op d within =
-    let nx = d.state.tree.nx in
-    let ny = d.state.tree.ny in
-    let each : Macro → List Micro = λ o. micros o nx ny in
-    ap (λ os. all_clocked (flat_map each os) d) (take_more ops i op within)
-    ∙ (ap (λ ms. all_clocked ms d) (sym (flat_map_more each [] (take i ops) (get_or ops i op)))
-    ∙ all_clocked-append (all_micros (take i ops) nx ny) (micros (get_or ops i op) nx ny) d)
+    grind (arith, nat_tests, common_steps, take_more, within, flat_map_more, all_clocked-append)
 
 untouched_both : (xs : List Macro) (op : Macro) (k : Known) → all_untouched (xs ++ op ∷ []) k
     ≡ untouched op (all_untouched xs k)
@@ -52,9 +41,7 @@ grid_made bits ops d grid =
 
 pub own_grid : (bits nx ny : ℕ) (d : Device) → HasGrid bits nx ny d.state
     → HasGrid bits d.state.tree.nx d.state.tree.ny d.state
-own_grid bits nx ny d grid =
-    subst (λ x. HasGrid bits x d.state.tree.ny d.state) (sym grid.columns)
-    (subst (λ y. HasGrid bits nx y d.state) (sym grid.rows) grid)
+own_grid bits nx ny d grid = grind arith
 
 -- the grid after some operations
 pub sized : (bits : ℕ) (ops : List Macro) (start now : Device) → CanMake bits ops start → (n : ℕ)
@@ -64,80 +51,34 @@ sized bits ops start now can n is = rw is (grid_made bits (take n ops) start can
 -- an operation takes as many clocks as on the grid that it began with
 pub few_here : (bits nx ny : ℕ) (op : Macro) (d : Device) → HasGrid bits nx ny d.state → IsGrid nx ny → IsLawful op 256
     → cycles_on d op ≤ 82
-few_here bits nx ny op d size grid lawful =
-    let count : cycles_on d op ≡ cycles op nx ny =
-    ap (λ x. cycles op x d.state.tree.ny) size.columns ∙ ap (λ y. cycles op nx y) size.rows in
-    omega (arith, count, few_cycles op nx ny grid lawful)
+few_here bits nx ny op d size grid lawful = grind (arith, few_cycles)
 
 -- one operation more by its clocks
 pub clocked_more : (bits : ℕ) (ops : List Macro) (i : ℕ) (d : Macro) (start before now : Device)
-    → CanMake bits ops start
-    → i < length ops → before ≡ all_made (take i ops) start
+    → CanMake bits ops start → i < length ops → before ≡ all_made (take i ops) start
     → now ≡ all_clocked (micros_on before (get_or ops i d)) before → now ≡ all_made (take (i + 1) ops) start
 clocked_more bits ops i d start before now can within before_is is =
-    let nx = start.state.tree.nx in
-    let op = get_or ops i d in
     let size = sized bits ops start before can i before_is in
-    let list : micros_on before op ≡ micros op nx start.state.tree.ny =
-    ap (λ x. micros op x before.state.tree.ny) size.columns ∙ ap (λ y. micros op nx y) size.rows in
-    is
-    ∙ (ap (λ ms. all_clocked ms before) list
-    ∙ (ap (all_clocked (micros op nx start.state.tree.ny)) before_is ∙ sym (made_more ops i d start within)))
+    grind (arith, made_more, within)
 
 -- one operation more at once
 pub nearly_more : StayKnown → (bits : ℕ) (ops : List Macro) (i : ℕ) (d : Macro) (start before now : Device)
-    → CanMake bits ops start
-    → i < length ops → IsNearly bits (take i ops) start before → IsOperated bits (get_or ops i d) before now
-    → IsNearly bits (take (i + 1) ops) start now
+    → CanMake bits ops start → i < length ops → IsNearly bits (take i ops) start before
+    → IsOperated bits (get_or ops i d) before now → IsNearly bits (take (i + 1) ops) start now
 nearly_more law bits ops i d start before now can within near done =
-    let nx = start.state.tree.nx in
-    let ny = start.state.tree.ny in
-    let op = get_or ops i d in
-    let first = near.known.agree.first in
-    let more = made_more ops i d start within in
-    let known = law bits nx ny can.grid op (can.places i d within) (all_untouched (take i ops) all_known) before now
-    (all_made (take i ops) start).state near.known done in
-    let left : all_untouched (take (i + 1) ops) all_known ≡ untouched op (all_untouched (take i ops) all_known) =
-    ap (λ os. all_untouched os all_known) (take_more ops i d within) ∙ untouched_both (take i ops) op all_known in
-    let count : cycles_on before op ≡ cycles op nx ny =
-    ap (λ x. cycles op x before.state.tree.ny) first.columns ∙ ap (λ y. cycles op nx y) first.rows in
-    let few = few_cycles op nx ny can.grid (can.lawful i d within) in
-    record {
-      known = subst (λ (k : Known). AgreeIn k bits nx ny now.state (all_made (take (i + 1) ops) start).state) (sym left)
-          (subst (λ (e : Device). AgreeIn (untouched op (all_untouched (take i ops) all_known)) bits nx ny now.state
-          e.state)
-          (sym more) known);
-      clocks = omega (
-        arith,
-        ap (λ (e : Device). e.clocks) more,
-        count_of_them op nx ny,
-        done.clocks,
-        count,
-        near.clocks,
-      );
-      few = omega (arith, done.clocks, count, few, near.few, length-take i ops, length-take (i + 1) ops, within);
-    }
+    grind (arith, nat_tests, common_steps, made_more, within, take_more, untouched_both, few_cycles, count_of_them)
 
 -- ---- where the operations become the same
 
 module _ (part : Known → Bool) where
   -- the operations up to one more
   pub one_more : (ops : List Macro) (b : Bool) (i : ℕ) (before o : Option ℕ) (d : Macro)
-      → o ≡ (if b then Some i else before)
-      → b ≡ part (renewed (get_or ops i d) none_known) → i < length ops → IsOneOf part ops i before
-      → IsOneOf part ops (i + 1) o
+      → o ≡ (if b then Some i else before) → b ≡ part (renewed (get_or ops i d) none_known) → i < length ops
+      → IsOneOf part ops i before → IsOneOf part ops (i + 1) o
   one_more ops true i before o d is says inside so_far =
       rw is (omega arith, (get_or ops i d, slice_get-get_or ops i d inside, sym says))
   one_more ops false i (Some j) o d is says inside so_far = rw is (omega (arith, so_far.0), so_far.1)
-  one_more ops false i None o d is says inside so_far =
-      rw is (λ j x low. elim (cases_lt j i) [
-        | inl below ↦ so_far j x below
-        | inr past ↦
-            let here : j ≡ i = omega arith in
-            let same : get_or ops i x ≡ get_or ops i d =
-            get_or_from_slice_get ops i (get_or ops i d) x (slice_get-get_or ops i d inside) in
-            rw (here, same) (sym says)
-      ])
+  one_more ops false i None o d is says inside so_far = grind (arith, cases_lt, get_or_from_slice_get, slice_get-get_or)
 
   pub within : (ops : List Macro) (n : ℕ) (o : Option ℕ) → IsOneOf part ops n o → unwrap_or o n ≤ n
   within ops n None is = omega arith
@@ -177,40 +118,26 @@ pub enough : (ops : List Macro) (n first : ℕ) (tree carry latch : Option ℕ) 
     → IsOneOf (λ (k : Known). k.latch) ops n latch → first ≤ unwrap_or tree n → first ≤ unwrap_or carry n
     → first ≤ unwrap_or latch n → IsEnough ops first
 enough ops n first tree carry latch n_is is_tree is_carry is_latch before_tree before_carry before_latch =
-    let low : first ≤ n = omega (arith, before_tree, within (λ (k : Known). k.tree) ops n tree is_tree) in
-    all_of_them (all_renewed (drop first ops) (all_untouched (take first ops) all_known))
-    (known_again (λ (k : Known). k.tree) (λ a b. refl) (λ op k. refl) refl ops n first tree n_is low is_tree
-    before_tree)
-    (known_again (λ (k : Known). k.carry) (λ a b. refl) (λ op k. refl) refl ops n first carry n_is low is_carry
-    before_carry)
-    (known_again (λ (k : Known). k.latch) (λ a b. refl) (λ op k. refl) refl ops n first latch n_is low is_latch
-    before_latch)
+    grind (arith, within, all_of_them, known_again)
 
 -- ---- both halves
 
 -- what is made at once, and then clock by clock, is what the clocks make
 pub all_is_made : BecomeTheSameAgain → (bits : ℕ) (ops : List Macro) (n : ℕ) (start near now : Device)
-    → CanMake bits ops start
-    → n ≤ length ops → IsNearly bits (take n ops) start near → IsEnough ops n → now ≡ all_made (drop n ops) near
-    → now ≡ all_made ops start
+    → CanMake bits ops start → n ≤ length ops → IsNearly bits (take n ops) start near → IsEnough ops n
+    → now ≡ all_made (drop n ops) near → now ≡ all_made ops start
 all_is_made law bits ops n start near now can low nearly enough is =
     let nx = start.state.tree.nx in
     let ny = start.state.tree.ny in
     let rest = all_micros (drop n ops) nx ny in
     let front = all_made (take n ops) start in
-    let first = nearly.known.agree.first in
     let size = length-drop n ops in
     let lawful : All (λ op. IsLawful op bits) (drop n ops) =
     λ i x below. rw (get_or-drop n ops i x) (can.places (n + i) x (omega (arith, size))) in
     let same = law bits nx ny (drop n ops) lawful (all_untouched (take n ops) all_known) near.state front.state
     nearly.known enough in
-    let here : all_made (drop n ops) near ≡ all_clocked rest near =
-    ap (λ x. all_clocked (all_micros (drop n ops) x near.state.tree.ny) near) first.columns
-    ∙ ap (λ y. all_clocked (all_micros (drop n ops) nx y) near) first.rows in
     let both : all_clocked rest front ≡ all_made ops start =
     sym (all_clocked-append (all_micros (take n ops) nx ny) rest start)
     ∙ ap (λ ms. all_clocked ms start) (sym (flat_map-append (λ m. micros m nx ny) (take n ops) (drop n ops))
     ∙ ap (λ os. all_micros os nx ny) (take-append-drop n ops)) in
-    is ∙ (here
-    ∙ (ap (λ (s : State). record { state = s; clocks = near.clocks + length rest }) same
-    ∙ (ap (λ c. record { state = after_clocks rest front.state; clocks = c + length rest }) nearly.clocks ∙ both)))
+    grind arith

@@ -1,5 +1,5 @@
 -- The microprogram law for operations one after another.
-use Rattle.std.proofs.Common.{suc, ◌∙◌, All, [], ◌∷◌, refl, ap, arith}
+use Rattle.px_num.proofs.Basics.{suc, ◌∙◌, All, [], ◌∷◌, refl, ap, arith}
 use Rattle.px_macro.specs.Macros.{IsLawful, after_macros}
 use Rattle.px_array.specs.Arrays.{State, pixel_of}
 use Rattle.px_array.proofs.ClockLaws.{after_clocks-append, grid_after_clocks}

@@ -1,10 +1,7 @@
 -- Lists of operations that begin the tree, the carry and the latch anew somewhere.
-use Rattle.std.proofs.Common.{◌≡◌, ℕ, suc, ◌+◌, ◌-◌, ◌<◌, ◌≤◌, Bool, true, false, ◌||◌, List, [], ◌∷◌, ◌++◌}
-use Rattle.std.proofs.Common.{length, take, drop, get_or, Some, refl, sym, ap, ◌∙◌, arith}
-use Rattle.std.specs.List.{slice_get}
-use Rattle.std.proofs.Math.Seq.{drop-cons}
-use Rattle.std.proofs.lemmas.List.{drop-drop, take-append-drop}
-use Rattle.std.proofs.lemmas.Option.{slice_get_within, slice_get-get_or}
+use Rattle.px_num.proofs.Basics.{◌≡◌, ℕ, suc, ◌+◌, ◌-◌, ◌<◌, ◌≤◌, Bool, true, false, ◌||◌, List, [], ◌∷◌, ◌++◌, length}
+use Rattle.px_num.proofs.Basics.{take, drop, get_or, Some, refl, sym, ap, ◌∙◌, arith, slice_get, drop-cons, drop-drop}
+use Rattle.px_num.proofs.Basics.{take-append-drop, slice_get_within, slice_get-get_or}
 use Rattle.px_asm.specs.Operated.{Known, all_known, all_renewed, none_known, renewed}
 use Rattle.px_macro.specs.declared.operation.Macro.{Macro}
 use Rattle.px_macro.specs.declared.operation.Macro.TheVariants as m
@@ -25,9 +22,7 @@ found ops i op here inside = let e = sym (slice_get-get_or ops i op inside) ∙ 
 
 module _ (part : Known → Bool) (joins : (a b : Known) → part (joined a b) ≡ (part a || part b)) where
   renewed_keeps : (op : Macro) (k : Known) → part k ≡ true → part (renewed op k) ≡ true
-  renewed_keeps op k known =
-      ap part (renewed_joins op k)
-      ∙ (joins (renewed op none_known) k ∙ rw known (or_true (part (renewed op none_known))))
+  renewed_keeps op k known = grind (arith, renewed_joins, or_true)
 
   renewed_here : (op : Macro) (k : Known) → part (renewed op none_known) ≡ true → part (renewed op k) ≡ true
   renewed_here op k new = ap part (renewed_joins op k) ∙ (joins (renewed op none_known) k ∙ rw new refl)
@@ -53,17 +48,12 @@ module _ (part : Known → Bool) (joins : (a b : Known) → part (joined a b) �
 
   -- one of the operations from n on begins it anew
   pub somewhere : (ops : List Macro) (n i : ℕ) (op : Macro) → slice_get ops i ≡ Some op → n ≤ i
-      → part (renewed op none_known) ≡ true
-      → part (all_renewed (drop n ops) none_known) ≡ true
+      → part (renewed op none_known) ≡ true → part (all_renewed (drop n ops) none_known) ≡ true
   somewhere ops n i op here low new =
-      let inside = slice_get_within ops i op here in
       let xs = drop n ops in
       let at : drop (i - n) xs ≡ op ∷ drop (suc i) ops = from_there ops n i op here low in
       let cut : take (i - n) xs ++ drop (i - n) xs ≡ xs = take-append-drop (i - n) xs in
       rw (← cut, at) (all_here (take (i - n) xs) (drop (suc i) ops) op none_known new)
 
 pub all_of_them : (k : Known) → k.tree ≡ true → k.carry ≡ true → k.latch ≡ true → k ≡ all_known
-all_of_them k tree carry latch =
-    ap (λ (b : Bool). record { tree = b; carry = k.carry; latch = k.latch }) tree
-    ∙ (ap (λ (b : Bool). record { tree = true; carry = b; latch = k.latch }) carry
-    ∙ ap (λ (b : Bool). record { tree = true; carry = true; latch = b }) latch)
+all_of_them k tree carry latch = grind arith

@@ -1,13 +1,11 @@
 -- A run of an array, seen from one of its pixels.
-use Rattle.std.proofs.Common.{◌≡◌, ℕ, zero, suc, ◌+◌, ◌-◌, ◌*◌, ◌^◌, ◌<◌, ◌≤◌, map, refl, sym, ap, ◌∙◌}
-use Rattle.std.proofs.Common.{arith}
-use Rattle.std.specs.List.{range_with_len}
+use Rattle.px_num.proofs.Basics.{◌≡◌, ℕ, zero, suc, ◌+◌, ◌-◌, ◌*◌, ◌^◌, ◌<◌, ◌≤◌, map, refl, sym, ap, ◌∙◌, arith}
+use Rattle.px_num.proofs.Basics.{range_with_len}
 use Rattle.px_num.specs.Bits.{bit_of}
 use Rattle.px_num.specs.Forms.{value_at}
 use Rattle.px_num.specs.Lists.{tabulate}
 use Rattle.px_num.specs.declared.linear.Linear.{Linear}
 use Rattle.px_num.proofs.TruthLaws.{suc_not_zero}
-use Rattle.px_pixel.specs.Acts.{after_act}
 use Rattle.px_tree.specs.Feeds.{fed_form}
 use Rattle.px_tree.specs.Nodes.{IsGrid, TreeState, leaf_output}
 use Rattle.px_tree.specs.TreeBit.{LeafGivesValue}
@@ -27,11 +25,7 @@ steps micro (suc n) s = after_clock (micro n) (steps micro n s)
 run_from : (micro : ℕ → Micro) (k n : ℕ) (s : State) → after_clocks (map micro (range_with_len k n)) (steps micro k s)
     ≡ steps micro (k + n) s
 run_from micro k zero s = let e : k ≡ k + 0 = omega arith in ap (λ i. steps micro i s) e
-run_from micro k (suc n) s =
-    let next : suc k ≡ k + 1 = omega arith in
-    let end : suc k + n ≡ k + suc n = omega arith in
-    ap (λ i. after_clocks (map micro (range_with_len i n)) (steps micro (suc k) s)) (sym next)
-    ∙ (run_from micro (suc k) n s ∙ ap (λ i. steps micro i s) end)
+run_from micro k (suc n) s = grind (arith, run_from micro (suc k) n s)
 
 pub run_is_steps : (micro : ℕ → Micro) (n : ℕ) (s : State) → after_clocks (tabulate n micro) s ≡ steps micro n s
 run_is_steps micro n s = let e : 0 + n ≡ n = omega arith in run_from micro 0 n s ∙ ap (λ i. steps micro i s) e
@@ -44,23 +38,17 @@ grid_after_steps bits nx ny micro (suc n) s grid =
 
 -- a pixel takes the acts by itself
 pub pixel_after_steps : (bits nx ny : ℕ) (micro : ℕ → Micro) (n : ℕ) (s : State) → HasGrid bits nx ny s → (place : ℕ)
-    → place < 2 ^ (nx + ny)
-    → pixel_at (steps micro n s) place ≡ after_acts (λ i. (micro i).act) (λ i. leaf_output (steps micro i s).tree
-    place) n (pixel_at s place)
+    → place < 2 ^ (nx + ny) → pixel_at (steps micro n s) place ≡ after_acts (λ i. (micro i).act)
+    (λ i. leaf_output (steps micro i s).tree place) n (pixel_at s place)
 pixel_after_steps bits nx ny micro zero s grid place inside = refl
 pixel_after_steps bits nx ny micro (suc n) s grid place inside =
     let now = grid_after_steps bits nx ny micro n s grid in
-    let there : place < 2 ^ ((steps micro n s).tree.nx + (steps micro n s).tree.ny) =
-    rw (now.columns, now.rows) inside in
-    pixel_at-after_clock (micro n) (steps micro n s) place there
-    ∙ ap (after_act (micro n).act (leaf_output (steps micro n s).tree place))
-    (pixel_after_steps bits nx ny micro n s grid place inside)
+    grind (arith, pixel_at-after_clock, pixel_after_steps bits nx ny micro n s grid place inside)
 
 -- pixel (x, y) after a run
 pub pixel_after_run : (bits nx ny : ℕ) (micro : ℕ → Micro) (n : ℕ) (s : State) → HasGrid bits nx ny s → (x y : ℕ)
-    → x < 2 ^ nx → y < 2 ^ ny
-    → pixel_of (after_clocks (tabulate n micro) s) x y
-    ≡ after_acts (λ i. (micro i).act) (λ i. leaf_output (steps micro i s).tree (x * 2 ^ ny + y)) n (pixel_of s x y)
+    → x < 2 ^ nx → y < 2 ^ ny → pixel_of (after_clocks (tabulate n micro) s) x y ≡ after_acts (λ i. (micro i).act)
+    (λ i. leaf_output (steps micro i s).tree (x * 2 ^ ny + y)) n (pixel_of s x y)
 pixel_after_run bits nx ny micro n s grid x y column row =
     let now = grid_after_steps bits nx ny micro n s grid in
     ap (λ r. pixel_of r x y) (run_is_steps micro n s)
@@ -86,10 +74,9 @@ tree_after_feeds bits nx ny micro form (suc n) s grid fed =
       suc_not_zero n,
     ) refl
 
-pub leaf_while_fed : LeafGivesValue → (bits nx ny : ℕ) → IsGrid nx ny → (micro : ℕ → Micro) (form : Linear) (t : ℕ)
-    (s : State) → HasGrid bits nx ny s
-    → ((i : ℕ) → i ≤ t + (nx + ny) → (micro i).tree ≡ tree_at form nx ny i)
-    → (x y : ℕ) → x < 2 ^ nx → y < 2 ^ ny
+pub leaf_while_fed : LeafGivesValue → (bits nx ny : ℕ) → IsGrid nx ny
+    → (micro : ℕ → Micro) (form : Linear) (t : ℕ) (s : State) → HasGrid bits nx ny s
+    → ((i : ℕ) → i ≤ t + (nx + ny) → (micro i).tree ≡ tree_at form nx ny i) → (x y : ℕ) → x < 2 ^ nx → y < 2 ^ ny
     → leaf_output (steps micro (suc (t + (nx + ny))) s).tree (x * 2 ^ ny + y) ≡ bit_of (value_at form x y) t
 leaf_while_fed leaf bits nx ny sizes micro form t s grid fed x y column row =
     let feeds = t + (nx + ny) in

@@ -1,12 +1,10 @@
 -- What is left of one pixel by acts that store a field, bit by bit.
-use Rattle.std.proofs.Common.{◌≡◌, ℕ, zero, suc, ◌+◌, ◌*◌, ◌<◌, ◌≤◌, Bool, List, length}
-use Rattle.std.proofs.Common.{if◌then◌else◌, ◌⊎◌, inl, inr, refl, sym, ap, subst, ◌∙◌, arith}
-use Rattle.std.proofs.lemmas.Bool.Decides.{nat_tests}
+use Rattle.px_num.proofs.Basics.{rules, ◌≡◌, ℕ, zero, suc, ◌+◌, ◌*◌, ◌<◌, ◌≤◌, Bool, List, length, if◌then◌else◌, ◌⊎◌}
+use Rattle.px_num.proofs.Basics.{inl, inr, refl, sym, ap, subst, ◌∙◌, arith, nat_tests}
 use Rattle.px_num.specs.Bits.{bit_at, nat_bit}
 use Rattle.px_pixel.specs.Acts.{after_act, stored}
 use Rattle.px_pixel.specs.Pixels.{PixelState}
 use Rattle.px_pixel.specs.declared.act.Act.{Act}
-use Rattle.px_pixel.specs.declared.act.Act.TheVariants as act
 use Rattle.px_macro.specs.FieldLaws.{BitsOfNumber}
 use Rattle.px_macro.specs.Fields.{number_in, with_number}
 use Rattle.px_macro.specs.Macros.{AreApart, with_field}
@@ -15,6 +13,7 @@ use Rattle.px_asm.specs.Micros.{copy_act}
 use Rattle.px_asm.specs.Microprograms.{bits_of}
 use Rattle.px_asm.proofs.ActingLemmas.{after_acts}
 use Rattle.px_asm.proofs.WrittenLemmas.{IsWritten, none_written, one_written, whole_written}
+use Rattle.px_pixel.specs.declared.act.Act.TheVariants as act
 
 -- each act of a run stores a bit of v
 abbrev pub StoreEach : (at n : ℕ) (v : ℕ → Bool) (act : ℕ → Act) (tree : ℕ → Bool) → Type 0
@@ -44,8 +43,7 @@ same_bits p q memory e m = rw (e, m) refl
 
 -- a field that was stored whole
 pub put_by_stores : (f : Field) (n : ℕ) (v : ℕ → Bool) (act : ℕ → Act) (tree : ℕ → Bool) (p : PixelState)
-    → f.at + f.len ≤ length p.memory
-    → ((t : ℕ) → t < f.len → v t ≡ nat_bit n t) → StoreEach f.at f.len v act tree
+    → f.at + f.len ≤ length p.memory → ((t : ℕ) → t < f.len → v t ≡ nat_bit n t) → StoreEach f.at f.len v act tree
     → bits_of (after_acts act tree f.len p) ≡ with_field f n (bits_of p)
 put_by_stores f n v act tree p room bits each =
     let q = after_acts act tree f.len p in
@@ -69,15 +67,12 @@ pub after_pair : (f g : Field) (tree : ℕ → Bool) (n : ℕ) (p : PixelState) 
     let q = after_acts (copy_act f g) tree (2 * n) p in
     after_acts (copy_act f g) tree (2 * suc n) p ≡ stored (g.at + n) (bit_at q.memory (f.at + n))
     (record q { latch = bit_at q.memory (f.at + n) })
-after_pair f g tree n p =
-    ap (λ i. after_acts (copy_act f g) tree i p) (two_more n)
-    ∙ rw (store_place f g n, fetch_place f g n) refl
+after_pair f g tree n p = search (rules, after_acts, two_more, store_place, fetch_place)
 
 pub enable_after_copy : (f g : Field) (tree : ℕ → Bool) (n : ℕ) (p : PixelState)
     → (after_acts (copy_act f g) tree (2 * n) p).enable ≡ p.enable
 enable_after_copy f g tree zero p = refl
-enable_after_copy f g tree (suc n) p = ap (λ (q : PixelState). q.enable) (after_pair f g tree n p)
-    ∙ enable_after_copy f g tree n p
+enable_after_copy f g tree (suc n) p = grind (arith, after_pair, enable_after_copy f g tree n p)
 
 unread : (f g : Field) (n : ℕ) → n < f.len → n < g.len → AreApart f g → (f.at + n < g.at) ⊎ (g.at + n ≤ f.at + n)
 unread f g n low below (inl before) = inl (omega arith)

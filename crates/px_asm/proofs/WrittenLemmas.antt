@@ -1,10 +1,7 @@
 -- Fields that are written bit by bit.
-use Rattle.std.proofs.Common.{◌≡◌, ◌≢◌, ℕ, suc, ◌+◌, ◌-◌, ◌<◌, ◌≤◌, Bool, true, false, List, length, slice_set}
-use Rattle.std.proofs.Common.{if◌then◌else◌, ◌⊎◌, inl, inr, refl, sym, ap, ◌∙◌, arith, get_or-set_other}
-use Rattle.std.proofs.Common.{get_or-set_same}
-use Rattle.std.proofs.lemmas.Bool.{cases_lt}
-use Rattle.std.proofs.lemmas.Bool.Decides.{nat_tests}
-use Rattle.std.proofs.lemmas.List.{get_or_default, same_lists}
+use Rattle.px_num.proofs.Basics.{◌≡◌, ◌≢◌, ℕ, suc, ◌+◌, ◌-◌, ◌<◌, ◌≤◌, Bool, true, false, List, length, slice_set}
+use Rattle.px_num.proofs.Basics.{if◌then◌else◌, ◌⊎◌, inl, inr, refl, sym, ap, ◌∙◌, arith, get_or-set_other}
+use Rattle.px_num.proofs.Basics.{get_or-set_same, cases_lt, nat_tests, get_or_default, same_lists}
 use Rattle.px_num.specs.Bits.{bit_at, nat_bit}
 use Rattle.px_num.proofs.ListLaws.{is_tabulate}
 use Rattle.px_array.proofs.ClockLaws.{length-stored}
@@ -43,19 +40,7 @@ pub one_written : (at n : ℕ) (v : ℕ → Bool) (enable : Bool) (old new : Lis
     → IsWritten at n v enable old new
     → IsWritten at (suc n) v enable old (if enable then slice_set new (at + n) (v n) else new)
 one_written at n v enable old new room h =
-    let inside : at + n < length new = omega (arith, h.size) in
-    record {
-      size = length-stored enable (v n) new (at + n) ∙ h.size;
-      field = λ t low. elim (cases_lt t n) [
-        | inl before ↦
-            let differs : at + t ≢ at + n = omega arith in
-            other_bit enable (v n) new (at + n) (at + t) differs ∙ h.field t before
-        | inr past ↦
-            let same : t ≡ n = omega arith in
-            rw (same, written_bit enable (v n) new (at + n) inside, h.others (at + n) (inr (omega arith))) refl
-      ];
-      others = λ i out. other_bit enable (v n) new (at + n) i (not_there at n i out) ∙ h.others i (outside at n i out);
-    }
+    grind (arith, length-stored, cases_lt, other_bit, written_bit, not_there, outside)
 
 is_in_true : (f : Field) (k : ℕ) → f.at ≤ k → k < f.at + f.len → is_in f k ≡ true
 is_in_true f k low high = grind (arith, nat_tests)
@@ -65,19 +50,9 @@ is_in_false f k (inl low) = grind (arith, nat_tests)
 is_in_false f k (inr high) = grind (arith, nat_tests)
 
 enabled_bit : (f : Field) (number : ℕ) (v : ℕ → Bool) (old new : List Bool)
-    → ((t : ℕ) → t < f.len → v t ≡ nat_bit number t)
-    → IsWritten f.at f.len v true old new → (k : ℕ)
+    → ((t : ℕ) → t < f.len → v t ≡ nat_bit number t) → IsWritten f.at f.len v true old new → (k : ℕ)
     → bit_at new k ≡ (if is_in f k then nat_bit number (k - f.at) else bit_at old k)
-enabled_bit f number v old new bits h k = elim (cases_lt k f.at) [
-  | inl low ↦ rw (is_in_false f k (inl low)) (h.others k (inl low))
-  | inr from ↦ elim (cases_lt k (f.at + f.len)) [
-    | inl inside ↦
-        let t : f.at + (k - f.at) ≡ k = omega arith in
-        let low : k - f.at < f.len = omega arith in
-        rw (is_in_true f k from inside) (ap (bit_at new) (sym t) ∙ (h.field (k - f.at) low ∙ bits (k - f.at) low))
-    | inr past ↦ rw (is_in_false f k (inr past)) (h.others k (inr past))
-  ]
-]
+enabled_bit f number v old new bits h k = grind (arith, cases_lt, is_in_false, is_in_true)
 
 disabled_bit : (at n : ℕ) (v : ℕ → Bool) (old new : List Bool) → IsWritten at n v false old new → (k : ℕ)
     → bit_at new k ≡ bit_at old k

@@ -1,6 +1,6 @@
 -- What a call answers, step by step.
-use Rattle.std.proofs.Common.{ℕ, ◌≡◌, ◌⊎◌, ◌<◌, ◌≤◌, inl, inr, true, false, Option, Some, None, refl, arith, nat_lt}
-use Rattle.std.proofs.lemmas.Bool.Decides.{nat_tests}
+use Rattle.px_num.proofs.Basics.{ℕ, ◌≡◌, ◌⊎◌, ◌<◌, ◌≤◌, inl, inr, true, false, Option, Some, None, refl, arith, nat_lt}
+use Rattle.px_num.proofs.Basics.{nat_tests}
 use Rattle.px_num.specs.Want.{want}
 use Rattle.px_show.specs.Judged.{SceneFault}
 use Rattle.px_show.specs.declared.fault.TextFault.TheVariants as f

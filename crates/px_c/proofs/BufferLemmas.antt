@@ -1,7 +1,6 @@
 -- The pixels of a picture counted by rows.
-use Rattle.std.proofs.Common.{ℕ, ◌≡◌, ◌+◌, ◌*◌, ◌/◌, ◌%◌, ◌<◌, ◌≤◌, List, get_or, arith}
-use Rattle.std.proofs.Math.Nat.{div-lt_iff_lt-mul, mul-le-mul_right}
-use Rattle.std.proofs.lemmas.Nat.{div-mul-add, mod-mul-add, mod_below}
+use Rattle.px_num.proofs.Basics.{ℕ, ◌≡◌, ◌+◌, ◌*◌, ◌/◌, ◌%◌, ◌<◌, ◌≤◌, List, get_or, arith, div-lt_iff_lt-mul}
+use Rattle.px_num.proofs.Basics.{mul-le-mul_right, div-mul-add, mod-mul-add, mod_below}
 use Rattle.px_model.specs.declared.solid.Colour.{Colour}
 use Rattle.px_c.specs.Buffers.{HasColour, HoldsColours, HoldsNumbers}
 

@@ -1,8 +1,6 @@
 -- What a command comes to, as an answer.
-use Rattle.std.proofs.Common.{ℕ, ◌≡◌, ◌∙◌, inl, inr, List, [], length, Bool, true, false, Option, Some, None}
-use Rattle.std.proofs.Common.{Ok, Err, refl, ap, sym, subst}
-use Rattle.std.proofs.Common.{if◌then◌else◌, ◌&&◌, not, nat_lt}
-use Rattle.std.specs.Io.KnownBytes.{Appends}
+use Rattle.px_num.proofs.Basics.{ℕ, ◌≡◌, ◌∙◌, inl, inr, List, [], length, Bool, true, false, Option, Some, None, Ok}
+use Rattle.px_num.proofs.Basics.{Err, refl, ap, sym, subst, if◌then◌else◌, ◌&&◌, not, nat_lt, Appends}
 use Rattle.px_command.specs.declared.command.Command.{Command}
 use Rattle.px_command.specs.declared.command.Command.TheVariants as c
 use Rattle.px_prune.specs.Kept.{crowd_of}

@@ -1,5 +1,5 @@
 -- What a call answers that finds the machine, or its micros.
-use Rattle.std.proofs.Common.{◌≡◌, inl, inr, Option, None, refl}
+use Rattle.px_num.proofs.Basics.{◌≡◌, inl, inr, Option, None, refl}
 use Rattle.px_listing.specs.Listings.{ListingView}
 use Rattle.px_state.specs.Refusals.{IsRefusedBy}
 use Rattle.px_state.specs.declared.fault.StateFault.{StateFault}

@@ -15,7 +15,7 @@ pub use Rattle.px_state.specs.Packed
 pub use Rattle.px_state.specs.Packing
 pub use Rattle.px_state.specs.Refusals as StateRefusals
 pub use Rattle.px_state.specs.Words as StateWords
-pub use Rattle.px_words.specs.Words
+pub use Rattle.px_outcome.specs.Words
 pub mod Answers
 pub mod Buffers
 pub mod ClocksAnswer

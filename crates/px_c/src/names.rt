@@ -5,13 +5,13 @@ ghost use Rattle.px_show.specs.declared.fault.LimitKind.{LimitKind};
 ghost use Rattle.px_listing.specs.declared.limit.ListKind.{ListKind};
 ghost use Rattle.px_outcome.specs.declared.refusal.Kind.{Kind};
 ghost use Rattle.px_outcome.specs.Notes.{kind_word};
-ghost use Rattle.px_words.specs.Words.{cause_word, list_word, scene_word};
+ghost use Rattle.px_outcome.specs.Words.{cause_word, list_word, scene_word};
 ghost use Rattle.px_c.specs.Names.{IsWordWritten, cause_names, kind_names, word_of_number};
 ghost use Rattle.px_c.specs.Numbers.{cause_number, kind_number, limit_number, list_number};
 
 use px_listing::ListKind;
+use px_outcome::{cause_word, list_word, scene_word};
 use px_scene::{Cause, LimitKind};
-use px_words::{cause_word, list_word, scene_word};
 
 /// Writes the word of a cause to the front of `name`, where it fits, and gives its length; 0 for a number that
 /// is no cause's.

@@ -1,6 +1,5 @@
 -- The lines of the canonical text, and their words.
-use Rattle.std.proofs.Common.{◌≡◌, ℕ, ◌+◌, ◌==◌, [], ◌∷◌, ◌++◌, length, filter, codes}
-use Rattle.std.specs.List.{flat_map, range_with_len}
+use Rattle.px_num.proofs.Basics.{◌≡◌, ℕ, ◌+◌, ◌==◌, [], ◌∷◌, ◌++◌, length, filter, codes, flat_map, range_with_len}
 use Rattle.px_model.specs.Scenes.{SolidView, SceneView}
 use Rattle.px_canonical.specs.Canonical.{canonical_text, colour_words, lines_of_number, words_of_plane, solid_lines}
 use Rattle.px_canonical.specs.Canonical.{version_for}

@@ -1,9 +1,6 @@
 -- The faces below a number, and the one that has it.
-use Rattle.std.proofs.Common.{◌≡◌, ℕ, ◌+◌, ◌<◌, ◌≤◌, ◌==◌, List, [], ◌∷◌, ◌++◌, length, get_or, Bool, true, false}
-use Rattle.std.proofs.Common.{nat_lt, filter, refl, ap, arith}
-use Prim.Native.Nat.{suc}
-use Rattle.std.specs.List.{All, AllPairs}
-use Rattle.std.proofs.lemmas.Bool.Decides.{nat_tests}
+use Rattle.px_num.proofs.Basics.{◌≡◌, ℕ, ◌+◌, ◌<◌, ◌≤◌, ◌==◌, List, [], ◌∷◌, ◌++◌, length, get_or, Bool, true, false}
+use Rattle.px_num.proofs.Basics.{nat_lt, filter, refl, ap, arith, suc, All, AllPairs, nat_tests}
 use Rattle.px_model.specs.declared.solid.Face.{Face}
 use Rattle.px_model.specs.Scenes.{has_number}
 
@@ -28,12 +25,7 @@ all_above m (f ∷ fs) all =
     in let p : nat_lt f.number m ≡ false = grind (arith, nat_tests)
     in let q : nat_lt f.number (m + 1) ≡ false = grind (arith, nat_tests)
     in let r : (f.number == m) ≡ false = grind (arith, nat_tests)
-    in record {
-      before = rw p later.before;
-      upto = rw q later.upto;
-      at = rw r later.at;
-      none = rw r later.none;
-    }
+    in grind arith
 
 -- the only face of a number, and its place
 pub record HasOne (m : ℕ) (faces : List Face) : Type 0 where
@@ -69,8 +61,7 @@ cut m (f ∷ fs) order = by_test (nat_lt f.number m) (f.number == m) refl refl
                 face = found.face;
                 place = suc found.place;
                 only = rw q found.only;
-                number =
-                    found.number;
+                number = found.number;
                 within = let w = found.within in omega arith;
                 read = found.read;
               };
@@ -87,8 +78,7 @@ cut m (f ∷ fs) order = by_test (nat_lt f.number m) (f.number == m) refl refl
             place = 0;
             only = rw (q, rest.at) refl;
             number = is;
-            within =
-                omega arith;
+            within = omega arith;
             read = λ d. refl;
           };
         }
@@ -115,9 +105,4 @@ all_below m (f ∷ fs) all =
 
 pub few_below : (m : ℕ) (faces : List Face) → length (below m faces) ≤ length faces
 few_below m [] = omega arith
-few_below m (f ∷ fs) = by_test (nat_lt f.number m) refl (few_below m fs)
-  where
-    by_test : (under : Bool) → nat_lt f.number m ≡ under → length (below m fs) ≤ length fs
-        → length (below m (f ∷ fs)) ≤ length (f ∷ fs)
-    by_test true p later = rw p (omega arith)
-    by_test false p later = rw p (omega arith)
+few_below m (f ∷ fs) = grind (arith, few_below m fs)

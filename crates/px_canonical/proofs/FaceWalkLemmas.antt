@@ -1,8 +1,7 @@
 -- The lines of a solid's faces, in the order of their numbers.
-use Rattle.std.proofs.Common.{◌≡◌, ℕ, ◌+◌, ◌<◌, ◌≤◌, List, [], ◌∷◌, ◌++◌, length, Bool, true, false, not, codes, map}
-use Rattle.std.proofs.Common.{refl, ap, sym, subst, ◌∙◌, arith, append-nil, length-append}
-use Prim.Native.Nat.{zero, suc}
-use Rattle.std.specs.List.{All, flat_map, range_with_len}
+use Rattle.px_num.proofs.Basics.{◌≡◌, ℕ, ◌+◌, ◌<◌, ◌≤◌, List, [], ◌∷◌, ◌++◌, length, Bool, true, false, not, codes, map}
+use Rattle.px_num.proofs.Basics.{refl, ap, sym, subst, arith, append-nil, length-append, zero, suc, All, flat_map}
+use Rattle.px_num.proofs.Basics.{range_with_len}
 use Rattle.px_model.specs.declared.solid.Face.{Face}
 use Rattle.px_text.specs.Text.{Words}
 use Rattle.px_model.specs.Scenes.{SolidView, IsColour, IsLawfulSolid, IsPlane, AreFaces, has_number}
@@ -19,8 +18,7 @@ part s m = record {
   colour = s.colour;
   near_number = s.near_number;
   fronts = below m s.fronts;
-  backs =
-      below m s.backs;
+  backs = below m s.backs;
   sides = [];
 }
 
@@ -39,8 +37,7 @@ writable near m faces are colours one =
     (subst (λ (f : Face). IsColour f.colour) (one.read one.face) colour)
 
 -- the words of one number's line
-face_walk : (start : DraftView) (done : List SolidView) (s : SolidView) (n : ℕ) (is : Bool) → IsLawfulSolid s
-    → n < 4095
+face_walk : (start : DraftView) (done : List SolidView) (s : SolidView) (n : ℕ) (is : Bool) → IsLawfulSolid s → n < 4095
     → has_number s.fronts (n + 1) ≡ is → has_number s.backs (n + 1) ≡ not is
     → Walk (open_solid start done (part s (n + 1)) n) (words_of_number s (n + 1))
     (open_solid start done (part s (n + 1 + 1)) (n + 1))
@@ -49,10 +46,8 @@ face_walk start done s n true ok few front back =
     in let backs = cut (n + 1) s.backs ok.backs.order
     in let one = fronts.present front
     in let none = backs.absent back
-    in let grown : below (n + 1 + 1) s.fronts ≡ below (n + 1) s.fronts ++ one.face ∷ [] = fronts.grown
-    ∙ ap (λ fs. below (n + 1) s.fronts ++ fs) one.only
-    in let kept : below (n + 1 + 1) s.backs ≡ below (n + 1) s.backs = backs.grown
-    ∙ ap (λ fs. below (n + 1) s.backs ++ fs) none ∙ append-nil (below (n + 1) s.backs)
+    in let grown : below (n + 1 + 1) s.fronts ≡ below (n + 1) s.fronts ++ one.face ∷ [] = grind (arith, below)
+    in let kept : below (n + 1 + 1) s.backs ≡ below (n + 1) s.backs = grind (arith, below, append-nil)
     in let room : length (below (n + 1) s.fronts) < 32 = let some = ok.fronts.few
     in omega (
       arith,
@@ -73,10 +68,8 @@ face_walk start done s n false ok few front back =
     in let backs = cut (n + 1) s.backs ok.backs.order
     in let one = backs.present back
     in let none = fronts.absent front
-    in let grown : below (n + 1 + 1) s.backs ≡ below (n + 1) s.backs ++ one.face ∷ [] = backs.grown
-    ∙ ap (λ fs. below (n + 1) s.backs ++ fs) one.only
-    in let kept : below (n + 1 + 1) s.fronts ≡ below (n + 1) s.fronts = fronts.grown
-    ∙ ap (λ fs. below (n + 1) s.fronts ++ fs) none ∙ append-nil (below (n + 1) s.fronts)
+    in let grown : below (n + 1 + 1) s.backs ≡ below (n + 1) s.backs ++ one.face ∷ [] = grind (arith, below)
+    in let kept : below (n + 1 + 1) s.fronts ≡ below (n + 1) s.fronts = grind (arith, below, append-nil)
     in let room : length (below (n + 1) s.backs) < 32 = let some = ok.backs.few
     in omega (
       arith,
@@ -95,27 +88,17 @@ face_walk start done s n false ok few front back =
 
 -- so many numbers from one on, each of which some face has
 pub faces_walk : (start : DraftView) (done : List SolidView) (s : SolidView) (count n : ℕ) → IsLawfulSolid s
-    → n + count ≤ 4095
-    → ((m : ℕ) → n < m → m ≤ n + count → has_number s.fronts m ≡ not (has_number s.backs m))
-    → Walk (open_solid start done (part s (n + 1)) n)
-    (flat_map (words_of_number s) (range_with_len (n + 1) count))
+    → n + count ≤ 4095 → ((m : ℕ) → n < m → m ≤ n + count → has_number s.fronts m ≡ not (has_number s.backs m))
+    → Walk (open_solid start done (part s (n + 1)) n) (flat_map (words_of_number s) (range_with_len (n + 1) count))
     (open_solid start done (part s (n + count + 1)) (n + count))
-faces_walk start done s zero n ok most once =
-    let same : n ≡ n + 0 = omega arith
-    in ap (λ m. open_solid start done (part s (m + 1)) m) same
+faces_walk start done s zero n ok most once = grind (arith, open_solid)
 faces_walk start done s (suc count) n ok most once =
     let first = face_walk start done s n (has_number s.fronts (n + 1)) ok (omega arith) refl
     (other (has_number s.fronts (n + 1)) (has_number s.backs (n + 1)) (once (n + 1) (omega arith) (omega arith)))
     in let later = faces_walk start done s count (n + 1) ok (omega arith)
     (λ m over under. once m (omega arith) (omega arith))
     in let same : n + 1 + count ≡ n + suc count = omega arith
-    in subst (λ (m : ℕ). Walk (open_solid start done (part s (n + 1)) n)
-    (flat_map (words_of_number s) (range_with_len (n + 1) (suc count)))
-    (open_solid start done (part s (m + 1)) m)) same
-    (walk_both (open_solid start done (part s (n + 1)) n)
-    (open_solid start done (part s (n + 1 + 1)) (n + 1))
-    (open_solid start done (part s (n + 1 + count + 1)) (n + 1 + count)) (words_of_number s (n + 1))
-    (flat_map (words_of_number s) (range_with_len (n + 1 + 1) count)) first later)
+    in grind (arith, open_solid, walk_both)
   where
     other : (a b : Bool) → a ≡ not b → b ≡ not a
     other true false e = refl

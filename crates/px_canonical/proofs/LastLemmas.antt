@@ -1,6 +1,5 @@
 -- The last solid of a draft, behind others.
-use Prim.Native.Nat.{suc}
-use Rattle.std.proofs.Common.{◌≡◌, ℕ, ◌-◌, List, [], ◌∷◌, ◌++◌, length, refl, ap, arith, length-append}
+use Rattle.px_num.proofs.Basics.{◌≡◌, ℕ, List, [], ◌∷◌, ◌++◌, refl, ap, arith, length-append}
 use Rattle.px_model.specs.Scenes.{SolidView}
 use Rattle.px_scene.specs.Drafts.{in_last, with_last}
 
@@ -13,7 +12,4 @@ with_last-append change (q ∷ r ∷ ss) s = ap (λ x. q ∷ x) (with_last-appen
 pub in_last-push : (count : SolidView → ℕ) (ss : List SolidView) (s : SolidView)
     → in_last count (ss ++ s ∷ []) ≡ count s
 in_last-push count [] s = refl
-in_last-push count (q ∷ qs) s =
-    let place : length (q ∷ (qs ++ s ∷ [])) - 1 ≡ suc (length (qs ++ s ∷ []) - 1) =
-    omega (arith, length-append qs (s ∷ []))
-    in rw place (in_last-push count qs s)
+in_last-push count (q ∷ qs) s = grind (arith, length-append, in_last-push count qs s)

@@ -1,38 +1,29 @@
 -- Written lines, one after another, are good and give the scene.
-use Rattle.std.proofs.Common.{◌≡◌, ℕ, ℤ, pos, ◌+◌, ◌-◌, min, ◌<◌, ◌≤◌, ◌^◌, List, [], ◌∷◌, ◌++◌, length, Option}
-use Rattle.std.proofs.Common.{Some, None, Ok, true, false, codes, decimal, refl, ap, sym, subst, ◌∙◌, arith}
-use Rattle.std.proofs.Common.{map, append_assoc, append-nil, length-append}
-use Prim.Native.Nat.{suc}
-use Rattle.std.specs.List.{All}
-use Rattle.std.specs.Fmt.{signed_decimal}
-use Rattle.std.specs.Option.{option_or}
-use Rattle.std.proofs.lemmas.Int.{ints}
-use Rattle.std.proofs.lemmas.Bool.Decides.{nat_tests}
-use Rattle.std.proofs.lemmas.List.Folds.{list_all-append}
+use Rattle.px_num.proofs.Basics.{common_steps, ◌≡◌, ℕ, ℤ, pos, ◌+◌, ◌-◌, min, ◌<◌, ◌≤◌, List, [], ◌∷◌, ◌++◌, length}
+use Rattle.px_num.proofs.Basics.{Option, Some, None, Ok, true, false, codes, decimal, refl, ap, sym, subst, ◌∙◌, arith}
+use Rattle.px_num.proofs.Basics.{map, append_assoc, append-nil, length-append, suc, All, signed_decimal, option_or}
+use Rattle.px_num.proofs.Basics.{ints, nat_tests, list_all-append}
 use Rattle.px_num.specs.declared.linear.Linear.{Linear}
 use Rattle.px_num.specs.Forms.{IsWithin}
 use Rattle.px_model.specs.declared.solid.Colour.{Colour}
 use Rattle.px_model.specs.declared.solid.Face.{Face}
 use Rattle.px_scene.specs.declared.line.Due.{Due}
-use Rattle.px_scene.specs.declared.line.Due.TheVariants as d
 use Rattle.px_scene.specs.declared.line.Paint.{Paint}
 use Rattle.px_scene.specs.declared.line.Plane.{Plane}
 use Rattle.px_show.specs.declared.fault.LimitKind.{LimitKind}
-use Rattle.px_show.specs.declared.fault.LimitKind.TheVariants as kind
 use Rattle.px_show.specs.declared.fault.LineFault.{LineFault}
-use Rattle.px_text.specs.Text.{Words, words_of, is_name}
-use Rattle.px_text.specs.Written.{are_plain, is_plain}
+use Rattle.px_text.specs.Text.{Words, is_name}
+use Rattle.px_text.specs.Written.{are_plain}
 use Rattle.px_expr.specs.Tree.{Tree, HasLeavesBelow, IsLawfulTree}
 use Rattle.px_show.specs.Expressions.{has_signs, is_among}
 use Rattle.px_show.specs.Judged.{past, size_past}
 use Rattle.px_show.specs.Versions.{version_word}
 use Rattle.px_show.specs.declared.scene_version.Version.{Version}
-use Rattle.px_show.specs.declared.scene_version.Version.TheVariants as v
 use Rattle.px_show.specs.Printed.{AreDistinctNames, printed, named_by}
 use Rattle.px_show.proofs.PrintedLaws.{names_lawful, printed_tree, printed_good}
 use Rattle.px_scene.specs.Lines.{back, colour_past, depth, end, face_limit, face_past, front, header, is_due}
-use Rattle.px_scene.specs.Lines.{keyword_of, linear_in, most, paint_in, picture, plane_form, plane_in, plane_past}
-use Rattle.px_scene.specs.Lines.{show, side, solid, uncoloured}
+use Rattle.px_scene.specs.Lines.{keyword_of, linear_in, most, paint_in, picture, plane_form, plane_in, plane_past, side}
+use Rattle.px_scene.specs.Lines.{solid, uncoloured}
 use Rattle.px_model.specs.Scenes.{SolidView, IsColour, IsPlane, names_of}
 use Rattle.px_scene.specs.Drafts.{DraftView, with_front, with_back, with_side, fresh_solid, blank}
 use Rattle.px_canonical.specs.Canonical.{colour_words, depth_words, words_of_plane, written_line}
@@ -43,6 +34,9 @@ use Rattle.px_canonical.proofs.LastLemmas.{in_last-push, with_last-append}
 use Rattle.px_canonical.proofs.ShownLaws.{show_fed, show_read}
 use Rattle.px_canonical.proofs.WalkLaws.{Walk, form_walk, line_walk, walk_both}
 use Rattle.px_canonical.proofs.WrittenLaws.{both_texts, colour_plain, one_line, plane_plain, text_of_lines}
+use Rattle.px_scene.specs.declared.line.Due.TheVariants as d
+use Rattle.px_show.specs.declared.fault.LimitKind.TheVariants as kind
+use Rattle.px_show.specs.declared.scene_version.Version.TheVariants as v
 
 -- a number within limits
 past_in : (limit : LimitKind) (low high n : ℕ) → low ≤ n → n ≤ high → past limit (pos low) (pos high) (pos n) ≡ None
@@ -81,8 +75,7 @@ header_walk : (version : Version) → Walk blank ((codes "pxscene" ∷ version_w
     (headed version d.Picture 1 1)
 header_walk v.One = form_walk blank (codes "pxscene") (version_word v.One ∷ []) (header v.One) refl refl refl refl
 header_walk v.Two = form_walk blank (codes "pxscene") (version_word v.Two ∷ []) (header v.Two) refl refl refl refl
-header_walk v.Three =
-    form_walk blank (codes "pxscene") (version_word v.Three ∷ []) (header v.Three) refl refl refl refl
+header_walk v.Three = form_walk blank (codes "pxscene") (version_word v.Three ∷ []) (header v.Three) refl refl refl refl
 
 picture_walk : (version : Version) (width height : ℕ) → 1 ≤ width → width ≤ 512 → 1 ≤ height → height ≤ 512
     → Walk (headed version d.Picture 1 1) ((codes "picture" ∷ decimal width ∷ decimal height ∷ []) ∷ [])
@@ -95,9 +88,8 @@ picture_walk version width height w1 w2 h1 h2 =
     (rw (past_in kind.Picture 1 512 width w1 w2) (past_in kind.Picture 1 512 height h1 h2))
 
 depth_walk : (version : Version) (width height bits fraction : ℕ) → CanWrite version fraction → 1 ≤ bits
-    → bits + fraction ≤ 24 → fraction ≤ 8
-    → Walk (headed version d.Depth width height) ((codes "depth" ∷ depth_words version bits fraction) ∷ [])
-    (opened version width height bits fraction)
+    → bits + fraction ≤ 24 → fraction ≤ 8 → Walk (headed version d.Depth width height)
+    ((codes "depth" ∷ depth_words version bits fraction) ∷ []) (opened version width height bits fraction)
 depth_walk v.One width height bits fraction none b1 b2 f =
     rw none (form_walk (headed v.One d.Depth width height) (codes "depth") (decimal bits ∷ []) (depth (pos bits) None)
     (rw (decimal_plain bits (omega arith)) refl) refl (rw (number_read bits (omega arith)) refl)
@@ -120,23 +112,14 @@ begin_words version width height bits fraction =
     (codes "pxscene" ∷ version_word version ∷ []) ∷ (codes "picture" ∷ decimal width ∷ decimal height ∷ [])
     ∷ (codes "depth" ∷ depth_words version bits fraction) ∷ []
 
-pub begin_are : (version : Version) (width height bits fraction : ℕ)
-    → written_line (codes "pxscene") (version_word version ∷ [])
-    ++ written_line (codes "picture") (decimal width ∷ decimal height ∷ [])
-    ++ written_line (codes "depth") (depth_words version bits fraction)
-    ≡ text_of_lines (begin_words version width height bits fraction)
-begin_are version width height bits fraction =
-    let header = version_word version ∷ []
-    in let size = decimal width ∷ decimal height ∷ []
-    in let depth = depth_words version bits fraction
-    in both_texts ((codes "pxscene" ∷ header) ∷ (codes "picture" ∷ size) ∷ []) ((codes "depth" ∷ depth) ∷ []) _ _
-    (both_texts ((codes "pxscene" ∷ header) ∷ []) ((codes "picture" ∷ size) ∷ []) _ _
-    (one_line (codes "pxscene") header) (one_line (codes "picture") size))
-    (one_line (codes "depth") depth)
+pub begin_are : (version : Version) (width height bits fraction : ℕ) → written_line (codes "pxscene")
+    (version_word version ∷ []) ++ written_line (codes "picture")
+    (decimal width ∷ decimal height ∷ []) ++ written_line (codes "depth")
+    (depth_words version bits fraction) ≡ text_of_lines (begin_words version width height bits fraction)
+begin_are version width height bits fraction = grind (arith, nat_tests, common_steps, both_texts, codes, one_line)
 
 pub begin_walk : (version : Version) (width height bits fraction : ℕ) → CanWrite version fraction → 1 ≤ width
-    → width ≤ 512
-    → 1 ≤ height → height ≤ 512 → 1 ≤ bits → bits + fraction ≤ 24 → fraction ≤ 8
+    → width ≤ 512 → 1 ≤ height → height ≤ 512 → 1 ≤ bits → bits + fraction ≤ 24 → fraction ≤ 8
     → Walk blank (begin_words version width height bits fraction) (opened version width height bits fraction)
 begin_walk version width height bits fraction can w1 w2 h1 h2 b1 b2 f =
     let header = codes "pxscene" ∷ version_word version ∷ []
@@ -154,35 +137,17 @@ paint_for c = record { red = pos c.red; green = pos c.green; blue = pos c.blue }
 
 paint_read : (c : Colour) → IsColour c
     → paint_in (decimal c.red) (decimal c.green) (decimal c.blue) ≡ Some (paint_for c)
-paint_read c is =
-    rw (
-      number_read c.red (let m = is.red in omega arith),
-      number_read c.green (let m = is.green in omega arith),
-      number_read c.blue (let m = is.blue in omega arith),
-    ) refl
+paint_read c is = grind (arith, number_read)
 
 linear_read : (p : Linear) → IsPlane p
     → linear_in (signed_decimal p.a) (signed_decimal p.b) (signed_decimal p.c) ≡ Some p
-linear_read p is =
-    rw (
-      signed_read p.a (small_size (2 ^ 23) p.a (omega arith) is.a),
-      signed_read p.b (small_size (2 ^ 23) p.b (omega arith) is.b),
-      signed_read p.c (small_size (2 ^ 33) p.c (omega arith) is.c),
-    ) refl
+linear_read p is = grind (arith, nat_tests, common_steps, signed_read, small_size)
 
 linear_in_limits : (p : Linear) → IsPlane p → plane_past p ≡ None
-linear_in_limits p is =
-    none_of (size_past kind.Coefficient (2 ^ 23) p.a) (size_past kind.Coefficient (2 ^ 23) p.b)
-    (size_past kind.Coefficient (2 ^ 33) p.c) (size_in (2 ^ 23) p.a is.a) (size_in (2 ^ 23) p.b is.b)
-    (size_in (2 ^ 33) p.c is.c)
+linear_in_limits p is = grind (arith, none_of, size_in)
 
 paint_in_limits : (c : Colour) → IsColour c → colour_past (paint_for c) ≡ None
-paint_in_limits c is =
-    let red = is.red in let green = is.green in let blue = is.blue
-    in none_of (past kind.Colour (pos 0) (pos 255) (pos c.red)) (past kind.Colour (pos 0) (pos 255) (pos c.green))
-    (past kind.Colour (pos 0) (pos 255) (pos c.blue)) (past_in kind.Colour 0 255 c.red (omega arith) (omega arith))
-    (past_in kind.Colour 0 255 c.green (omega arith) (omega arith))
-    (past_in kind.Colour 0 255 c.blue (omega arith) (omega arith))
+paint_in_limits c is = grind (arith, none_of, past_in)
 
 -- the words of a front or a back, and the plane that they write, within its limits
 pub record Writes (ws : Words) (p : Plane) : Type 0 where
@@ -191,11 +156,7 @@ pub record Writes (ws : Words) (p : Plane) : Type 0 where
   pub within : face_past p ≡ None
 
 pub plane_written : (p : Linear) → IsPlane p → Writes (words_of_plane p) (uncoloured p)
-plane_written p is = record {
-  plain = plane_plain p is;
-  reads = rw (linear_read p is) refl;
-  within = rw (linear_in_limits p is) refl;
-}
+plane_written p is = grind (arith, plane_plain, linear_read, linear_in_limits)
 
 abbrev pub face_words : Face → Words
 face_words f = words_of_plane f.plane ++ colour_words f.colour
@@ -204,12 +165,8 @@ abbrev pub plane_for : Face → Plane
 plane_for f = record { form = f.plane; paint = Some (paint_for f.colour) }
 
 pub face_written : (f : Face) → IsPlane f.plane → IsColour f.colour → Writes (face_words f) (plane_for f)
-face_written f plane colour = record {
-  plain = list_all-append is_plain (words_of_plane f.plane) (colour_words f.colour)
-      ∙ rw (plane_plain f.plane plane, colour_plain f.colour colour) refl;
-  reads = rw (linear_read f.plane plane, paint_read f.colour colour) refl;
-  within = rw (linear_in_limits f.plane plane) (paint_in_limits f.colour colour);
-}
+face_written f plane colour =
+    grind (arith, list_all-append, plane_plain, colour_plain, linear_read, paint_read, paint_in_limits)
 
 -- what stands while solids are written, behind the draft of the first lines
 abbrev pub written_so_far : DraftView → List SolidView → ℕ → DraftView
@@ -220,14 +177,10 @@ open_solid start done s n = written_so_far start (done ++ s ∷ []) n
 
 room_in : (limit : LimitKind) (p : Plane) (faces n : ℕ) → face_past p ≡ None → faces < 32 → n < 4095
     → face_limit limit faces n p ≡ None
-room_in limit p faces n within few more =
-    none_of (face_past p) (most limit 32 (faces + 1)) (most kind.Faces 4095 (n + 1)) within
-    (past_in limit 0 32 (faces + 1) (omega arith) (omega arith))
-    (past_in kind.Faces 0 4095 (n + 1) (omega arith) (omega arith))
+room_in limit p faces n within few more = grind (arith, none_of, past_in)
 
 pub front_walk : (start : DraftView) (done : List SolidView) (s : SolidView) (n : ℕ) (ws : Words) (p : Plane)
-    → Writes ws p → length s.fronts < 32 → n < 4095
-    → Walk (open_solid start done s n) ((codes "front" ∷ ws) ∷ [])
+    → Writes ws p → length s.fronts < 32 → n < 4095 → Walk (open_solid start done s n) ((codes "front" ∷ ws) ∷ [])
     (open_solid start done (with_front (n + 1) p s) (n + 1))
 front_walk start done s n ws p is few more =
     subst (λ (ss : List SolidView). Walk (open_solid start done s n) ((codes "front" ∷ ws) ∷ [])
@@ -238,8 +191,7 @@ front_walk start done s n ws p is few more =
     ∙ room_in kind.Fronts p (length s.fronts) n is.within few more))
 
 pub back_walk : (start : DraftView) (done : List SolidView) (s : SolidView) (n : ℕ) (ws : Words) (p : Plane)
-    → Writes ws p → length s.backs < 32 → n < 4095
-    → Walk (open_solid start done s n) ((codes "back" ∷ ws) ∷ [])
+    → Writes ws p → length s.backs < 32 → n < 4095 → Walk (open_solid start done s n) ((codes "back" ∷ ws) ∷ [])
     (open_solid start done (with_back (n + 1) p s) (n + 1))
 back_walk start done s n ws p is few more =
     subst (λ (ss : List SolidView). Walk (open_solid start done s n) ((codes "back" ∷ ws) ∷ [])
@@ -250,8 +202,7 @@ back_walk start done s n ws p is few more =
     ∙ room_in kind.Backs p (length s.backs) n is.within few more))
 
 side_walk : (start : DraftView) (done : List SolidView) (s : SolidView) (n : ℕ) (p : Linear) → IsPlane p
-    → length s.sides < 32
-    → Walk (open_solid start done s n) ((codes "side" ∷ words_of_plane p) ∷ [])
+    → length s.sides < 32 → Walk (open_solid start done s n) ((codes "side" ∷ words_of_plane p) ∷ [])
     (open_solid start done (with_side p s) n)
 side_walk start done s n p is few =
     subst (λ (ss : List SolidView). Walk (open_solid start done s n) ((codes "side" ∷ words_of_plane p) ∷ [])
@@ -263,21 +214,15 @@ side_walk start done s n p is few =
 
 -- sides behind others
 pub sides_walk : (start : DraftView) (done : List SolidView) (s : SolidView) (n : ℕ) (ps before : List Linear)
-    → All IsPlane ps → length before + length ps ≤ 32
-    → Walk (open_solid start done (record s { sides = before }) n)
-    (map (λ p. codes "side" ∷ words_of_plane p) ps)
-    (open_solid start done (record s { sides = before ++ ps }) n)
+    → All IsPlane ps → length before + length ps ≤ 32 → Walk (open_solid start done (record s { sides = before }) n)
+    (map (λ p. codes "side" ∷ words_of_plane p) ps) (open_solid start done (record s { sides = before ++ ps }) n)
 sides_walk start done s n [] before all few =
     ap (λ ps. open_solid start done (record s { sides = ps }) n) (sym (append-nil before))
 sides_walk start done s n (p ∷ ps) before all few =
     let first = side_walk start done (record s { sides = before }) n p (all 0 p (omega arith)) (omega arith)
     in let later = sides_walk start done s n ps (before ++ p ∷ []) (λ k d lt. all (suc k) d (omega arith))
     (omega (arith, length-append before (p ∷ [])))
-    in rw (append_assoc before (p ∷ []) ps) at
-    (walk_both (open_solid start done (record s { sides = before }) n)
-    (open_solid start done (record s { sides = before ++ p ∷ [] }) n)
-    (open_solid start done (record s { sides = (before ++ p ∷ []) ++ ps }) n)
-    ((codes "side" ∷ words_of_plane p) ∷ []) (map (λ q. codes "side" ∷ words_of_plane q) ps) first later)
+    in grind (arith, append_assoc, walk_both, codes)
 
 -- before a solid is written
 abbrev pub due_behind_solids : List SolidView → Due
@@ -318,17 +263,10 @@ due_show (s ∷ ss) = refl
 -- the line of the expression, and the end
 pub show_walk : (start : DraftView) (done : List SolidView) (n : ℕ) (tree : Tree) → AreDistinctNames (names_of done)
     → HasLeavesBelow (length (names_of done)) tree → has_signs start.version (named_by (names_of done) tree) ≡ true
-    → IsLawfulTree tree
-    → Walk (standing start done n) ((codes "show" ∷ printed (named_by (names_of done) tree) ∷ []) ∷ [])
-    (shown_draft start done n d.End (Some tree))
+    → IsLawfulTree tree → Walk (standing start done n)
+    ((codes "show" ∷ printed (named_by (names_of done) tree) ∷ []) ∷ []) (shown_draft start done n d.End (Some tree))
 show_walk start done n tree names below signs lawful =
-    let shown = named_by (names_of done) tree
-    in let named = names_lawful (names_of done) tree names.lawful below
-    in subst (λ (t : Option Tree). Walk (standing start done n) ((codes "show" ∷ printed shown ∷ []) ∷ [])
-    (shown_draft start done n d.End t)) (printed_tree start.version (names_of done) tree names below signs)
-    (line_walk (standing start done n) (codes "show" ∷ printed shown ∷ []) (codes "show") (words_of (printed shown))
-    (show (words_of (printed shown))) (show_fed shown named) (show_read shown named) (due_show done) refl
-    (printed_good start.version (names_of done) tree names below signs lawful))
+    grind (arith, names_lawful, codes, printed_tree, line_walk, show_fed, show_read, due_show, printed_good)
 
 pub end_walk : (start : DraftView) (done : List SolidView) (n : ℕ) (tree : Option Tree)
     → Walk (shown_draft start done n d.End tree) ((codes "end" ∷ []) ∷ []) (shown_draft start done n d.Nothing tree)

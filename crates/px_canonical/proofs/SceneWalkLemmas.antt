@@ -1,16 +1,10 @@
 -- The lines of all solids, and of a whole scene.
-use Rattle.std.proofs.Common.{◌≡◌, ◌≢◌, ℕ, ◌+◌, ◌<◌, ◌≤◌, ◌==◌, if◌then◌else◌, not, List, [], ◌∷◌, ◌++◌, length, Bool}
-use Rattle.std.proofs.Common.{true, false, ◌||◌, codes, map, Some, refl, ap, sym, subst, ◌∙◌, arith}
-use Rattle.std.proofs.Common.{append_assoc, append-nil, length-append, zero-add}
-use Prim.Native.Nat.{suc}
-use Rattle.std.specs.List.{All, AllPass, AllPairs, flat_map, range_with_len}
-use Rattle.std.specs.Str.{bytes_eq}
-use Rattle.std.proofs.Math.Seq.{get_or-append_seam}
-use Rattle.std.proofs.lemmas.Bool.Decides.{nat_tests}
-use Rattle.std.proofs.lemmas.List.{length-map}
-use Rattle.std.proofs.lemmas.Slice.Eq.{bytes_eq-Decides}
+use Rattle.px_num.proofs.Basics.{◌≡◌, ◌≢◌, ℕ, ◌+◌, ◌<◌, ◌≤◌, ◌==◌, if◌then◌else◌, not, List, [], ◌∷◌, ◌++◌, length}
+use Rattle.px_num.proofs.Basics.{Bool, true, false, ◌||◌, codes, map, Some, refl, ap, sym, subst, ◌∙◌, arith}
+use Rattle.px_num.proofs.Basics.{append_assoc, append-nil, length-append, suc, All, AllPass, AllPairs, flat_map}
+use Rattle.px_num.proofs.Basics.{range_with_len, bytes_eq, get_or-append_seam, length-map, bytes_eq-Decides}
+use Rattle.std.proofs.Common.{zero-add}
 use Rattle.px_expr.specs.Tree.{HasLeavesBelow}
-use Rattle.px_scene.specs.declared.line.Due.TheVariants as d
 use Rattle.px_text.specs.Text.{Words, is_name}
 use Rattle.px_show.specs.Expressions.{is_among}
 use Rattle.px_show.specs.Printed.{printed, named_by}
@@ -20,14 +14,15 @@ use Rattle.px_model.proofs.FaceLaws.{faces_of-cons}
 use Rattle.px_canonical.specs.Writable.{IsWritable}
 use Rattle.px_scene.specs.Drafts.{DraftView, fresh_solid, blank}
 use Rattle.px_show.specs.Versions.{has_difference, has_differ}
-use Rattle.px_show.specs.declared.scene_version.Version.TheVariants as v
 use Rattle.px_canonical.specs.Canonical.{version_for, words_of_plane, colour_words}
 use Rattle.px_canonical.proofs.CutLemmas.{none_below, all_below}
 use Rattle.px_show.proofs.PrintedLaws.{signs_of}
 use Rattle.px_canonical.proofs.WalkLaws.{Walk, walk_both}
-use Rattle.px_canonical.proofs.RoundLaws.{CanWrite, begin_walk, begin_words, end_walk, open_solid, opened}
-use Rattle.px_canonical.proofs.RoundLaws.{show_walk, shown_draft, sides_walk, solid_walk, standing, stands}
+use Rattle.px_canonical.proofs.RoundLaws.{CanWrite, begin_walk, begin_words, end_walk, open_solid, opened, show_walk}
+use Rattle.px_canonical.proofs.RoundLaws.{shown_draft, sides_walk, solid_walk, standing, stands}
 use Rattle.px_canonical.proofs.FaceWalkLemmas.{part, words_of_number, faces_walk}
+use Rattle.px_scene.specs.declared.line.Due.TheVariants as d
+use Rattle.px_show.specs.declared.scene_version.Version.TheVariants as v
 
 abbrev pub head_words : SolidView → Words
 head_words s = codes "solid" ∷ s.name ∷ colour_words s.colour
@@ -43,21 +38,16 @@ solid_words s = ((head_words s ∷ []) ++ numbers_words s) ++ sides_words s
 
 begun : (s : SolidView) (n : ℕ) → IsLawfulSolid s → s.near_number ≡ n + 1
     → fresh_solid s.name (n + 1) s.colour ≡ part s (s.near_number + 1)
-begun s n ok near = rw (
-  none_below s.near_number s.fronts ok.fronts.numbers,
-  none_below s.near_number s.backs ok.backs.numbers,
-  near,
-) refl
+begun s n ok near = grind (arith, none_below)
 
 ended : (s : SolidView) (m : ℕ) → All (λ f. f.number < m) s.fronts → All (λ f. f.number < m) s.backs
     → part s m ≡ record s { sides = [] }
 ended s m fronts backs = rw (all_below m s.fronts fronts, all_below m s.backs backs) refl
 
 whole_solid : (start : DraftView) (done : List SolidView) (s : SolidView) (n : ℕ) → IsLawfulSolid s
-    → IsNumberedFrom (n + 1) s → n + faces_in s ≤ 4095
-    → is_name s.name ≡ true → is_among (names_of done) s.name ≡ false → length done < 255
-    → Walk (standing start done n) (solid_words s)
-    (standing start (done ++ s ∷ []) (n + faces_in s))
+    → IsNumberedFrom (n + 1) s → n + faces_in s ≤ 4095 → is_name s.name ≡ true → is_among (names_of done) s.name ≡ false
+    → length done < 255
+    → Walk (standing start done n) (solid_words s) (standing start (done ++ s ∷ []) (n + faces_in s))
 whole_solid start done s n ok is most lawful fresh few =
     let near = is.near
     in let count = length s.fronts + length s.backs
@@ -105,15 +95,10 @@ names_end [] s = refl
 names_end (q ∷ done) s = ap (λ ns. q.name ∷ ns) (names_end done s)
 
 pub solids_walk : (start : DraftView) (ss done : List SolidView) (n : ℕ) → All IsLawfulSolid ss
-    → AreNumberedFrom (n + 1) ss → n + faces_of ss ≤ 4095
-    → AllPass is_name (names_of ss) → AllPairs (λ m n. m ≢ n) (names_of done ++ names_of ss)
-    → length done + length ss ≤ 255
-    → Walk (standing start done n) (flat_map solid_words ss)
-    (standing start (done ++ ss) (n + faces_of ss))
-solids_walk start [] done n ok are most lawful different few =
-    let same : n ≡ n + 0 = omega arith
-    in ap (standing start done) same
-    ∙ ap (λ ss. standing start ss (n + 0)) (sym (append-nil done))
+    → AreNumberedFrom (n + 1) ss → n + faces_of ss ≤ 4095 → AllPass is_name (names_of ss)
+    → AllPairs (λ m n. m ≢ n) (names_of done ++ names_of ss) → length done + length ss ≤ 255
+    → Walk (standing start done n) (flat_map solid_words ss) (standing start (done ++ ss) (n + faces_of ss))
+solids_walk start [] done n ok are most lawful different few = grind (arith, standing, append-nil)
 solids_walk start (s ∷ ss) done n ok are most lawful different few =
     let counted = faces_of-cons s ss
     in let first = whole_solid start done s n (ok 0 s (omega arith)) are.0 (omega arith)
@@ -128,12 +113,8 @@ solids_walk start (s ∷ ss) done n ok are most lawful different few =
     (omega (arith, length-append done (s ∷ [])))
     in let end : standing start ((done ++ s ∷ []) ++ ss) (n + faces_in s + faces_of ss)
     ≡ standing start (done ++ s ∷ ss) (n + faces_of (s ∷ ss)) =
-    ap (λ qs. standing start qs (n + faces_in s + faces_of ss)) (append_assoc done (s ∷ []) ss)
-    ∙ ap (standing start (done ++ s ∷ ss)) (omega arith)
-    in subst (λ (after : DraftView). Walk (standing start done n) (flat_map solid_words (s ∷ ss)) after) end
-    (walk_both (standing start done n) (standing start (done ++ s ∷ []) (n + faces_in s))
-    (standing start ((done ++ s ∷ []) ++ ss) (n + faces_in s + faces_of ss)) (solid_words s)
-    (flat_map solid_words ss) first later)
+    grind (arith, standing, append_assoc)
+    in grind (arith, standing, walk_both)
 
 abbrev pub first_words : SceneView → List Words
 first_words scene = begin_words (version_for scene) scene.width scene.height scene.depth_bits scene.fraction_bits
@@ -161,13 +142,7 @@ final_draft scene = shown_draft (start_of scene) scene.solids (faces_of scene.so
 -- the version of a scene writes its fraction bits and its signs
 can_write : (fraction : ℕ) (differs : Bool)
     → CanWrite (if fraction == 0 then (if differs then v.Two else v.One) else v.Three) fraction
-can_write fraction differs = by_test (fraction == 0) differs (λ same. grind (arith, nat_tests))
-  where
-    by_test : (whole differs : Bool) → (whole ≡ true → fraction ≡ 0)
-        → CanWrite (if whole then (if differs then v.Two else v.One) else v.Three) fraction
-    by_test true true none = none refl
-    by_test true false none = none refl
-    by_test false differs none = tt
+can_write fraction differs = grind arith
 
 has_signs_for : (whole differs : Bool)
     → has_differ (if whole then (if differs then v.Two else v.One) else v.Three) || not differs ≡ true

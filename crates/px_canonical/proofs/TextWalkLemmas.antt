@@ -1,7 +1,6 @@
 -- The canonical text of a scene is read as it.
-use Rattle.std.proofs.Common.{◌≡◌, ℕ, ◌≤◌, List, [], ◌++◌, length, take, codes, refl, ap, sym, subst, ◌∙◌}
-use Rattle.std.specs.List.{All, flat_map}
-use Rattle.std.proofs.lemmas.List.{take_all}
+use Rattle.px_num.proofs.Basics.{arith, ◌≡◌, ℕ, ◌≤◌, List, [], ◌++◌, length, take, codes, refl, sym, subst, All}
+use Rattle.px_num.proofs.Basics.{flat_map, take_all}
 use Rattle.px_expr.specs.Tree.{IsLawfulTree}
 use Rattle.px_model.specs.Scenes.{IsLawfulScene, IsLawfulSolid, SceneView}
 use Rattle.px_canonical.specs.Canonical.{canonical_text, first_lines, show_line, solid_lines, written_line}
@@ -26,8 +25,7 @@ parts_read scene count begun shown text every first next last law solids show =
     in let start = first_lines scene
     in let end = written_line (codes "end") []
     in let is : text ≡ canonical_text scene =
-    last ∙ ap (λ t. t ++ end) (next ∙ ap (λ t. t ++ show_line scene)
-    (first ∙ ap (λ ss. start ++ flat_map solid_lines ss) all))
+    grind arith
     in let writable : IsWritable scene =
     record { lawful = law; solids = subst (All IsLawfulSolid) all solids; show = show }
     in subst (λ (t : List ℕ). IsReadAs t scene) (sym is) (canonical_read scene writable)

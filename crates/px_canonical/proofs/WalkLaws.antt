@@ -1,17 +1,17 @@
 -- Lines none of which is bad, one after another, as they are written, and what they come to.
-use Rattle.std.proofs.Common.{◌≡◌, ℕ, ◌+◌, ◌≤◌, ◌^◌, List, [], ◌∷◌, ◌++◌, length, map, Bool, true, false, if◌then◌else◌}
-use Rattle.std.proofs.Common.{None, Result, Ok, Err, refl, ap, sym, ◌∙◌, append_assoc, append-nil}
-use Rattle.std.specs.List.{list_all}
-use Rattle.px_show.specs.Judged.{at_line, first_bad}
+use Rattle.px_num.proofs.Basics.{arith, ◌≡◌, ℕ, ◌≤◌, ◌^◌, List, [], ◌∷◌, ◌++◌, length, map, Bool, true, false}
+use Rattle.px_num.proofs.Basics.{if◌then◌else◌, None, Result, Ok, Err, refl, ap, sym, ◌∙◌, append_assoc, append-nil}
+use Rattle.px_num.proofs.Basics.{list_all}
+use Rattle.px_show.specs.Judged.{first_bad}
 use Rattle.px_show.specs.declared.fault.Cause.{Cause}
 use Rattle.px_text.specs.Text.{Words, words_of, worded}
 use Rattle.px_text.specs.Written.{are_plain, is_plain}
 use Rattle.px_text.proofs.PlainLaws.{both}
 use Rattle.px_text.proofs.SpacedLaws.{lines_read, words_read}
-use Rattle.px_scene.specs.Drafts.{DraftView, blank, draft_of, drawn, fault_by, fault_in, form_in, taken, taken_by}
-use Rattle.px_scene.specs.Lines.{Form, form_of, is_due, keyword_of, not_due}
+use Rattle.px_scene.specs.Drafts.{DraftView, blank, draft_of, drawn, fault_by, fault_in, taken, taken_by}
+use Rattle.px_scene.specs.Lines.{Form, form_of, is_due, keyword_of}
 use Rattle.px_scene.specs.Reading.{fault_behind, is_nothing}
-use Rattle.px_scene.proofs.DraftLaws.{says_more, short, told}
+use Rattle.px_scene.proofs.DraftLaws.{says_more, short}
 use Rattle.px_canonical.specs.Writable.{IsReadAs}
 use Rattle.px_canonical.proofs.WrittenLaws.{bare, bare_fed, has_no_feed, is_written, text_of_lines, words_behind}
 
@@ -40,14 +40,7 @@ pub line_walk : (draft : DraftView) (l : Words) (w : List ℕ) (ws : Words) (for
     → words_behind l ≡ w ∷ ws → is_due draft.due (keyword_of w) ≡ true
     → form_of draft.version (keyword_of w) ws ≡ Ok form → fault_by draft (Ok form) ≡ None
     → Walk draft (l ∷ []) (taken_by draft (Ok form))
-line_walk draft l w ws form fed words due reads none =
-    let says : form_in draft w ws ≡ Ok form =
-    by_due (is_due draft.due (keyword_of w)) (form_of draft.version (keyword_of w) ws) (not_due draft.due) form due
-    reads
-    in (
-      record { fed = fed; good = ap (fault_in draft) words ∙ ap (fault_by draft) says ∙ none },
-      ap (taken draft) words ∙ ap (taken_by draft) says,
-    )
+line_walk draft l w ws form fed words due reads none = grind (arith, by_due)
 
 -- the same of plain words
 pub form_walk : (draft : DraftView) (w : List ℕ) (ws : Words) (form : Form) → is_written (w ∷ ws) ≡ true
@@ -64,21 +57,16 @@ record IsWalked (before ls : List Words) (last : DraftView) : Type 0 where
 
 walked : (draft last : DraftView) (before ls : List Words) → draft ≡ draft_of before → Walk draft ls last
     → IsWalked before ls last
-walked draft last before [] says walk = record {
-  fed = refl;
-  good = refl;
-  says = sym walk ∙ says ∙ ap draft_of (sym (append-nil before));
-}
+walked draft last before [] says walk = grind (arith, append-nil)
 walked draft last before (l ∷ ls) says walk =
-    let words = words_behind l
-    in let later = map words_of (map bare ls)
-    in let more = walked (taken draft words) last (before ++ words ∷ []) ls (says_more draft before words says) walk.1
-    in record {
-      fed = rw (walk.0.fed, more.fed) refl;
-      good = ap (λ f. at_line (length before + 1) f (first_bad fault_behind (before ++ words ∷ []) later))
-          (told draft before words says ∙ walk.0.good) ∙ more.good;
-      says = more.says ∙ ap draft_of (append_assoc before (words ∷ []) later);
-    }
+    grind (
+      arith,
+      words_behind,
+      bare,
+      append_assoc,
+      walked (taken draft (words_behind l)) last (before ++ (words_behind l) ∷ []) ls
+          (says_more draft before (words_behind l) says) walk.1,
+    )
 
 pub read_by_walk : (text : List ℕ) (ls : List Words) (last : DraftView) → text ≡ text_of_lines ls
     → length text ≤ 2 ^ 20 → Walk blank ls last → is_nothing last.due ≡ true → IsReadAs text (drawn last)
@@ -90,7 +78,4 @@ read_by_walk text ls last is few walk ended =
     in let good : first_bad fault_behind [] (worded text) ≡ None = ap (first_bad fault_behind []) words ∙ all.good
     in let due : is_nothing last.due ≡ is_nothing (draft_of (worded text)).due =
     ap (λ (d : DraftView). is_nothing d.due) says
-    in record {
-      good = rw (short text few, good, ← due, ended) refl;
-      read = ap drawn (sym says);
-    }
+    in grind (arith, short)

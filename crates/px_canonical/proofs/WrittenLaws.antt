@@ -1,14 +1,13 @@
 -- Lines by their words: what is written of them, and what is read of that.
-use Rattle.std.proofs.Common.{◌≡◌, ℕ, List, [], ◌∷◌, ◌++◌, Bool, true, false, ◌&&◌, map}
-use Rattle.std.proofs.Common.{◌^◌, refl, ap, sym, ◌∙◌, arith, append_assoc, append-nil}
-use Rattle.std.specs.List.{flat_map, list_all}
-use Rattle.std.proofs.lemmas.List.Folds.{list_all-append}
+use Rattle.px_num.proofs.Basics.{nat_tests, common_steps, ◌≡◌, ℕ, List, [], ◌∷◌, ◌++◌, Bool, true, false, ◌&&◌, map}
+use Rattle.px_num.proofs.Basics.{refl, ap, sym, ◌∙◌, arith, append_assoc, append-nil, flat_map, list_all}
+use Rattle.px_num.proofs.Basics.{list_all-append}
 use Rattle.px_num.specs.declared.linear.Linear.{Linear}
 use Rattle.px_model.specs.declared.solid.Colour.{Colour}
 use Rattle.px_model.specs.Scenes.{IsColour, IsPlane}
-use Rattle.px_text.specs.Text.{Words, words_of, is_some_byte}
+use Rattle.px_text.specs.Text.{Words, words_of}
 use Rattle.px_canonical.specs.Canonical.{written_line, words_of_plane, colour_words}
-use Rattle.px_text.specs.Written.{spaced, fed, is_plain, are_plain, is_plain_byte, is_no_feed}
+use Rattle.px_text.specs.Written.{spaced, fed, is_plain, are_plain, is_no_feed}
 use Rattle.px_text.proofs.PlainLaws.{both, plain_fed, spaced_fed, decimal_plain, signed_plain}
 use Rattle.px_text.proofs.LineLaws.{small_size}
 
@@ -26,8 +25,7 @@ text_of_lines ls = fed (map bare ls)
 
 joined : (ls ms : List Words) → text_of_lines (ls ++ ms) ≡ text_of_lines ls ++ text_of_lines ms
 joined [] ms = refl
-joined (l ∷ ls) ms = ap (λ t. (bare l ++ 10 ∷ []) ++ t) (joined ls ms)
-    ∙ sym (append_assoc (bare l ++ 10 ∷ []) (text_of_lines ls) (text_of_lines ms))
+joined (l ∷ ls) ms = grind (arith, append_assoc, joined ls ms)
 
 pub one_line : (w : List ℕ) (ws : Words) → written_line w ws ≡ text_of_lines ((w ∷ ws) ∷ [])
 unfolding written_line
@@ -42,39 +40,25 @@ both_texts ls ms u w one two = ap (λ t. t ++ w) one ∙ ap (λ t. text_of_lines
 pub lines_are : {X : Type 0} (kind : List ℕ) (words : X → Words) (xs : List X)
     → flat_map (λ x. written_line kind (words x)) xs ≡ text_of_lines (map (λ x. kind ∷ words x) xs)
 lines_are kind words [] = refl
-lines_are kind words (x ∷ xs) =
-    both_texts ((kind ∷ words x) ∷ []) (map (λ y. kind ∷ words y) xs) _ _ (one_line kind (words x))
-    (lines_are kind words xs)
+lines_are kind words (x ∷ xs) = grind (arith, nat_tests, common_steps, both_texts, one_line, lines_are kind words xs)
 
 -- lines for each of some
 pub parts_are : {X : Type 0} (part : X → List ℕ) (words : X → List Words) → ((x : X) → part x ≡ text_of_lines (words x))
     → (xs : List X) → flat_map part xs ≡ text_of_lines (flat_map words xs)
 parts_are part words are [] = refl
-parts_are part words are (x ∷ xs) =
-    both_texts (words x) (flat_map words xs) _ _ (are x) (parts_are part words are xs)
+parts_are part words are (x ∷ xs) = both_texts (words x) (flat_map words xs) _ _ (are x) (parts_are part words are xs)
 
 -- colours and planes are written in plain words
 pub colour_plain : (c : Colour) → IsColour c → are_plain (colour_words c) ≡ true
-colour_plain c is =
-    let red = is.red in let green = is.green in let blue = is.blue
-    in rw (decimal_plain c.red (omega arith), decimal_plain c.green (omega arith), decimal_plain c.blue (omega arith))
-    refl
+colour_plain c is = grind (arith, decimal_plain)
 
 pub plane_plain : (p : Linear) → IsPlane p → are_plain (words_of_plane p) ≡ true
-plane_plain p is =
-    rw (
-      signed_plain p.a (small_size (2 ^ 23) p.a (omega arith) is.a),
-      signed_plain p.b (small_size (2 ^ 23) p.b (omega arith) is.b),
-      signed_plain p.c (small_size (2 ^ 33) p.c (omega arith) is.c),
-    ) refl
+plane_plain p is = grind (arith, nat_tests, common_steps, signed_plain, small_size)
 
 -- a line of plain words is one line, and is read as those words
 pub bare_fed : (l : Words) → is_written l ≡ true → list_all is_no_feed (bare l) ≡ true
 bare_fed [] e = cc
-bare_fed (w ∷ ws) e =
-    let each = both (is_plain w) (are_plain ws) e
-    in let first = both (is_some_byte w) (list_all is_plain_byte w) each.0
-    in list_all-append is_no_feed w (spaced ws) ∙ rw (plain_fed w first.1, spaced_fed ws each.1) refl
+bare_fed (w ∷ ws) e = grind (arith, both, list_all-append, plain_fed, spaced_fed)
 
 abbrev pub has_no_feed : List ℕ → Bool
 has_no_feed l = list_all is_no_feed l

@@ -1,5 +1,5 @@
 -- The array after some broadcasts of a scene keeps the scene's columns and rows.
-use Rattle.std.proofs.Common.{◌≡◌, ℕ, take}
+use Rattle.px_num.proofs.Basics.{◌≡◌, ℕ, take}
 use Rattle.px_array.specs.Arrays.{zero_state}
 use Rattle.px_array.proofs.ClockLaws.{nx-after_clocks, ny-after_clocks}
 use Rattle.px_model.specs.Scenes.{SceneView}

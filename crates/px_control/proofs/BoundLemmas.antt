@@ -1,17 +1,11 @@
 -- A scene of few products takes less than 2 ^ 43 clocks, and at least one for each operation.
-use Rattle.std.proofs.Common.{◌≡◌, ℕ, ◌+◌, ◌-◌, ◌*◌, ◌^◌, ◌==◌, ◌<◌, ◌≤◌, false, List, [], ◌∷◌, length, get_or}
-use Rattle.std.proofs.Common.{refl, ap}
-use Rattle.std.proofs.Common.{sym, subst, arith, inl, inr}
-use Rattle.std.specs.List.{All, sum_by}
-use Rattle.std.proofs.lemmas.Bool.{cases_Bool}
-use Rattle.std.proofs.lemmas.Bool.Decides.{nat_tests}
-use Rattle.std.proofs.lemmas.List.Elements.{All-head, All-tail, All-weaker}
-use Rattle.std.proofs.lemmas.List.Sums.{sum_by-cons, sum_by-le}
+use Rattle.px_num.proofs.Basics.{rules, ◌≡◌, ℕ, ◌+◌, ◌-◌, ◌*◌, ◌^◌, ◌<◌, ◌≤◌, false, List, [], ◌∷◌, length, get_or}
+use Rattle.px_num.proofs.Basics.{refl, ap, sym, subst, arith, All, sum_by, All-head, All-tail, All-weaker, sum_by-cons}
+use Rattle.px_num.proofs.Basics.{sum_by-le}
 use Rattle.std.proofs.lemmas.Nat.{mul-le}
 use Rattle.px_face.specs.EdgeLaws.{EdgesAreCounted}
 use Rattle.px_face.specs.Faces.{face_count, level}
 use Rattle.px_macro.specs.declared.operation.Macro.{Macro}
-use Rattle.px_macro.specs.declared.operation.Macro.TheVariants as m
 use Rattle.px_expr.specs.Tree.{HasLeavesBelow, Tree}
 use Rattle.px_expr.proofs.LeafLaws.{leaves_below}
 use Rattle.px_normal.specs.declared.product.Product.{Product}
@@ -26,7 +20,7 @@ use Rattle.px_sched.specs.declared.step.Step.TheVariants.{Candidate}
 use Rattle.px_sched.specs.Layouts.{LayoutView, layout_of}
 use Rattle.px_sched.specs.Passes.{literals, operations, passes, product_steps, solid_of, steps_with}
 use Rattle.px_sched.specs.Steps.{HasFace, IsThere}
-use Rattle.px_sched.specs.Worths.{bare, edges_in, judged_worth, share_worth}
+use Rattle.px_sched.specs.Worths.{bare, edges_in, share_worth}
 use Rattle.px_control.specs.Program.{columns_of, cycles_in, rows_of, total}
 use Rattle.px_control.specs.declared.measure.Measure.TheVariants.{Clocks}
 use Rattle.px_control.proofs.CostLemmas.{blind, total_is}
@@ -38,6 +32,7 @@ use Rattle.px_sched.proofs.LawfulLaws.{passes_are}
 use Rattle.px_sched.proofs.LayoutLaws.{bit_length_most, scene_layout}
 use Rattle.px_sched.proofs.OperationLaws.{HoldsOf, each_pass, steps_there}
 use Rattle.px_sched.proofs.WorthLaws.{counted, flat_sum, steps_sum, weighed}
+use Rattle.px_macro.specs.declared.operation.Macro.TheVariants as m
 
 -- what the lower crates know of the solids of products
 pub record AreKnown : Type 0 where
@@ -52,8 +47,7 @@ pub kept_known : (scene : SceneView) → IsLawfulScene scene → AreKnown →
     All (HasSolidsBelow (length scene.solids)) (kept_of scene (sum_of_products scene.show))
 kept_known scene lawful known =
     let shown = leaves_below (length scene.solids) 256 (omega (arith, lawful.solids)) scene.show lawful.shown
-    in known.kept (length scene.solids) scene (sum_of_products scene.show)
-    (known.whole (length scene.solids) scene.show shown lawful.shown)
+    in search (rules, known.kept, known.whole)
 
 -- a solid adds no more steps to a product as a literal: for each of its faces one as a candidate, one where it
 -- confirms one, and one for each of at most 254 other literals
@@ -62,20 +56,12 @@ most_added s = face_count s * 256 + 512
 
 few_shared : (scene : SceneView) (others : ℕ) (q : Literal) → others ≤ 254
     → share_worth once scene others q ≤ most_added (solid_of scene q.solid)
-few_shared scene others q few =
-    let s = solid_of scene q.solid in
-    omega (
-      arith,
-      few_candidates s q.plain,
-      few_confirm scene q,
-      mul-le others (judged_worth once scene q) 254 (face_count s + 2) few (omega arith),
-    )
+few_shared scene others q few = grind (arith, few_candidates, few_confirm, mul-le, once)
 
 -- what all solids add
 weights_sum : (ss : List SolidView) → sum_by most_added ss ≡ (faces_of ss + length ss) * 256 + length ss * 512
 weights_sum [] = refl
-weights_sum (s ∷ ss) =
-    omega (arith, sum_by-cons most_added s ss, sum_by-cons faces_in s ss, weights_sum ss)
+weights_sum (s ∷ ss) = omega (arith, sum_by-cons most_added s ss, sum_by-cons faces_in s ss, weights_sum ss)
 
 module _ (count : EdgesAreCounted) (scene : SceneView) (lawful : IsLawfulScene scene)
     (each : All IsLawfulSolid scene.solids) where
@@ -86,21 +72,13 @@ module _ (count : EdgesAreCounted) (scene : SceneView) (lawful : IsLawfulScene s
   taken = cycles_in scene
 
   levels : columns_of scene + rows_of scene ≤ 18
-  levels =
-      omega (
-        arith,
-        (exponent_between scene.width lawful.sizes.width_limit).1,
-        (exponent_between scene.height lawful.sizes.height_limit).1,
-      )
+  levels = grind (arith, exponent_between)
 
   number_most : l.number_bits ≤ 12
   number_most = bit_length_most (faces_of scene.solids)
 
   few_bare : (step : Step) → sum_by taken (bare l (depths_of scene) step) ≤ 410
-  few_bare (Candidate solid face) = elim (cases_Bool (scene.fraction_bits == 0)) [
-    | inl none ↦ rw none (omega (arith, levels, lawful.sizes.depth_limit, number_most))
-    | inr some ↦ rw some (omega (arith, levels, lawful.sizes.depth_limit, lawful.sizes.fraction_limit, number_most))
-  ]
+  few_bare (Candidate solid face) = grind (arith, levels, number_most)
   few_bare step = omega (arith, levels, lawful.sizes.depth_limit, number_most)
 
   -- the clocks of a step
@@ -116,14 +94,7 @@ module _ (count : EdgesAreCounted) (scene : SceneView) (lawful : IsLawfulScene s
 
   few_literals : (product : Product) → HasSolidsBelow (length scene.solids) product → is_void product ≡ false →
       length (literals product) ≤ 255
-  few_literals product known apart =
-      omega (
-        arith,
-        counted (literals product),
-        counted scene.solids,
-        literals_few once scene.solids once product known apart (λ q there. omega arith),
-        lawful.solids,
-      )
+  few_literals product known apart = grind (arith, counted, literals_few, once)
 
   few_added : (product : Product) → HasSolidsBelow (length scene.solids) product → is_void product ≡ false →
       sum_by once (product_steps scene product) ≤ 1244160
@@ -173,25 +144,7 @@ paid f (x ∷ xs) all =
     )
 
 each_paid : (scene : SceneView) → IsLawfulScene scene → HoldsOf scene (layout_of scene) (λ m. 1 ≤ cycles_in scene m)
-each_paid scene lawful = record {
-  all = omega arith;
-  best = omega (arith, lawful.sizes.some_depth);
-  alive = λ v. omega arith;
-  par = omega arith;
-  turned = omega arith;
-  where_alive = omega arith;
-  where_par = λ v. omega arith;
-  less = omega arith;
-  copy = omega (arith, lawful.sizes.some_depth);
-  faces = record {
-    cleared = λ some. grind (arith, nat_tests);
-    number = λ solid face. omega (arith, (scene_layout scene lawful).some_number);
-    signs = λ solid face there k d low. omega arith;
-    load = λ solid face there. omega arith;
-    at_most = λ solid face there. omega arith;
-    behind = λ solid face there. omega arith;
-  };
-}
+each_paid scene lawful = grind (arith, scene_layout)
 
 pub some_clocks : (scene : SceneView) → IsLawfulScene scene → length (passes scene) ≤ total scene
 some_clocks scene lawful =

@@ -1,15 +1,11 @@
 -- What the passes of a scene come to, by the rates of their steps.
-use Rattle.std.proofs.Common.{false, ◌≡◌, ◌==◌, ◌<◌, ◌∙◌, ℕ, All, List, length, get_or, refl, ap, sym, subst}
-use Rattle.std.proofs.Common.{arith, inl, inr}
-use Rattle.std.specs.List.{sum_by}
-use Rattle.std.proofs.lemmas.Bool.{cases_Bool}
-use Rattle.std.proofs.lemmas.List.Concat.{length-flat_map}
+use Rattle.px_num.proofs.Basics.{false, ◌≡◌, ◌==◌, ◌<◌, ◌∙◌, ℕ, All, List, length, get_or, refl, ap, sym, arith, inl}
+use Rattle.px_num.proofs.Basics.{inr, sum_by, cases_Bool, length-flat_map}
 use Rattle.px_num.proofs.ListLaws.{length-tabulate}
-use Rattle.px_asm.specs.Micros.{all_micros, cycles, micro_at, micros}
+use Rattle.px_asm.specs.Micros.{all_micros}
 use Rattle.px_expr.proofs.LeafLaws.{some_solid}
 use Rattle.px_face.specs.EdgeLaws.{EdgesAreCounted}
 use Rattle.px_macro.specs.declared.operation.Macro.{Macro}
-use Rattle.px_macro.specs.declared.operation.Macro.TheVariants as m
 use Rattle.px_macro.specs.Macros.{IsLawful, IsLawfulInMore}
 use Rattle.px_model.specs.Cells.{depths_of}
 use Rattle.px_model.specs.Scenes.{IsLawfulScene, IsLawfulSolid, SceneView}
@@ -19,7 +15,7 @@ use Rattle.px_normal.specs.Live.{is_void}
 use Rattle.px_prune.specs.Kept.{kept_of}
 use Rattle.px_sched.specs.declared.step.Step.{Step}
 use Rattle.px_sched.specs.declared.step.Step.TheVariants.{Candidate, Drop, Front, Turn}
-use Rattle.px_sched.specs.Layouts.{LayoutView, layout_of, need_of}
+use Rattle.px_sched.specs.Layouts.{LayoutView, layout_of}
 use Rattle.px_sched.specs.Passes.{operations, passes, steps_with}
 use Rattle.px_sched.specs.PassesFacts.{LayoutsAreLawful, StepsAreLawful}
 use Rattle.px_sched.specs.Steps.{HasFace, IsFace, IsStep, IsThere}
@@ -32,36 +28,23 @@ use Rattle.px_control.specs.declared.rates.Rates.{Rates}
 use Rattle.px_control.specs.Costs.{AreRates, bare_worth, but_edges, rated, worth}
 use Rattle.px_control.specs.Program.{columns_of, cycles_in, program, rows_of, total}
 use Rattle.px_control.proofs.ProductLemmas.{products_sum}
+use Rattle.px_macro.specs.declared.operation.Macro.TheVariants as m
 
 -- a face of the first solid
 pub first_face : (scene : SceneView) → IsLawfulScene scene → IsFace scene 0 0
-first_face scene lawful = record {
-  known = some_solid scene.show (length scene.solids) lawful.shown;
-  there = omega arith;
-  few = omega arith;
-}
+first_face scene lawful = grind (arith, some_solid)
 
 -- an operation of a step is lawful in the memory of any array
 pub operation_lawful : StepsAreLawful → LayoutsAreLawful → IsLawfulInMore → (scene : SceneView) → IsLawfulScene scene
     → All IsLawfulSolid scene.solids → (layout : LayoutView) → layout ≡ layout_of scene → (step : Step)
     → IsStep scene step → (at : ℕ) (o : Macro) → at < length (operations scene (layout_of scene) step)
     → o ≡ get_or (operations scene layout step) at m.All → IsLawful o 256
-operation_lawful steps layouts more scene lawful solids layout same step is at o low found =
-    let is_layout = layouts scene lawful in
-    let one = get_or (operations scene (layout_of scene) step) at m.All in
-    let whole : o ≡ one = found ∙ ap (λ l. get_or (operations scene l step) at m.All) same in
-    subst (λ m. IsLawful m 256) (sym whole)
-    (more one (need_of (layout_of scene)) 256 (omega (arith, is_layout.depth, is_layout.number))
-    (steps scene lawful solids step is at m.All low))
+operation_lawful steps layouts more scene lawful solids layout same step is at o low found = grind arith
 
 module _ (scene : SceneView) where
   pub clocked : (ms : List Macro) →
       length (all_micros ms (columns_of scene) (rows_of scene)) ≡ sum_by (cycles_in scene) ms
-  clocked ms =
-      length-flat_map (λ o. micros o (columns_of scene) (rows_of scene)) ms
-      ∙ sum_by-agree (λ o. length (micros o (columns_of scene) (rows_of scene))) (cycles_in scene) ms
-      (λ k d low. length-tabulate (cycles (get_or ms k d) (columns_of scene) (rows_of scene))
-      (micro_at (get_or ms k d) (columns_of scene) (rows_of scene)))
+  clocked ms = grind (arith, length-flat_map, sum_by-agree, length-tabulate)
 
   pub total_is : total scene ≡ sum_by (cycles_in scene) (passes scene)
   unfolding program
@@ -72,22 +55,10 @@ module _ (count : EdgesAreCounted) (scene : SceneView) (measure : Measure) where
   l = layout_of scene
 
   pub blind : IsBlind (worth scene measure)
-  blind = record {
-    sign = λ form. refl;
-    load = λ form field. refl;
-    at_most = λ form field. refl;
-    constant = λ field n. refl;
-    keep = λ at bit. refl;
-  }
+  blind = grind arith
 
   blind_but_edges : IsBlind (but_edges scene measure)
-  blind_but_edges = record {
-    sign = λ form. refl;
-    load = λ form field. refl;
-    at_most = λ form field. refl;
-    constant = λ field n. refl;
-    keep = λ at bit. refl;
-  }
+  blind_but_edges = grind arith
 
   bare_has_none : (step : Step)
       → sum_by (but_edges scene measure) (bare l (depths_of scene) step) ≡ bare_worth scene measure step
@@ -97,12 +68,7 @@ module _ (count : EdgesAreCounted) (scene : SceneView) (measure : Measure) where
 
   pub counted_bare : (step : Step) → IsStep scene step
       → sum_by (but_edges scene measure) (operations scene l step) ≡ bare_worth scene measure step
-  counted_bare step is =
-      omega (
-        arith,
-        weighed count scene l (but_edges scene measure) blind_but_edges step (is_there scene step is),
-        bare_has_none step,
-      )
+  counted_bare step is = grind (arith, weighed, blind_but_edges, is_there, bare_has_none)
 
   module _ (rates : Rates) (are : AreRates scene measure rates) where
     rated_is : (step : Step) → HasFace (IsThere scene) step

@@ -1,13 +1,9 @@
 -- The ends of operations before and after a clock.
-use Rattle.std.proofs.Common.{◌≡◌, ℕ, zero, suc, ◌+◌, ◌-◌, ◌<◌, ◌≤◌, List, [], ◌∷◌, ◌++◌, length, take}
-use Rattle.std.proofs.Common.{drop, filter, Option, Some, None, refl, ap, ◌∙◌, arith, length-append, add-one}
-use Rattle.std.specs.List.{flat_map, slice_get}
-use Rattle.std.specs.Prelude.{nat_lt, nat_le}
-use Rattle.std.proofs.Math.Seq.{drop-cons}
-use Rattle.std.proofs.lemmas.Bool.{lt-ltb}
-use Rattle.std.proofs.lemmas.Option.{slice_get_within, get_or_from_slice_get}
-use Rattle.std.proofs.lemmas.List.{take_all, take-append-drop}
-use Rattle.std.proofs.lemmas.List.Concat.{flat_map-append, flat_map-cons}
+use Rattle.px_num.proofs.Basics.{◌≡◌, ℕ, zero, suc, ◌+◌, ◌-◌, ◌<◌, ◌≤◌, List, [], ◌∷◌, ◌++◌, length, take, drop, filter}
+use Rattle.px_num.proofs.Basics.{Option, Some, None, refl, ap, ◌∙◌, arith, length-append, add-one, flat_map, slice_get}
+use Rattle.px_num.proofs.Basics.{nat_lt, nat_le, drop-cons, lt-ltb, slice_get_within, get_or_from_slice_get, take_all}
+use Rattle.px_num.proofs.Basics.{take-append-drop, flat_map-cons}
+use Rattle.std.proofs.lemmas.List.Concat.{flat_map-append}
 use Rattle.px_num.proofs.ListLaws.{length-tabulate}
 use Rattle.px_num.proofs.TruthLaws.{le_false, le_true, lt_false}
 use Rattle.px_array.specs.declared.micro.Micro.{Micro}
@@ -37,9 +33,7 @@ start_cons scene x xs k = simp (flat_map-cons, length-append, length-tabulate)
 keep_all : (scene : SceneView) (ms : List Macro) (b n : ℕ) → n < b → filter (λ e. nat_lt n e) (ends_from scene ms b)
     ≡ ends_from scene ms b
 keep_all scene [] b n h = refl
-keep_all scene (x ∷ xs) b n h =
-    let t = lt-ltb n (b + cycles_in scene x) (omega arith) in
-    rw t (ap (λ ys. (b + cycles_in scene x) ∷ ys) (keep_all scene xs (b + cycles_in scene x) n (omega arith)))
+keep_all scene (x ∷ xs) b n h = grind (arith, lt-ltb, keep_all scene xs (b + cycles_in scene x) n (omega arith))
 
 micro_below : (scene : SceneView) (i : ℕ) (x : Macro) (o : Option Macro) → Some x ≡ o → IsMicroOf scene i o
     → i < cycles_in scene x
@@ -47,16 +41,11 @@ micro_below scene i x o e w = rw (← e) at w
 
 -- the ends after a clock are those of the operations from its own on
 pub ends_here : (scene : SceneView) (ms : List Macro) (k i b n : ℕ) (o : Option Macro) → slice_get ms k ≡ o
-    → IsMicroOf scene i o →
-    n ≡ b + (start_in scene ms k + i) →
-    filter (λ e. nat_lt n e) (ends_from scene ms b) ≡ ends_from scene (drop k ms) (b + start_in scene ms k)
+    → IsMicroOf scene i o → n ≡ b + (start_in scene ms k + i)
+    → filter (λ e. nat_lt n e) (ends_from scene ms b) ≡ ends_from scene (drop k ms) (b + start_in scene ms k)
 ends_here scene [] zero i b n o e w h = refl
 ends_here scene [] (suc k) i b n o e w h = refl
-ends_here scene (x ∷ xs) zero i b n o e w h =
-    let l = micro_below scene i x o e w in
-    let t = lt-ltb n (b + cycles_in scene x) (omega arith) in
-    rw (t, keep_all scene xs (b + cycles_in scene x) n (omega arith))
-    (ap (λ z. ends_from scene (x ∷ xs) z) (let z : b ≡ b + start_in scene (x ∷ xs) 0 = omega arith in z))
+ends_here scene (x ∷ xs) zero i b n o e w h = grind (arith, micro_below, lt-ltb, keep_all)
 ends_here scene (x ∷ xs) (suc k) i b n o e w h =
     let s = start_cons scene x xs k in
     let ih = ends_here scene xs k i (b + cycles_in scene x) n o e w (omega arith) in
@@ -66,23 +55,15 @@ ends_here scene (x ∷ xs) (suc k) i b n o e w h =
 none_below : (scene : SceneView) (ms : List Macro) (b n : ℕ) → n < b
     → filter (λ e. nat_le e n) (ends_from scene ms b) ≡ []
 none_below scene [] b n h = refl
-none_below scene (x ∷ xs) b n h =
-    let ih = none_below scene xs (b + cycles_in scene x) n (omega arith) in
-    let t = le_false (b + cycles_in scene x) n (omega arith) in
-    rw (t, ih) refl
+none_below scene (x ∷ xs) b n h = grind (arith, le_false, none_below scene xs (b + cycles_in scene x) n (omega arith))
 
 -- as many operations have ended as stand before the clock's own
 pub operation_here : (scene : SceneView) (ms : List Macro) (k i b n : ℕ) (o : Option Macro) → slice_get ms k ≡ o
-    → IsMicroOf scene i o →
-    n ≡ b + (start_in scene ms k + i) → k ≤ length ms →
-    length (filter (λ e. nat_le e n) (ends_from scene ms b)) ≡ k
+    → IsMicroOf scene i o → n ≡ b + (start_in scene ms k + i) → k ≤ length ms
+    → length (filter (λ e. nat_le e n) (ends_from scene ms b)) ≡ k
 operation_here scene [] zero i b n o e w h l = refl
 operation_here scene [] (suc k) i b n o e w h l = absurd (omega arith)
-operation_here scene (x ∷ xs) zero i b n o e w h l =
-    let r = micro_below scene i x o e w in
-    let ih = none_below scene xs (b + cycles_in scene x) n (omega arith) in
-    let t = le_false (b + cycles_in scene x) n (omega arith) in
-    rw (t, ih) refl
+operation_here scene (x ∷ xs) zero i b n o e w h l = grind (arith, micro_below, none_below, le_false)
 operation_here scene (x ∷ xs) (suc k) i b n o e w h l =
     let s = start_cons scene x xs k in
     let ih = operation_here scene xs k i (b + cycles_in scene x) n o e w (omega arith) (omega arith) in
@@ -103,10 +84,9 @@ start_within scene ms k =
 
 -- the next end is that of the operation that runs
 pub next_end_here : (scene : SceneView) (ms : List Macro) (k i n e : ℕ) (m : Macro) → slice_get ms k ≡ Some m
-    → i < cycles_in scene m →
-    start_in scene ms (k + 1) ≡ start_in scene ms k + cycles_in scene m → IsMicroOf scene 0 (slice_get ms (k + 1)) →
-    n ≡ start_in scene ms k + i → e ≡ n - i + cycles_in scene m →
-    filter (λ x. nat_lt n x) (ends_from scene ms 0) ≡ e ∷ filter (λ x. nat_lt e x) (ends_from scene ms 0)
+    → i < cycles_in scene m → start_in scene ms (k + 1) ≡ start_in scene ms k + cycles_in scene m
+    → IsMicroOf scene 0 (slice_get ms (k + 1)) → n ≡ start_in scene ms k + i → e ≡ n - i + cycles_in scene m
+    → filter (λ x. nat_lt n x) (ends_from scene ms 0) ≡ e ∷ filter (λ x. nat_lt e x) (ends_from scene ms 0)
 next_end_here scene ms k i n e m here micro more next at is =
     let l = slice_get_within ms k m here in
     let g = get_or_from_slice_get ms k m m here in

@@ -1,6 +1,6 @@
 -- What the program leaves in each pixel is what the passes mean there.
-use Rattle.std.proofs.Common.{◌≡◌, ℕ, ◌+◌, ◌*◌, ◌^◌, ◌<◌, false, length, replicate, get_or, ap, ◌∙◌, arith}
-use Rattle.std.proofs.lemmas.List.{get_or-replicate, length-replicate, take_all}
+use Rattle.px_num.proofs.Basics.{◌≡◌, ℕ, ◌+◌, ◌*◌, ◌^◌, ◌<◌, false, length, replicate, get_or, ap, ◌∙◌, arith}
+use Rattle.px_num.proofs.Basics.{get_or-replicate, length-replicate, take_all}
 use Rattle.px_array.specs.Arrays.{no_pixel, pixel_of, zero_state}
 use Rattle.px_array.specs.Clocks.{after_clocks}
 use Rattle.px_asm.specs.Micros.{all_micros}
@@ -49,7 +49,6 @@ picture_law more meanings lawful shown bits scene device law solids at x y left 
     ap (λ d. d.state) at.reached ∙ whole bits scene
     in let memory : (pixel_of device.state x y).memory
     ≡ (after_macros (passes scene) x y (bits_of (zero_pixel bits))).memory =
-    ap (λ s. (pixel_of s x y).memory) state ∙ ap (λ p. p.memory) left_there
-    ∙ ap (λ p. (after_macros (passes scene) x y (bits_of p)).memory) pixel
+    grind arith
     in rw memory (shown scene law solids x y left up (bits_of (zero_pixel bits))
     (omega (arith, at.enough, length-replicate bits false)))

@@ -1,9 +1,8 @@
 -- Where a job stands, one broadcast after another.
-use Rattle.std.proofs.Common.{◌≡◌, ℕ, ◌+◌, ◌-◌, ◌<◌, ◌≤◌, min, List, [], ◌∷◌, length, get_or, Option, Some, None, refl}
-use Rattle.std.proofs.Common.{inl, inr, sym, ap, ◌∙◌, arith}
-use Rattle.std.specs.List.{slice_get}
-use Rattle.std.specs.Prelude.{IfNone, OnSome}
-use Rattle.std.proofs.lemmas.Option.{slice_get_cases, slice_get_within, slice_get-get_or}
+use Rattle.px_num.proofs.Basics.{◌≡◌, ℕ, ◌+◌, ◌-◌, ◌<◌, ◌≤◌, min, List, [], ◌∷◌, length, get_or, Option, Some, None}
+use Rattle.px_num.proofs.Basics.{refl, sym, ap, ◌∙◌, arith, slice_get, IfNone, slice_get_cases, slice_get_within}
+use Rattle.px_num.proofs.Basics.{slice_get-get_or}
+use Rattle.std.specs.Prelude.{OnSome}
 use Rattle.px_array.specs.declared.micro.Micro.{Micro}
 use Rattle.px_array.specs.Arrays.{Device}
 use Rattle.px_asm.specs.Micros.{micro_at}
@@ -15,8 +14,8 @@ use Rattle.px_sched.specs.Cursors.{Stands}
 use Rattle.px_sched.specs.Layouts.{layout_of, need_of}
 use Rattle.px_sched.specs.Passes.{passes}
 use Rattle.px_control.specs.declared.place.Place.{Place}
-use Rattle.px_control.specs.Program.{IsAt, array_after, columns_of, cycles_in, ends_after, micro_at_clock}
-use Rattle.px_control.specs.Program.{operation_at, operation_ends, program, rows_of, start_of, total}
+use Rattle.px_control.specs.Program.{IsAt, array_after, columns_of, cycles_in, ends_after, micro_at_clock, operation_at}
+use Rattle.px_control.specs.Program.{operation_ends, program, rows_of, start_of, total}
 use Rattle.px_control.specs.ProgramLaws.{HaveLawfulPasses, HaveClocks}
 use Rattle.px_control.specs.Standing.{IsWithinOperation, StandsFor}
 use Rattle.px_control.proofs.EndLemmas.{next_end_here, operation_here, start_all, start_within}
@@ -30,8 +29,7 @@ pub record Here (scene : SceneView) (p : Place) (m : Macro) : Type 0 where
   pub next : start_of scene (p.operation + 1) ≡ start_of scene p.operation + cycles_in scene m
 
 pub here_of : (scene : SceneView) (p : Place) (m : Macro) → HaveLawfulPasses scene → StandsFor scene p
-    → p.current ≡ Some m
-    → Here scene p m
+    → p.current ≡ Some m → Here scene p m
 unfolding program
 here_of scene p m lawful stands e =
     let nx = columns_of scene
@@ -55,10 +53,7 @@ zero_within scene k (Some m) lawful some e =
     some m (lawful_here (need_of (layout_of scene)) (passes scene) k m e lawful)
 
 past : (xs : List Macro) (k : ℕ) → slice_get xs k ≡ None → length xs ≤ k
-past xs k e = elim (slice_get_cases xs k).1 [
-  | inl w ↦ absurd (let t : Some w.0 ≡ None = sym w.2 ∙ e in cc)
-  | inr w ↦ w.0
-]
+past xs k e = grind (arith, slice_get_cases)
 
 given_next : (ms : List Macro) (j old new : ℕ) (o : Option Macro) → j ≤ length ms → old ≡ j → slice_get ms j ≡ o →
     OnSome o (new ≡ old + 1) → IfNone o (new ≡ old) → new ≡ min (j + 1) (length ms)
@@ -73,23 +68,7 @@ pub stands_next : (scene : SceneView) (p : Place) (m : Macro) (new : Cursor) (o 
     → IfNone o (new ≡ p.cursor) →
     StandsFor scene record { cursor = new; clock = clock; operation = p.operation + 1; micro = 0; current = o }
 stands_next scene p m new o clock lawful some stands e end is cursor more stays =
-    let h = here_of scene p m lawful stands e
-    in let inside = slice_get_within (passes scene) p.operation m h.at
-    in let given : p.cursor.given ≡ p.operation + 1 = omega (arith, stands.given)
-    in let here : slice_get (passes scene) (p.operation + 1) ≡ o = rw given at (sym is)
-    in record {
-      cursor = cursor;
-      given = given_next (passes scene) (p.operation + 1) p.cursor.given new.given o (omega arith) given here more
-          (same o stays);
-      operation = omega arith;
-      current = here;
-      clock = omega (arith, stands.clock, h.next, h.micro);
-      micro = zero_within scene (p.operation + 1) o lawful some here;
-    }
-  where
-    same : (o : Option Macro) → IfNone o (new ≡ p.cursor) → IfNone o (new.given ≡ p.cursor.given)
-    same None e = ap (λ (c : Cursor). c.given) e
-    same (Some m) e = e
+    grind (arith, here_of, slice_get_within, given_next, zero_within)
 
 -- the broadcast at a place
 pub next_broadcast : (scene : SceneView) (p : Place) (m : Macro) → HaveLawfulPasses scene → StandsFor scene p
@@ -146,8 +125,7 @@ next_end_is scene p m e lawful some stands c is =
     (zero_within scene (p.operation + 1) (slice_get (passes scene) (p.operation + 1)) lawful some refl) stands.clock is
 
 pub next_end_within : (scene : SceneView) (p : Place) (m : Macro) (e : ℕ) → HaveLawfulPasses scene → StandsFor scene p
-    → p.current ≡ Some m →
-    e ≡ p.clock - p.micro + cycles_in scene m → e ≤ total scene
+    → p.current ≡ Some m → e ≡ p.clock - p.micro + cycles_in scene m → e ≤ total scene
 unfolding program
 next_end_within scene p m e lawful stands c is =
     let h = here_of scene p m lawful stands c
@@ -166,22 +144,11 @@ some_there (x ∷ xs) m is = omega arith
 given_first : (scene : SceneView) (before now : Cursor) (o : Option Macro) → before.given ≡ 0
     → slice_get (passes scene) 0 ≡ o → OnSome o (now.given ≡ before.given + 1) → IfNone o (now ≡ before)
     → now.given ≡ min 1 (length (passes scene))
-given_first scene before now None zero is some stays =
-    let same : now.given ≡ before.given = ap (λ (c : Cursor). c.given) stays in
-    omega (arith, same, zero, past (passes scene) 0 is)
+given_first scene before now None zero is some stays = grind (arith, past)
 given_first scene before now (Some m) zero is some stays = omega (arith, some, zero, some_there (passes scene) m is)
 
 pub stands_first : (scene : SceneView) (before now : Cursor) (o : Option Macro) → HaveLawfulPasses scene
     → HaveClocks scene → before.given ≡ 0 → o ≡ slice_get (passes scene) before.given
     → OnSome o (now.given ≡ before.given + 1) → IfNone o (now ≡ before) → Stands scene now
     → StandsFor scene (record { cursor = now; clock = 0; operation = 0; micro = 0; current = o })
-stands_first scene before now o lawful clocks zero is some stays stands =
-    let here : slice_get (passes scene) 0 ≡ o = ap (slice_get (passes scene)) (sym zero) ∙ sym is in
-    record {
-      cursor = stands;
-      given = given_first scene before now o zero here some stays;
-      operation = omega arith;
-      current = here;
-      clock = refl;
-      micro = zero_within scene 0 o lawful clocks here;
-    }
+stands_first scene before now o lawful clocks zero is some stays stands = grind (arith, given_first, zero_within)

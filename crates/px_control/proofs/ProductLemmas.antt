@@ -1,13 +1,11 @@
 -- What the literals of a product are worth: each is compared with each of the others, so each judges for all
 -- but itself.
-use Rattle.std.proofs.Common.{◌≡◌, ◌≢◌, ℕ, suc, zero, ◌+◌, ◌-◌, ◌*◌, ◌<◌, ◌≤◌, ◌==◌, Bool, true, false, not, cond}
-use Rattle.std.proofs.Common.{List, [], ◌∷◌, length, add-one, drop, get_or, refl, ap, sym, ◌∙◌, arith, inl, inr, subst}
-use Rattle.std.specs.List.{All, filter, sum_by}
-use Rattle.std.proofs.lemmas.Bool.{cases_eq, cases_lt}
-use Rattle.std.proofs.lemmas.List.{drop_all}
+use Rattle.px_num.proofs.Basics.{nat_tests, common_steps, ◌≡◌, ◌≢◌, ℕ, suc, zero, ◌+◌, ◌-◌, ◌*◌, ◌<◌, ◌≤◌, ◌==◌, Bool}
+use Rattle.px_num.proofs.Basics.{true, false, not, cond, List, [], ◌∷◌, length, add-one, drop, get_or, refl, ap, sym}
+use Rattle.px_num.proofs.Basics.{◌∙◌, arith, inl, inr, All, filter, sum_by, cases_eq, cases_lt, drop_all, fold-map}
+use Rattle.px_num.proofs.Basics.{sum_by-append, sum_by-cons}
 use Rattle.std.proofs.lemmas.List.Filters.{sum_by-filter_both}
-use Rattle.std.proofs.lemmas.List.Folds.{fold-map}
-use Rattle.std.proofs.lemmas.List.Sums.{sum_by-append, sum_by-cons, sum_by-drop_more, sum_by_push}
+use Rattle.std.proofs.lemmas.List.Sums.{sum_by-drop_more, sum_by_push}
 use Rattle.px_num.proofs.TruthLaws.{itself_true, other_false}
 use Rattle.px_normal.specs.declared.product.Product.{Product}
 use Rattle.px_sets.specs.declared.set.SolidSet.{SolidSet}
@@ -17,8 +15,8 @@ use Rattle.px_sets.specs.Sets.{below, has, solids}
 use Rattle.px_model.specs.Scenes.{SceneView, SolidView}
 use Rattle.px_sched.specs.declared.literal.Literal.{Literal}
 use Rattle.px_sched.specs.declared.step.Step.{Step}
-use Rattle.px_sched.specs.Passes.{literal, literal_steps, literals, literals_of, no_solid, others}
-use Rattle.px_sched.specs.Passes.{product_steps, steps_with}
+use Rattle.px_sched.specs.Passes.{literal, literal_steps, literals, literals_of, no_solid, others, product_steps}
+use Rattle.px_sched.specs.Passes.{steps_with}
 use Rattle.px_sched.specs.Worths.{first_face_step, judged_worth, own_worth, products_worth, shares_worth}
 use Rattle.px_sched.proofs.MemberLaws.{In, any_in}
 use Rattle.px_sched.proofs.ProductLaws.{each_literal, in_solids, in_solids_of}
@@ -28,15 +26,7 @@ use Rattle.px_sched.proofs.WorthLaws.{flat_sum, literal_sum, steps_sum, sum_by-a
 filter_sum : {A : Type 0} (test : A → Bool) (f : A → ℕ) (xs : List A) →
     sum_by f (filter test xs) ≡ sum_by (λ x. cond (test x) (f x) 0) xs
 filter_sum test f [] = refl
-filter_sum {A = A} test f (x ∷ xs) = step (test x) refl (filter_sum test f xs) where
-  kept : A → ℕ
-  kept y = cond (test y) (f y) 0
-
-  step : (b : Bool) → test x ≡ b → sum_by f (filter test xs) ≡ sum_by kept xs
-      → sum_by f (cond b (x ∷ filter test xs) (filter test xs)) ≡ sum_by kept (x ∷ xs)
-  step true is rest =
-      omega (arith, sum_by-cons f x (filter test xs), sum_by-cons kept x xs, ap (λ b. cond b (f x) 0) is, rest)
-  step false is rest = omega (arith, sum_by-cons kept x xs, ap (λ b. cond b (f x) 0) is, rest)
+filter_sum {A = A} test f (x ∷ xs) = grind (arith, nat_tests, common_steps, cond, sum_by-cons, filter_sum test f xs)
 
 sum_plus : {A : Type 0} (f g : A → ℕ) (xs : List A) → sum_by f xs + sum_by g xs ≡ sum_by (λ x. f x + g x) xs
 sum_plus f g [] = refl
@@ -53,8 +43,7 @@ one_below : (h : ℕ → ℕ) (q n : ℕ) → q < n → ((i : ℕ) → i < n →
 one_below h q zero low other = absurd (omega arith)
 one_below h q (suc n) low other = elim (cases_eq n q) [
   | inl e ↦
-      let before = nothing_below h n (λ i less. other i (omega arith) (omega arith)) in
-      omega (arith, sum_by_push h (below n) n, before, ap h e)
+      grind (arith, nothing_below, sum_by_push)
   | inr ne ↦
       let before = one_below h q n (omega arith) (λ i less. other i (omega arith)) in
       omega (arith, sum_by_push h (below n) n, before, other n (omega arith) ne)
@@ -89,32 +78,19 @@ module _ (f : Literal → ℕ) (p : Product) where
 
   module _ (apart : is_void p ≡ false) where
     never_both : (q : ℕ) → q < 256 → has p.plain q ≡ true → has p.barred q ≡ true → ⊥
-    never_both q low plain barred =
-        let void : is_void p ≡ true = any_in (has p.barred) (solids p.plain) q (in_solids_of p.plain q low plain)
-        barred in
-        cc
+    never_both q low plain barred = grind (arith, any_in, in_solids_of)
 
     -- what holds of nothing, of what is plain and of what is barred
     held_each : (q : ℕ) → q < 256 → (P : ℕ → Type 0) → (has p.plain q ≡ false → has p.barred q ≡ false → P 0)
         → (has p.plain q ≡ true → P (f (literal true q))) → (has p.barred q ≡ true → P (f (literal false q)))
         → P (held q)
-    held_each q low P none plain barred = by_kind (has p.plain q) (has p.barred q) refl refl where
-      by_kind : (a b : Bool) → has p.plain q ≡ a → has p.barred q ≡ b
-          → P (cond a (f (literal true q)) 0 + cond b (f (literal false q)) 0)
-      by_kind true true is also = absurd (never_both q low is also)
-      by_kind true false is also = subst P (omega arith) (plain is)
-      by_kind false true is also = subst P (omega arith) (barred also)
-      by_kind false false is also = none is also
+    held_each q low P none plain barred = grind (arith, cond, never_both)
 
     plain_alone : (q : ℕ) → q < 256 → has p.plain q ≡ true → held q ≡ f (literal true q)
-    plain_alone q low is =
-        held_each q low (λ k. k ≡ f (literal true q)) (λ no _. absurd (cc)) (λ _. refl)
-        (λ also. absurd (never_both q low is also))
+    plain_alone q low is = grind (arith, held_each, never_both)
 
     barred_alone : (q : ℕ) → q < 256 → has p.barred q ≡ true → held q ≡ f (literal false q)
-    barred_alone q low is =
-        held_each q low (λ k. k ≡ f (literal false q)) (λ _ no. absurd (cc))
-        (λ also. absurd (never_both q low also is)) (λ _. refl)
+    barred_alone q low is = grind (arith, held_each, never_both)
 
 -- what there is of a solid
 abbrev met : (Literal → ℕ) → ℕ → Literal → ℕ
@@ -207,21 +183,7 @@ module _ (w : SolidView → ℕ) (ss : List SolidView) where
   solids_above h zero each none = omega arith
   solids_above h (suc n) each none =
       let before = solids_above h n (λ q low. each q (omega arith)) (λ q low. none q (omega arith)) in
-      elim (cases_lt n (length ss)) [
-        | inl there ↦
-            let further = ap (λ k. sum_by w (drop k ss)) (add-one n) in
-            omega (
-              arith,
-              sum_by_push h (below n) n,
-              sum_by-drop_more w ss n no_solid there,
-              further,
-              each n (omega arith) there,
-              before,
-            )
-        | inr past ↦
-            let behind = ap (sum_by w) (drop_all (suc n) ss (omega arith)) in
-            omega (arith, sum_by_push h (below n) n, behind, none n (omega arith) past, before)
-      ]
+      grind (arith, cases_lt, add-one, sum_by_push, sum_by-drop_more, drop_all)
 
   pub literals_few : (f : Literal → ℕ) (p : Product) → HasSolidsBelow (length ss) p → is_void p ≡ false
       → ((q : Literal) → q.solid < length ss → f q ≤ w (get_or ss q.solid no_solid))

@@ -1,15 +1,14 @@
 -- What holds of the program of a scene that can be run.
-use Rattle.std.proofs.Common.{ℕ, ◌≤◌, arith}
+use Rattle.px_num.proofs.Basics.{ℕ, ◌≤◌, arith}
 use Rattle.px_macro.specs.Macros.{IsLawful}
 use Rattle.px_macro.specs.declared.operation.Macro.{Macro}
 use Rattle.px_macro.specs.declared.operation.Macro.TheVariants.{All, KeepSign, KeepBit, LoadLinear, KeepAtMost}
 use Rattle.px_macro.specs.declared.operation.Macro.TheVariants.{AddLinear, LoadConst, SetBit, Toggle, Copy, KeepLess}
 use Rattle.px_asm.specs.Micros.{cycles}
 use Rattle.px_model.specs.Scenes.{SceneView}
-use Rattle.px_sched.specs.Layouts.{layout_of, need_of}
 use Rattle.px_sched.specs.PassesFacts.{LayoutsAreLawful, PassesAreLawful}
 use Rattle.px_control.specs.ClockLaw.{ClockBound, EachTakesAClock}
-use Rattle.px_control.specs.Program.{CanRun, columns_of, rows_of}
+use Rattle.px_control.specs.Program.{CanRun}
 use Rattle.px_control.specs.ProgramLaws.{IsGoodProgram}
 use Rattle.px_control.proofs.PictureLemmas.{scene_grid}
 
@@ -43,13 +42,4 @@ pub good_program : LayoutsAreLawful → PassesAreLawful → ClockBound → EachT
     → CanRun scene → IsGoodProgram scene
 good_program layouts lawful bound some scene can =
     let grid = scene_grid scene can.lawful
-    in let layout = layouts scene can.lawful
-    in record {
-      grid = grid;
-      bits = omega (arith, layout.depth, layout.number);
-      lawful = lawful scene can.lawful can.solids;
-      some = λ m h. some_cycles m (need_of (layout_of scene)) (columns_of scene) (rows_of scene) h;
-      few = λ m h. few_cycles m (need_of (layout_of scene)) (columns_of scene) (rows_of scene) grid.0.1 grid.1.1 h;
-      operations = some scene can.lawful;
-      clocks = bound scene can.lawful can.solids can.few;
-    }
+    in grind (arith, some_cycles, few_cycles)

@@ -1,11 +1,7 @@
 -- The broadcasts of one operation, from one up to another.
-use Rattle.std.proofs.Common.{◌≡◌, ℕ, ◌+◌, ◌-◌, ◌<◌, ◌≤◌, List, ◌++◌, length, take, drop, get_or, Some, subst, sym}
-use Rattle.std.proofs.Common.{ap, ◌∙◌, arith}
-use Rattle.std.specs.List.{between, slice_get}
-use Rattle.std.proofs.Math.Seq.{take-add}
-use Rattle.std.proofs.lemmas.List.{drop-take, same_lists}
+use Rattle.px_num.proofs.Basics.{◌≡◌, ℕ, ◌+◌, ◌-◌, ◌<◌, ◌≤◌, List, ◌++◌, length, take, drop, get_or, Some, subst, sym}
+use Rattle.px_num.proofs.Basics.{ap, ◌∙◌, arith, between, slice_get, take-add, drop-take, same_lists, between_is}
 use Rattle.std.proofs.lemmas.List.Edits.{get_or-between, length-between}
-use Rattle.std.proofs.lemmas.Slice.{between_is}
 use Rattle.px_num.proofs.ListLaws.{get_or-tabulate, length-tabulate}
 use Rattle.px_array.specs.Arrays.{Device, HasGrid, zero_state}
 use Rattle.px_array.proofs.ClockLaws.{after_clocks-append, grid_after_clocks, grid_of_zero_state}
@@ -65,8 +61,7 @@ pub rows_are : (bits : ℕ) (scene : SceneView) (n : ℕ) (device : Device) → 
 rows_are bits scene n device at = ap (λ d. d.state.tree.ny) at.reached ∙ rows_at bits scene n
 
 pub grid_at : (bits : ℕ) (scene : SceneView) (n : ℕ) (device : Device) → IsGrid (columns_of scene) (rows_of scene)
-    → IsAt bits scene n device →
-    IsGrid device.state.tree.nx device.state.tree.ny
+    → IsAt bits scene n device → IsGrid device.state.tree.nx device.state.tree.ny
 grid_at bits scene n device grid at = rw (columns_are bits scene n device at, rows_are bits scene n device at) grid
 
 pub pixels_at : (bits : ℕ) (scene : SceneView) (n : ℕ) (device : Device) → IsAt bits scene n device →
@@ -84,16 +79,13 @@ pixels_at bits scene n device at =
 
 pub cycles_are : (bits : ℕ) (scene : SceneView) (n : ℕ) (device : Device) (m : Macro) → IsAt bits scene n device
     → cycles_on device m ≡ cycles_in scene m
-cycles_are bits scene n device m at =
-    ap (λ x. cycles m x device.state.tree.ny) (columns_are bits scene n device at)
-    ∙ ap (λ y. cycles m (columns_of scene) y) (rows_are bits scene n device at)
+cycles_are bits scene n device m at = grind (arith, columns_are, rows_are)
 
 -- the array after these broadcasts
 pub at_run : (bits : ℕ) (scene : SceneView) (p : Place) (m : Macro) (to : ℕ) (before now : Device)
-    → HaveLawfulPasses scene
-    → StandsFor scene p →
-    p.current ≡ Some m → p.micro ≤ to → to ≤ cycles_in scene m → IsAt bits scene p.clock before →
-    now ≡ all_clocked (between p.micro to (micros_on before m)) before → IsAt bits scene (p.clock + (to - p.micro)) now
+    → HaveLawfulPasses scene → StandsFor scene p → p.current ≡ Some m → p.micro ≤ to → to ≤ cycles_in scene m
+    → IsAt bits scene p.clock before → now ≡ all_clocked (between p.micro to (micros_on before m)) before
+    → IsAt bits scene (p.clock + (to - p.micro)) now
 unfolding array_after program
 at_run bits scene p m to before now lawful stands e low within at is =
     let here = here_of scene p m lawful stands e in

@@ -1,13 +1,8 @@
 -- One broadcast of a program after another.
-use Rattle.std.proofs.Common.{◌≡◌, ℕ, ◌+◌, ◌<◌, ◌≤◌, List, [], ◌∷◌, length, take, get_or, Some, ap, ◌∙◌, arith}
-use Rattle.std.proofs.Common.{length-append}
-use Rattle.std.specs.List.{slice_get}
-use Rattle.std.specs.Prelude.{All}
-use Rattle.std.proofs.lemmas.List.Elements.{All-get_or}
-use Rattle.std.proofs.lemmas.List.{take_more}
-use Rattle.std.proofs.lemmas.Option.{slice_get_within, get_or_from_slice_get}
-use Rattle.std.proofs.lemmas.List.Concat.{flat_map-cons, flat_map-append, get_or-flat_map}
-use Rattle.std.proofs.lemmas.List.Folds.{length-flat_map-take}
+use Rattle.px_num.proofs.Basics.{◌≡◌, ℕ, ◌+◌, ◌<◌, ◌≤◌, List, [], ◌∷◌, length, take, get_or, Some, ap, ◌∙◌, arith}
+use Rattle.px_num.proofs.Basics.{length-append, slice_get, All, All-get_or, take_more, slice_get_within}
+use Rattle.px_num.proofs.Basics.{get_or_from_slice_get, flat_map-cons, get_or-flat_map, length-flat_map-take}
+use Rattle.std.proofs.lemmas.List.Concat.{flat_map-append}
 use Rattle.px_num.proofs.ListLaws.{get_or-tabulate, length-tabulate}
 use Rattle.px_array.specs.declared.micro.Micro.{Micro}
 use Rattle.px_array.specs.Arrays.{Device, opened}

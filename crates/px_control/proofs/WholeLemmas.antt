@@ -1,24 +1,20 @@
 -- Operations that are made at once on the way through a program.
-use Rattle.std.proofs.Common.{◌≡◌, ℕ, suc, ◌+◌, ◌-◌, ◌<◌, ◌≤◌, List, [], ◌∷◌, ◌++◌, length, take, drop, get_or}
-use Rattle.std.proofs.Common.{Option, Some, None, refl, sym, ap, subst, ◌∙◌, inl, inr, arith, length-append}
-use Rattle.std.proofs.Common.{length-drop, get_or-drop}
-use Rattle.std.proofs.Common.{Bool, true, false, ◌||◌, ◌⊎◌}
-use Rattle.std.specs.Prelude.{IfSome, IsSome}
-use Rattle.std.specs.List.{between, slice_get}
-use Rattle.std.proofs.Math.Seq.{drop-cons, take-add, take-append_seam}
-use Rattle.std.proofs.lemmas.List.{drop-take, get_or-take, length-take, take-append-drop}
-use Rattle.std.proofs.lemmas.Option.{get_or_from_slice_get, slice_get_cases, slice_get_within, slice_get-get_or}
+use Rattle.px_num.proofs.Basics.{◌≡◌, ℕ, suc, ◌+◌, ◌-◌, ◌<◌, ◌≤◌, List, [], ◌∷◌, ◌++◌, length, take, drop, get_or}
+use Rattle.px_num.proofs.Basics.{Option, Some, None, refl, sym, ap, subst, ◌∙◌, arith, length-append, length-drop}
+use Rattle.px_num.proofs.Basics.{get_or-drop, Bool, true, ◌||◌, ◌⊎◌, IfSome, IsSome, between, slice_get, drop-cons}
+use Rattle.px_num.proofs.Basics.{take-add, take-append_seam, drop-take, get_or-take, take-append-drop}
+use Rattle.px_num.proofs.Basics.{get_or_from_slice_get, slice_get_cases, slice_get_within, slice_get-get_or}
+use Rattle.std.proofs.lemmas.List.{length-take}
 use Rattle.std.proofs.lemmas.List.Concat.{flat_map-append}
 use Rattle.std.proofs.Math.ListN.{drop_of_length-le}
 use Rattle.px_array.specs.Arrays.{Device, HasGrid, State, zero_state}
 use Rattle.px_array.specs.Clocks.{after_clocks, all_clocked}
-use Rattle.px_array.proofs.ClockLaws.{after_clocks-append, all_clocked-append, grid_after_clocks}
-use Rattle.px_array.proofs.ClockLaws.{grid_of_zero_state, nx-after_clocks, ny-after_clocks}
+use Rattle.px_array.proofs.ClockLaws.{after_clocks-append, all_clocked-append, grid_after_clocks, grid_of_zero_state}
+use Rattle.px_array.proofs.ClockLaws.{nx-after_clocks, ny-after_clocks}
 use Rattle.px_asm.specs.Making.{cycles_on, micros_on}
 use Rattle.px_asm.specs.Micros.{all_micros, cycles, micros}
 use Rattle.px_asm.specs.Operated.{Agree, BecomeTheSame, IsOperated, Known, StayInAgreement, all_renewed, none_known}
-use Rattle.px_asm.proofs.RenewalLemmas.{joined, somewhere}
-use Rattle.px_asm.proofs.RenewalLemmas.{all_of_them as all_are}
+use Rattle.px_asm.proofs.RenewalLemmas.{joined, somewhere, all_of_them as all_are}
 use Rattle.px_asm.proofs.MakingLemmas.{all_of_them, count_of_them}
 use Rattle.px_macro.specs.Macros.{IsLawful}
 use Rattle.px_macro.specs.declared.operation.Macro.{Macro}
@@ -50,10 +46,7 @@ micros_here scene m device columns rows =
 pub whole_of : (scene : SceneView) (m : Macro) (device : Device) (from : ℕ) → device.state.tree.nx ≡ columns_of scene
     → device.state.tree.ny ≡ rows_of scene → from ≡ 0
     → between from (cycles_in scene m) (micros_on device m) ≡ micros m (columns_of scene) (rows_of scene)
-whole_of scene m device from columns rows first =
-    ap (λ ms. between from (cycles_in scene m) ms) (micros_here scene m device columns rows)
-    ∙ (ap (λ i. between i (cycles_in scene m) (micros m (columns_of scene) (rows_of scene))) first
-    ∙ all_of_them m (columns_of scene) (rows_of scene))
+whole_of scene m device from columns rows first = grind (arith, micros_here, all_of_them)
 
 -- one operation more of the program
 state_more : (bits : ℕ) (scene : SceneView) (p : Place) (m : Macro) → HaveLawfulPasses scene → StandsFor scene p
@@ -74,23 +67,11 @@ pub near_more : StayInAgreement → (bits : ℕ) (scene : SceneView) (p : Place)
     → p.micro ≡ 0 → IsLawful m bits → IsNear bits scene p.clock before → IsOperated bits m before now
     → end ≡ p.clock + (cycles_in scene m - p.micro) → IsNear bits scene end now
 near_more law bits scene p m before now end grid lawful stands e first places near operated end_is =
-    let agree = law bits (columns_of scene) (rows_of scene) grid m places before now
-    (array_after bits scene p.clock).state
-    near.agree operated in
-    let state = state_more bits scene p m lawful stands e first near.enough in
-    let count = cycles_here scene m before near.agree.first.columns near.agree.first.rows in
-    rw end_is (record {
-      enough = near.enough;
-      agree = subst (λ (s : State). Agree bits (columns_of scene) (rows_of scene) now.state s) state agree;
-      clocks = omega (arith, operated.clocks, near.clocks, count, first);
-    })
+    grind (arith, state_more, cycles_here)
 
 -- where an operation is left a place has one
 none_past : (xs : List Macro) (k : ℕ) → slice_get xs k ≡ None → length xs ≤ k
-none_past xs k e = elim (slice_get_cases xs k).1 [
-  | inl w ↦ absurd (let t : Some w.0 ≡ None = sym w.2 ∙ e in cc)
-  | inr w ↦ w.0
-]
+none_past xs k e = grind (arith, slice_get_cases)
 
 pub none_left : (scene : SceneView) (p : Place) → StandsFor scene p → p.current ≡ None
     → length (passes scene) ≤ p.operation
@@ -132,9 +113,7 @@ left_more scene p m before now k j stands e next low is =
     let list : all_micros (drop p.operation front) nx ny ≡ micros m nx ny ++ rest =
     ap (λ ms. all_micros ms nx ny)
     (left_is front p.operation m (in_front (passes scene) j p.operation m low (stands.current ∙ e))) in
-    ap (λ i. after_left scene i j now) next
-    ∙ (ap (all_clocked rest) is
-    ∙ (sym (all_clocked-append (micros m nx ny) rest before) ∙ ap (λ ms. all_clocked ms before) (sym list)))
+    grind (arith, all_clocked-append)
 
 -- the broadcasts before an operation are those of the operations before it
 front_is : (scene : SceneView) (k : ℕ)
@@ -152,11 +131,10 @@ front_is scene k =
 
 -- where all is begun anew the broadcasts up to an operation make of an array that is near the one that is wanted
 pub near_end : BecomeTheSame → (bits : ℕ) (scene : SceneView) (p : Place) (before now : Device) (j : ℕ)
-    → HaveLawfulPasses scene
-    → (more : (m : Macro) → IsLawful m (need_of (layout_of scene)) → IsLawful m bits)
+    → HaveLawfulPasses scene → (more : (m : Macro) → IsLawful m (need_of (layout_of scene)) → IsLawful m bits)
     → StandsFor scene p → p.micro ≡ 0 → p.operation ≤ j → AllRenewed scene p.operation j
-    → IsNear bits scene p.clock before
-    → after_left scene j j now ≡ after_left scene p.operation j before → IsAt bits scene (start_of scene j) now
+    → IsNear bits scene p.clock before → after_left scene j j now ≡ after_left scene p.operation j before
+    → IsAt bits scene (start_of scene j) now
 unfolding array_after
 near_end law bits scene p before now j lawful more stands first low anew near left =
     let nx = columns_of scene in
@@ -199,36 +177,15 @@ near_end law bits scene p before now j lawful more stands first low anew near le
 
     lawful_left : HaveLawfulPasses scene → (i : ℕ) (d : Macro) → i < length (stretch scene p.operation j)
         → IsLawful (get_or (stretch scene p.operation j) i d) (need_of (layout_of scene))
-    lawful_left h i d low =
-        let size = length-drop p.operation (take j (passes scene)) in
-        let front = length-take j (passes scene) in
-        rw (
-          get_or-drop p.operation (take j (passes scene)) i d,
-          get_or-take j (passes scene) (p.operation + i) d (omega (arith, size, front)),
-        )
-        (h (p.operation + i) d (omega (arith, size, front)))
+    lawful_left h i d low = grind (arith, length-drop, length-take, get_or-drop, get_or-take)
 
 -- a place at an operation's first broadcast
 pub clock_there : (scene : SceneView) (p : Place) (j : ℕ) → StandsFor scene p → p.micro ≡ 0 → p.operation ≡ j
     → p.clock ≡ start_of scene j
-clock_there scene p j stands first at =
-    let here : p.clock ≡ start_of scene p.operation = omega (arith, stands.clock, first) in
-    here ∙ ap (λ k. start_of scene k) at
-
-pub renewed_there : BecomeTheSame → (bits : ℕ) (scene : SceneView) (p q : Place) (before now : Device) (j : ℕ)
-    → HaveLawfulPasses scene → (more : (m : Macro) → IsLawful m (need_of (layout_of scene)) → IsLawful m bits)
-    → StandsFor scene p → p.micro ≡ 0 → p.operation ≤ j → AllRenewed scene p.operation j
-    → IsNear bits scene p.clock before
-    → StandsFor scene q → q.micro ≡ 0 → q.operation ≡ j
-    → after_left scene q.operation j now ≡ after_left scene p.operation j before → IsAt bits scene q.clock now
-renewed_there law bits scene p q before now j lawful more from first low anew near there again at left =
-    let end = near_end law bits scene p before now j lawful more from first low anew near
-    (ap (λ k. after_left scene k j now) (sym at) ∙ left) in
-    subst (λ n. IsAt bits scene n now) (sym (clock_there scene q j there again at)) end
+clock_there scene p j stands first at = grind arith
 
 pub made_law : (scene : SceneView) (n : ℕ) (m : Macro) (before now : Device) (to : ℕ) → IsSized scene n before
-    → to ≡ cycles_in scene m
-    → now ≡ all_clocked (between 0 to (micros_on before m)) before
+    → to ≡ cycles_in scene m → now ≡ all_clocked (between 0 to (micros_on before m)) before
     → now ≡ all_clocked (micros m (columns_of scene) (rows_of scene)) before
 made_law scene n m before now to sized to_is is =
     is ∙ (ap (λ j. all_clocked (between 0 j (micros_on before m)) before) to_is
@@ -237,23 +194,12 @@ made_law scene n m before now to sized to_is is =
 pub sized_more : (scene : SceneView) (n end : ℕ) (m : Macro) (before now : Device) → IsSized scene n before
     → now ≡ all_clocked (micros m (columns_of scene) (rows_of scene)) before → end ≡ n + cycles_in scene m
     → IsSized scene end now
-sized_more scene n end m before now sized is end_is =
-    let ms = micros m (columns_of scene) (rows_of scene) in
-    record {
-      columns = ap (λ (d : Device). d.state.tree.nx) is ∙ (nx-after_clocks ms before.state ∙ sized.columns);
-      rows = ap (λ (d : Device). d.state.tree.ny) is ∙ (ny-after_clocks ms before.state ∙ sized.rows);
-      clocks = omega (
-        arith,
-        ap (λ (d : Device). d.clocks) is,
-        count_of_them m (columns_of scene) (rows_of scene),
-        sized.clocks,
-      );
-    }
+sized_more scene n end m before now sized is end_is = grind (arith, nx-after_clocks, ny-after_clocks, count_of_them)
 
 -- ---- where each part is begun anew
 
 no_some : IsSome {T = ℕ} None → ⊥
-no_some e = let t : false ≡ true = e in cc
+no_some e = cc
 
 abbrev pub IsLeast : (a b c : Option ℕ) → ℕ → Type 0
 IsLeast a b c k = IfSome a (λ x. k ≤ x) × IfSome b (λ x. k ≤ x) × IfSome c (λ x. k ≤ x)
@@ -281,13 +227,7 @@ fresh_from scene from behind None b c k least tree carry latch = absurd (no_some
 fresh_from scene from behind (Some x) None c k least tree carry latch = absurd (no_some least.4)
 fresh_from scene from behind (Some x) (Some y) None k least tree carry latch = absurd (no_some least.5)
 fresh_from scene from behind (Some x) (Some y) (Some z) k least tree carry latch =
-    let place : (from ≤ k) × (k < behind) = elim least.6 [
-      | inl e ↦ within (λ (k : Known). k.tree) scene from behind k (Some x) e tree
-      | inr r ↦ elim r [
-        | inl e ↦ within (λ (k : Known). k.carry) scene from behind k (Some y) e carry
-        | inr e ↦ within (λ (k : Known). k.latch) scene from behind k (Some z) e latch
-      ]
-    ] in
+    let place : (from ≤ k) × (k < behind) = grind (arith, within) in
     record {
       low = place.0;
       high = place.1;

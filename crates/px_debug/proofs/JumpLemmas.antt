@@ -1,5 +1,5 @@
 -- From end to end of operations.
-use Rattle.std.proofs.Common.{◌≡◌, ℕ, zero, suc, List, [], ◌∷◌, refl, sym}
+use Rattle.px_num.proofs.Basics.{◌≡◌, ℕ, zero, suc, List, [], ◌∷◌, refl, sym}
 use Rattle.px_model.specs.Scenes.{SceneView}
 use Rattle.px_control.specs.Program.{ends_after}
 use Rattle.px_debug.specs.Moves.{after_ends}

@@ -1,24 +1,22 @@
 -- The places and the slots of the passed quarters, as the clock goes on.
-use Rattle.std.proofs.Common.{◌≡◌, ℕ, ◌+◌, ◌-◌, ◌*◌, ◌/◌, ◌<◌, ◌≤◌, List, [], ◌∷◌, length, get_or, set, Option, Some}
-use Rattle.std.proofs.Common.{None, refl, sym, ap, ◌∙◌, inl, inr, below_more, length-set, get_or-set_same}
-use Rattle.std.proofs.Common.{get_or-set_other, arith}
+use Rattle.px_num.proofs.Basics.{◌≡◌, ℕ, ◌+◌, ◌*◌, ◌/◌, ◌<◌, ◌≤◌, List, [], ◌∷◌, length, get_or, set, Option, Some, sym}
+use Rattle.px_num.proofs.Basics.{ap, ◌∙◌, inl, inr, below_more, length-set, get_or-set_same, get_or-set_other, arith}
+use Rattle.px_num.proofs.Basics.{nat_eq, unwrap_or, div-mul-le_self}
 use Rattle.std.specs.Bool.{MatchBool}
-use Rattle.std.specs.Prelude.{IfSome, nat_eq, suc, unwrap_or, zero}
-use Rattle.std.proofs.Math.Nat.{mul-div_cancel, div-mul-le_self}
+use Rattle.std.proofs.Math.Nat.{mul-div_cancel}
 use Rattle.std.proofs.lemmas.Bool.Decides.{eqb_tells}
 use Rattle.px_array.specs.Arrays.{Device}
-use Rattle.px_array.specs.Slots.{after_save, no_slots, slot_of}
+use Rattle.px_array.specs.Slots.{after_save, no_slots}
 use Rattle.px_model.specs.Scenes.{SceneView}
 use Rattle.px_control.specs.declared.place.Place.{Place}
-use Rattle.px_control.specs.Program.{IsAt, array_after}
+use Rattle.px_control.specs.Program.{IsAt}
 use Rattle.px_control.specs.Standing.{StandsFor}
 use Rattle.px_debug.specs.Marks.{AreMarked, HasMarks, HasSlots}
 
 pub due : (now q n : ℕ) → 1 ≤ q → n < 4 → now ≤ n * q → MatchBool (nat_eq (now / q) n) ((n < 4) × (now ≡ n * q))
     (n < 4 → now < n * q)
 due now q n p few le = elim (eqb_tells (now / q) n) [
-  | inl w ↦ (let b : n * q ≤ now = rw w.1 at (div-mul-le_self now q) in
-      rw w.0 (few, let e : now ≡ n * q = omega arith in e))
+  | inl w ↦ grind (arith, div-mul-le_self)
   | inr w ↦ (let ne : now ≡ n * q → ⊥ = λ e. w.1 (rw e (mul-div_cancel n (let z : 0 < q = omega arith in z))) in
       rw w.0 (λ f. let l : now < n * q = omega arith in l))
 ]
@@ -43,34 +41,11 @@ marks_more s q n ps p m few st cl =
 pub slots_more : (bits : ℕ) (s : SceneView) (q n : ℕ) (device : Device) (slots : List (Option Device))
     → HasSlots bits s q n slots → n < length slots →
     IsAt bits s (n * q) device → HasSlots bits s q (n + 1) (after_save n device slots)
-slots_more bits s q n device slots h few at = record {
-  kept = below_more (λ k. slot_of (after_save n device slots) k ≡ Some (array_after bits s (k * q))) n
-      (λ k l. other k (omega arith) ∙ h.kept k l) (here ∙ ap (λ x. Some x) at.reached);
-  only = λ k. elim (eqb_tells k n) [
-    | inl same ↦ rw (same.1, here) at.reached
-    | inr apart ↦ rw (other k apart.1) (h.only k)
-  ];
-}
-  where
-    here : slot_of (after_save n device slots) n ≡ Some device
-    here = get_or-set_same slots n _ None few
-
-    other : (k : ℕ) → (k ≡ n → ⊥) → slot_of (after_save n device slots) k ≡ slot_of slots k
-    other k apart = get_or-set_other slots n k _ None apart
+slots_more bits s q n device slots h few at = grind (arith, below_more, eqb_tells, get_or-set_same, get_or-set_other)
 
 -- no slot is saved yet
 pub slots_none : (bits : ℕ) (s : SceneView) (q : ℕ) → HasSlots bits s q 0 no_slots
-slots_none bits s q = record {
-  kept = λ k low. absurd (omega (arith, low));
-  only = λ k. rw (none k) tt;
-}
-  where
-    none : (k : ℕ) → slot_of no_slots k ≡ None
-    none zero = refl
-    none (suc zero) = refl
-    none (suc (suc zero)) = refl
-    none (suc (suc (suc zero))) = refl
-    none (suc (suc (suc (suc k)))) = refl
+slots_none bits s q = grind arith
 
 -- fewer of them
 pub marks_front : (s : SceneView) (q n count : ℕ) (ps : List Place) → HasMarks s q count ps → 1 ≤ n → n ≤ count
@@ -86,10 +61,7 @@ marks_front s q n count ps m some few = record {
 
 -- the quarters that were passed at one of them
 pub marked_at : (q k now : ℕ) → 1 ≤ q → now ≡ k * q → AreMarked q (k + 1) now
-marked_at q k now step is = record {
-  passed = omega (arith, (let e : k + 1 - 1 ≡ k = omega arith in ap (λ n. n * q) e));
-  next = λ few. let m : (k + 1) * q ≡ k * q + q = grind arith in omega arith;
-}
+marked_at q k now step is = grind arith
 
 pub same_device : (o : Option Device) (a b : Device) → o ≡ Some a → o ≡ Some b → a ≡ b
 same_device o a b first second = ap (λ x. unwrap_or x a) (sym first ∙ second)
@@ -97,11 +69,4 @@ same_device o a b first second = ap (λ x. unwrap_or x a) (sym first ∙ second)
 -- four copies of the first place, of which one is in use
 pub first_mark : (s : SceneView) (q : ℕ) (p : Place) → 1 ≤ q → StandsFor s p → p.clock ≡ 0
     → HasMarks s q 1 (p ∷ p ∷ p ∷ p ∷ [])
-first_mark s q p some stands first = record {
-  step = some;
-  some = omega arith;
-  few = omega arith;
-  long = refl;
-  stands = λ k d low. let z : k ≡ 0 = omega arith in rw z stands;
-  clocks = λ k d low. let z : k ≡ 0 = omega arith in rw z (first ∙ (let n : 0 ≡ 0 * q = omega arith in n));
-}
+first_mark s q p some stands first = grind arith

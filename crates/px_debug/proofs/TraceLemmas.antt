@@ -1,10 +1,10 @@
 -- The last broadcasts.
-use Rattle.std.proofs.Common.{◌≡◌, ℕ, ◌+◌, ◌-◌, ◌<◌, ◌≤◌, List, [], ◌∷◌, ◌++◌, length, take, drop, Some, refl, sym}
-use Rattle.std.proofs.Common.{ap, ◌∙◌, append_assoc, length-append, length-drop, arith}
-use Rattle.std.specs.List.{slice_get}
-use Rattle.std.proofs.Math.Seq.{drop-append-add, take-add}
-use Rattle.std.proofs.lemmas.List.{take_more, length-take, take-append-drop, get_or-drop}
-use Rattle.std.proofs.lemmas.Option.{slice_get_within, get_or_from_slice_get}
+use Rattle.px_num.proofs.Basics.{nat_tests, common_steps, ◌≡◌, ℕ, ◌+◌, ◌-◌, ◌<◌, ◌≤◌, List, [], ◌∷◌, ◌++◌, length, take}
+use Rattle.px_num.proofs.Basics.{drop, Some, refl, sym, ap, ◌∙◌, append_assoc, length-append, length-drop, arith}
+use Rattle.px_num.proofs.Basics.{slice_get, take-add, take_more, take-append-drop, slice_get_within}
+use Rattle.px_num.proofs.Basics.{get_or_from_slice_get}
+use Rattle.std.proofs.Math.Seq.{drop-append-add}
+use Rattle.std.proofs.lemmas.List.{length-take, get_or-drop}
 use Rattle.circular_buffer.specs.Buffer.{keep_last}
 use Rattle.px_array.specs.declared.micro.Micro.{Micro}
 use Rattle.px_model.specs.Scenes.{SceneView}
@@ -34,19 +34,13 @@ pub one : (p : List Micro) (a : ℕ) (x : Micro) → slice_get p a ≡ Some x �
 one p a x e = let z : a + 0 ≡ a = omega arith in one_more p a 0 x (rw z e)
 
 pub drop_drop : {X : Type 0} (p : List X) (a m : ℕ) → a ≤ length p → drop m (drop a p) ≡ drop (a + m) p
-drop_drop p a m h =
-    let size : length (take a p) ≡ a = omega (arith, length-take a p) in
-    let n : a + m ≡ length (take a p) + m = omega arith in
-    sym (rw n (ap (λ q. drop (length (take a p) + m) q) (sym (take-append-drop a p))
-    ∙ drop-append-add (take a p) (drop a p) m))
+drop_drop p a m h = grind (arith, nat_tests, common_steps, length-take, take-append-drop, drop-append-add)
 
 -- a step of a walk
 pub walk_more : (k : ℕ) (ts p : List Micro) (a m : ℕ) → m + a < length p
     → keep_last k (keep_last k (ts ++ take m (drop a p)) ++ take 1 (drop (a + m) p))
     ≡ keep_last k (ts ++ take (m + 1) (drop a p))
-walk_more k ts p a m h = rw (keep_keep k (ts ++ take m (drop a p)) (take 1 (drop (a + m) p)), append_assoc)
-    (ap (λ q. keep_last k (ts ++ q)) (sym (take-add m 1 (drop a p)
-    ∙ ap (λ q. take m (drop a p) ++ take 1 q) (drop_drop p a m (omega arith)))))
+walk_more k ts p a m h = grind (arith, keep_keep, append_assoc, take-add, drop_drop)
 
 -- after a walk of n clocks from clock a, where the ring held the last before it
 pub last_after : (k : ℕ) (p : List Micro) (a n : ℕ) → keep_last k (keep_last k (take a p) ++ take n (drop a p))

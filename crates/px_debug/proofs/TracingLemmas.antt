@@ -1,5 +1,5 @@
 -- The trace that a session shows, of the last broadcasts before its clock.
-use Rattle.std.proofs.Common.{◌≡◌, ℕ, ◌-◌, ◌≤◌, length, length-drop, min, take, refl, ap, ◌∙◌, arith}
+use Rattle.px_num.proofs.Basics.{◌≡◌, ℕ, ◌-◌, ◌≤◌, length, length-drop, min, take, refl, arith}
 use Rattle.std.proofs.lemmas.List.{length-take}
 use Rattle.circular_buffer.specs.Buffer.{Buffer, buffer}
 use Rattle.px_model.specs.Scenes.{SceneView}
@@ -21,10 +21,5 @@ unfolding last_before
 last_lines scene now = refl
 
 pub traced_text : (scene : SceneView) (now : ℕ) (b : Buffer Micro) → now ≤ total scene
-    → b ≡ buffer (last_before scene now) 32 →
-    trace_lines (now - length b.items) b.items ≡ trace_text scene now
-traced_text scene now b within is =
-    let ms = last_before scene now in
-    let n : now - length ms ≡ now - 32 = omega (arith, short_trace scene now within) in
-    ap (λ (x : Buffer Micro). trace_lines (now - length x.items) x.items) is
-    ∙ (ap (λ k. trace_lines k ms) n ∙ last_lines scene now)
+    → b ≡ buffer (last_before scene now) 32 → trace_lines (now - length b.items) b.items ≡ trace_text scene now
+traced_text scene now b within is = grind (arith, short_trace, last_lines)

@@ -1,15 +1,13 @@
 -- Each line is answered before more is asked for.
-use Rattle.std.proofs.Common.{ℕ, ◌≡◌, ◌-◌, ◌++◌, List, [], ◌∷◌, length, true, false, Option, Some, None, refl}
-use Rattle.std.proofs.Common.{ap, sym, subst, ◌∙◌}
-use Rattle.std.proofs.Common.{arith, append_assoc, append-nil, is_some, length-append}
-use Rattle.std.proofs.lemmas.List.{take_all}
-use Rattle.std.specs.Io.KnownBytes.{Appends, Consumes}
+use Rattle.px_num.proofs.Basics.{ℕ, ◌≡◌, ◌-◌, ◌++◌, List, [], ◌∷◌, length, true, false, Option, Some, refl, ap, sym}
+use Rattle.px_num.proofs.Basics.{subst, ◌∙◌, arith, append_assoc, append-nil, is_some, length-append, take_all, Appends}
+use Rattle.px_num.proofs.Basics.{Consumes}
 use Rattle.px_io.proofs.ToldLaws.{appends_none, consumes_both}
 use Rattle.px_asked.specs.Asks.{Ask, all_given}
 use Rattle.px_asked.proofs.AskLaws.{asked_both, given-append}
-use Rattle.px_lines.specs.Lines.{whole_lines}
-use Rattle.px_lines.specs.Listenings.{ListenedTo, Listens, Silent}
-use Rattle.px_lines.specs.declared.reading.Opening.{Opening}
+use Rattle.px_asked.specs.Lines.{whole_lines}
+use Rattle.px_asked.specs.Listenings.{ListenedTo, Listens, Silent}
+use Rattle.px_asked.specs.declared.reading.Opening.{Opening}
 use Rattle.px_scene.specs.Scenes.{SceneView}
 use Rattle.px_session.specs.Prompts.{Moment, Prompt, Prompts}
 use Rattle.px_session.specs.Servings.{seen}
@@ -34,22 +32,16 @@ listened : (bits : ℕ) (w : Option (List ℕ)) (text : List ℕ) (xs : List Ask
     → InTime bits w text xs
 listened bits w text [] silent = tt
 listened bits w text (a ∷ xs) silent =
-    let none : has_part text ≡ false = no_part text silent.1 in (
-      rw (silent.0, none_due bits text none) (appends_none w),
-      λ part. absurd (let two : true ≡ false = sym part ∙ none in cc),
-      listened bits w (text ++ a.bytes) xs silent.2,
-    )
+    grind (arith, no_part, none_due, appends_none, listened bits w (text ++ a.bytes) xs silent.2)
 
 prompt : (bits n : ℕ) (o : Opening) (scene : SceneView) (z : List ℕ) (s : Stand) (m : ℕ) (behind : List ℕ)
-    (xs : List Ask)
-    → Begins bits o scene → o.part ≡ Some n → s.session ≡ session_opened scene → m ≡ more_than o.text.items - length z
-    → behind ≡ command_text o.text.items ++ z → Prompt bits s m behind xs
+    (xs : List Ask) → Begins bits o scene → o.part ≡ Some n → s.session ≡ session_opened scene
+    → m ≡ more_than o.text.items - length z → behind ≡ command_text o.text.items ++ z → Prompt bits s m behind xs
     → InTime bits s.out.written (o.text.items ++ z) xs
 prompt bits n o scene z s m behind [] begins part start count is prompts = tt
 prompt bits n o scene z s m behind (a ∷ xs) begins part start count is prompts =
     let t = o.text.items ++ z in
-    let held : Holds bits o scene z t =
-    holds bits o scene begins z t (λ none. absurd (let two : Some n ≡ None = sym part ∙ none in cc)) refl in
+    let held : Holds bits o scene z t = holds bits o scene begins z t (λ none. absurd (cc)) refl in
     let whole : has_part t ≡ true = held.whole ∙ ap is_some part in
     let all : seen (more_than o.text.items) z ≡ z =
     take_all (more_than o.text.items - 1) z (omega (arith, count, prompts.2)) in
@@ -69,22 +61,13 @@ prompt bits n o scene z s m behind (a ∷ xs) begins part start count is prompts
 in_time_both : (bits : ℕ) (w : Option (List ℕ)) (text : List ℕ) (xs ys : List Ask) → InTime bits w text xs
     → InTime bits w (text ++ all_given xs) ys → InTime bits w text (xs ++ ys)
 in_time_both bits w text [] ys p q = rw (append-nil text) at q
-in_time_both bits w text (x ∷ xs) ys p q = (
-  p.0,
-  p.1,
-  in_time_both bits w (text ++ x.bytes) xs ys p.2 (rw (append_assoc text x.bytes (all_given xs)) q),
-)
+in_time_both bits w text (x ∷ xs) ys p q =
+    grind (arith, in_time_both bits w (text ++ x.bytes) xs ys p.2 (rw (append_assoc text x.bytes (all_given xs)) q))
 
 -- a scene part was read
 pub answers_listened : (bits : ℕ) (a b : Option (List Ask)) (r s w : Option (List ℕ)) (text : List ℕ)
-    → Consumes r s text
-    → Listens 1048577 a b w text → AnswersInTime bits a b r s w
-answers_listened bits a b r s w text took listens = record {
-  asks = listens.asks;
-  asked = listens.asked;
-  taken = rw listens.given took;
-  in_time = listened bits w [] listens.asks listens.silent;
-}
+    → Consumes r s text → Listens 1048577 a b w text → AnswersInTime bits a b r s w
+answers_listened bits a b r s w text took listens = grind (arith, listened)
 
 pub answers_unread : (bits : ℕ) (a b : Option (List Ask)) (r s w : Option (List ℕ)) → ListenedTo 1048577 a b w r s
     → AnswersInTime bits a b r s w
@@ -94,9 +77,8 @@ answers_unread bits a b r s w (text, took, listens) = answers_listened bits a b 
 pub answers_served : (bits n : ℕ) (o : Opening) (part read : List ℕ) (scene : SceneView) (a : Option (List Ask))
     (r w : Option (List ℕ)) (more : ℕ) (was now : Moment) → Begins bits o scene → HasParts o part read → o.part ≡ Some n
     → Consumes r was.rest o.text.items → Listens 1048577 a was.asks w o.text.items
-    → was.at.session ≡ session_opened scene
-    → was.at.out.written ≡ w → more ≡ more_than o.text.items → Prompts bits read more was now
-    → AnswersInTime bits a now.asks r now.rest w
+    → was.at.session ≡ session_opened scene → was.at.out.written ≡ w → more ≡ more_than o.text.items
+    → Prompts bits read more was now → AnswersInTime bits a now.asks r now.rest w
 answers_served bits n o part read scene a r w more was now begins parts is took listens start same left prompts =
     let xs = listens.asks in
     let ys = prompts.asks in
@@ -104,8 +86,7 @@ answers_served bits n o part read scene a r w more was now begins parts is took 
     record {
       asks = xs ++ ys;
       asked = asked_both a was.asks now.asks xs ys listens.asked prompts.asked;
-      taken = rw (given-append xs ys, listens.given)
-          (consumes_both r was.rest now.rest text (all_given ys) took prompts.taken);
+      taken = grind (arith, given-append, consumes_both);
       in_time = in_time_both bits w [] xs ys (listened bits w [] xs listens.silent)
           (rw listens.given (rw same at
           (rw (append-nil text) at (prompt bits n o scene [] was.at more read ys begins is start

@@ -1,13 +1,11 @@
 -- The scene part of bytes that were read, with more behind them.
-use Rattle.std.proofs.Common.{ℕ, ◌≡◌, ◌+◌, ◌-◌, ◌<◌, ◌≤◌, ◌++◌, ◌&&◌, not, inl, inr, List, [], drop, length}
-use Rattle.std.proofs.Common.{min, take, true, false, Bool, unwrap_or}
-use Rattle.std.proofs.Common.{Option, Some, None, is_some, refl, ap, sym, ◌∙◌, arith, append-nil}
-use Rattle.std.proofs.lemmas.Bool.{cases_lt}
-use Rattle.std.proofs.lemmas.List.{take_all, take_min, take-append-le, drop-append-le}
-use Rattle.std.proofs.Math.Seq.{take-append-add}
-use Rattle.px_lines.specs.PartLaws.{PartIsKept, PartIsWithin}
-use Rattle.px_lines.specs.Parts.{behind_part, holds_part, part_end, scene_part}
-use Rattle.px_lines.specs.declared.reading.Opening.{Opening}
+use Rattle.px_num.proofs.Basics.{ℕ, ◌≡◌, ◌+◌, ◌-◌, ◌<◌, ◌≤◌, ◌++◌, ◌&&◌, not, inl, inr, List, [], drop, length, min}
+use Rattle.px_num.proofs.Basics.{take, true, false, Bool, unwrap_or, Option, Some, None, is_some, refl, ap, sym, ◌∙◌}
+use Rattle.px_num.proofs.Basics.{arith, append-nil, cases_lt, take_all, take_min, take-append-le, drop-append-le}
+use Rattle.px_num.proofs.Basics.{take-append-add}
+use Rattle.px_asked.specs.PartLaws.{PartIsKept, PartIsWithin}
+use Rattle.px_asked.specs.Parts.{behind_part, holds_part, part_end, scene_part}
+use Rattle.px_asked.specs.declared.reading.Opening.{Opening}
 use Rattle.px_session.specs.Servings.{seen}
 use Rattle.px_outcome.specs.Refusals.{is_long}
 use Rattle.px_outcome.proofs.LimitLaws.{short_is}
@@ -16,9 +14,7 @@ use Rattle.px_debug_run.specs.Sittings.{Grown, HasParts, IsOpening, more_than}
 
 pub cut_both : (n : ℕ) (xs ys : List ℕ) → take n (xs ++ ys) ≡ take n xs ++ take (n - length xs) ys
 cut_both n xs ys = elim (cases_lt n (length xs)) [
-  | inl less ↦ (
-      let none : n - length xs ≡ 0 = omega arith in
-      rw (take-append-le n xs ys (omega arith), none) (sym (append-nil (take n xs))))
+  | inl less ↦ grind (arith, take-append-le, append-nil)
   | inr more ↦ (
       let is : n ≡ length xs + (n - length xs) = omega arith in
       ap (λ k. take k (xs ++ ys)) is ∙ take-append-add xs ys (n - length xs)
@@ -96,8 +92,7 @@ is_opening kept within o few part = by_end o.part refl
 
 -- the parts of the bytes that count
 pub within_is : (text xs : List ℕ) (k : ℕ) → xs ≡ text → k ≡ min (length text) 1048576 → take k xs ≡ within_limit text
-within_is text xs k same count =
-    rw same (ap (λ n. take n text) (count ∙ (omega arith)) ∙ take_min 1048576 text)
+within_is text xs k same count = rw same (ap (λ n. take n text) (count ∙ (omega arith)) ∙ take_min 1048576 text)
 
 pub parts_are : (o : Opening) (w : List ℕ) (n : ℕ) → IsOpening o → w ≡ within_limit o.text.items
     → n ≡ unwrap_or o.part (length w)

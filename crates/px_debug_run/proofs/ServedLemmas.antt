@@ -1,9 +1,9 @@
 -- What a session over an input is, by how it ended.
-use Rattle.std.proofs.Common.{ℕ, ◌≡◌, ◌-◌, ◌<◌, ◌≤◌, ◌++◌, ◌&&◌, not, List, [], length, take, true, false, Option}
-use Rattle.std.proofs.Common.{Some, None, Result, Ok, Err, refl, ap, sym, subst, ◌∙◌, arith, append_assoc, append-nil}
-use Rattle.std.proofs.Common.{is_some, length-append, if◌then◌else◌}
+use Rattle.px_num.proofs.Basics.{rules, ℕ, ◌≡◌, ◌-◌, ◌<◌, ◌≤◌, ◌++◌, ◌&&◌, not, List, [], length, take, true, false}
+use Rattle.px_num.proofs.Basics.{Option, Some, None, Result, Ok, Err, refl, ap, sym, subst, ◌∙◌, arith, append_assoc}
+use Rattle.px_num.proofs.Basics.{append-nil, is_some, length-append, if◌then◌else◌, nat_tests, common_steps, Appends}
+use Rattle.px_num.proofs.Basics.{Consumes, IsAtEnd, Keeps}
 use Rattle.std.proofs.Math.Seq.{drop-length}
-use Rattle.std.specs.Io.KnownBytes.{Appends, Consumes, IsAtEnd, Keeps}
 use Rattle.px_io.specs.Told.{ConsumesAtMost, SinkState}
 use Rattle.px_io.proofs.ToldLaws.{appends_kept, appends_none, consumes_both}
 use Rattle.px_asked.specs.Asks.{Ask}
@@ -11,30 +11,29 @@ use Rattle.px_scene.specs.Scenes.{SceneView}
 use Rattle.px_scene.specs.Text.{worded}
 use Rattle.px_scene.specs.Reading.{scene_of}
 use Rattle.px_debug.specs.Moves.{Fits, SessionView}
-use Rattle.px_lines.specs.Lines.{whole_lines}
-use Rattle.px_lines.specs.Parts.{part_end}
-use Rattle.px_lines.specs.declared.reading.Opening.{Opening}
+use Rattle.px_asked.specs.Lines.{whole_lines}
+use Rattle.px_asked.specs.Parts.{part_end}
+use Rattle.px_asked.specs.declared.reading.Opening.{Opening}
 use Rattle.px_session.specs.Prompts.{Moment, moment}
-use Rattle.px_session.specs.Servings as session
 use Rattle.px_session.specs.Servings.{HasRead, HasServed, Serves, lines_in, seen}
 use Rattle.px_session.specs.SessionLaws.{QuitEnds}
 use Rattle.px_session.specs.Sessions.{answers, has_quit, session_opened, stand, until_quit}
 use Rattle.px_session.specs.declared.serving.Ending.{Ending}
-use Rattle.px_session.specs.declared.serving.Ending.TheVariants as e
 use Rattle.px_outcome.specs.declared.stop.Stop.{Stop}
-use Rattle.px_outcome.specs.declared.stop.Stop.TheVariants as s
 use Rattle.px_outcome.specs.Ends.{Ends}
 use Rattle.px_outcome.specs.Outcomes.{Outcome, cut, done, drawable, has_output}
 use Rattle.px_outcome.specs.Refusals.{is_long, text_refusal, too_long}
 use Rattle.px_outcome.specs.Results.{HasCauses, Meets}
 use Rattle.px_outcome.proofs.LimitLaws.{long_is, short_is}
 use Rattle.px_debug_run.specs.Debugs.{Admits, LeavesSession, PerformsSession, admitted, all_commands, answered}
-use Rattle.px_debug_run.specs.Debugs.{command_text}
-use Rattle.px_debug_run.specs.Debugs.{debugged, has_part, part_scene, scene_written, session_of, whole_commands}
-use Rattle.px_debug_run.specs.Debugs.{within_limit}
+use Rattle.px_debug_run.specs.Debugs.{command_text, debugged, has_part, part_scene, scene_written, session_of}
+use Rattle.px_debug_run.specs.Debugs.{whole_commands, within_limit}
 use Rattle.px_debug_run.specs.Sittings.{Finishes, Follows, HasParts, IsOpening, Opens, more_than, result_of}
 use Rattle.px_debug_run.proofs.PartLemmas.{and_not, cut_both}
 use Rattle.px_debug_run.proofs.StopLemmas.{IsSceneIn, admitted_is, debugged_is, extends, is_scene_in, performs_over}
+use Rattle.px_session.specs.Servings as session
+use Rattle.px_session.specs.declared.serving.Ending.TheVariants as e
+use Rattle.px_outcome.specs.declared.stop.Stop.TheVariants as s
 
 -- a session began on what was read
 pub record Begins (bits : ℕ) (o : Opening) (scene : SceneView) : Type 0 where
@@ -44,15 +43,9 @@ pub record Begins (bits : ℕ) (o : Opening) (scene : SceneView) : Type 0 where
   pub draws : (x : Outcome) → drawable bits scene x ≡ x
 
 pub begins : (bits : ℕ) (o : Opening) (front behind : List ℕ) (scene : SceneView) → IsOpening o
-    → HasParts o front behind
-    → (text_refusal front ≡ None) × (scene ≡ scene_of (worded front)) → ((x : Outcome) → drawable bits scene x ≡ x)
-    → Begins bits o scene
-begins bits o front behind scene opening parts good draws = record {
-  opening = opening;
-  short = parts.short;
-  in_it = is_scene_in o front behind scene parts good;
-  draws = draws;
-}
+    → HasParts o front behind → (text_refusal front ≡ None) × (scene ≡ scene_of (worded front))
+    → ((x : Outcome) → drawable bits scene x ≡ x) → Begins bits o scene
+begins bits o front behind scene opening parts good draws = search (rules, is_scene_in, behind, parts.short)
 
 -- what is known of it with more behind it
 pub record Holds (bits : ℕ) (o : Opening) (found : SceneView) (more bytes : List ℕ) : Type 0 where
@@ -107,12 +100,7 @@ record Sat (bits : ℕ) (o : Opening) (scene : SceneView) (z rest : List ℕ) (a
 behind : (bits : ℕ) (o : Opening) (scene : SceneView) (z rest : List ℕ) (after : Ends)
     → Sat bits o scene z rest after → command_text ((o.text.items ++ z) ++ rest)
     ≡ command_text (o.text.items ++ z) ++ take (more_than o.text.items - 1 - length z) rest
-behind bits o scene z rest after sat =
-    let first = command_text o.text.items in
-    let more = more_than o.text.items in
-    sat.all.behind ∙ ap (λ t. first ++ t) (cut_both (more - 1) z rest)
-    ∙ sym (append_assoc first (seen more z) (take (more - 1 - length z) rest))
-    ∙ ap (λ t. t ++ take (more - 1 - length z) rest) (sym sat.taken.behind)
+behind bits o scene z rest after sat = grind (arith, cut_both, append_assoc)
 
 -- what a session does, by how it ended
 abbrev Comes : Result (Unit {0}) Stop → (bits : ℕ) → (taken bytes : List ℕ) → (before after : Ends) → Type 0
@@ -122,8 +110,7 @@ Comes result bits taken bytes before after =
 
 comes : (ending : Ending) (bits : ℕ) (o : Opening) (scene : SceneView) (now : SessionView) (z rest : List ℕ)
     (before after : Ends) → Sat bits o scene z rest after → Fits bits now after.array.device after.array.slots
-    → (ending ≡ e.ReadFault → is_some o.part ≡ true)
-    → HasRead ending z (more_than o.text.items) after.rest
+    → (ending ≡ e.ReadFault → is_some o.part ≡ true) → HasRead ending z (more_than o.text.items) after.rest
     → HasServed ending true bits (stand (session_opened scene) 0 before.out) (stand now after.array.work after.out)
     (lines_in (command_text (o.text.items ++ z)))
     → Comes (result_of ending) bits (o.text.items ++ z) ((o.text.items ++ z) ++ rest) before after
@@ -139,53 +126,22 @@ comes e.Quit bits o scene now z rest before after sat fits part read served =
     ∙ answered_all bytes bits (and_not (is_long bytes) (has_quit (whole_commands bytes)) quits) in
     (rw is refl, record { now = now; answered = rw (sat.all.scene, lines) served.0; fits = fits })
 comes e.End bits o scene now z rest before after sat fits part read served =
-    let bytes = (o.text.items ++ z) ++ rest in
-    let same : bytes ≡ o.text.items ++ z = rw (sat.end read.1) (append-nil (o.text.items ++ z)) in
-    let short : is_long bytes ≡ false =
-    rw same (short_is (o.text.items ++ z) (omega (arith, length-append o.text.items z, read.0))) in
-    let is = sat.all.outcome ∙ answered_all bytes bits (rw short refl) in
-    (rw is refl, record { now = now; answered = rw (sat.all.scene, same) served.0; fits = fits })
+    grind (arith, append-nil, short_is, length-append, answered_all)
 comes e.Long bits o scene now z rest before after sat fits part read served =
-    let bytes = (o.text.items ++ z) ++ rest in
-    let none : more_than o.text.items - 1 - length z ≡ 0 = omega (arith, read) in
-    let same : command_text bytes ≡ command_text (o.text.items ++ z) =
-    behind bits o scene z rest after sat ∙ ap (λ k. command_text (o.text.items ++ z) ++ take k rest) none
-    ∙ append-nil (command_text (o.text.items ++ z)) in
-    let long = long_is bytes
-    (omega (arith, length-append (o.text.items ++ z) rest, length-append o.text.items z, read, sat.few)) in
-    let is = sat.all.outcome ∙ answered_long bytes bits long (rw same served.1) in
-    (rw is refl, rw is (record { now = now; answered = rw (sat.all.scene, same) served.0; fits = fits }))
-comes e.ReadFault bits o scene now z rest before after sat fits part read served = (
-  tt,
-  record {
-    whole = λ whole. record {
-      admits = sat.taken.admits;
-      quiet = served.1;
-      answered = record { now = now; answered = rw sat.taken.scene served.0; fits = fits };
-    };
-    other = λ none. absurd (let two : true ≡ false = sym (sat.taken.whole ∙ part refl) ∙ none in cc);
-  },
-)
-comes e.WriteFault bits o scene now z rest before after sat fits part read served = (
-  ap has_output sat.all.outcome ∙ has_answered ((o.text.items ++ z) ++ rest) bits,
-  record {
-    admits = sat.taken.admits;
-    broken = record { now = now; broken = rw sat.taken.scene served; fits = fits };
-  },
-)
+    grind (arith, nat_tests, common_steps, behind, append-nil, long_is, length-append, answered_long)
+comes e.ReadFault bits o scene now z rest before after sat fits part read served = grind arith
+comes e.WriteFault bits o scene now z rest before after sat fits part read served = grind (arith, has_answered)
 
 neither : (xs ys : List ℕ) → xs ≡ [] → ys ≡ [] → xs ++ ys ≡ []
 neither xs ys first second = rw (first, second) refl
 
 -- behind a scene part `z` was taken
 performs_sat : QuitEnds → (ending : Ending) (bits : ℕ) (o : Opening) (scene : SceneView) (now : SessionView)
-    (z : List ℕ)
-    (before after : Ends) → Begins bits o scene → Consumes before.rest after.rest (o.text.items ++ z)
+    (z : List ℕ) (before after : Ends) → Begins bits o scene → Consumes before.rest after.rest (o.text.items ++ z)
     → (o.part ≡ None → (z ≡ []) × IsAtEnd after.rest) → Fits bits now after.array.device after.array.slots
     → (ending ≡ e.ReadFault → is_some o.part ≡ true) → HasRead ending z (more_than o.text.items) after.rest
     → HasServed ending true bits (stand (session_opened scene) 0 before.out) (stand now after.array.work after.out)
-    (lines_in (command_text (o.text.items ++ z)))
-    → PerformsSession (result_of ending) bits before after
+    (lines_in (command_text (o.text.items ++ z))) → PerformsSession (result_of ending) bits before after
 performs_sat quit ending bits o scene now z before after begins consumed all fits part read served =
     let text = o.text.items in
     let ext = extends before.rest after.rest (text ++ z) consumed in
@@ -202,27 +158,16 @@ performs_sat quit ending bits o scene now z before after begins consumed all fit
 
 -- command lines behind a whole scene part were answered
 pub performs_served : QuitEnds → (result : Result (Unit {0}) Stop) (ending : Ending) (bits : ℕ) (o : Opening)
-    (scene : SceneView)
-    (n more : ℕ) (part read : List ℕ) (from now : SessionView) (work : ℕ) (asks asks' : Option (List Ask))
-    (rest : Option (List ℕ)) (faults : ℕ) (before after : Ends)
-    → Begins bits o scene → Opens o before.rest rest → HasParts o part read → o.part ≡ Some n
-    → more ≡ more_than o.text.items
+    (scene : SceneView) (n more : ℕ) (part read : List ℕ) (from now : SessionView) (work : ℕ)
+    (asks asks' : Option (List Ask)) (rest : Option (List ℕ)) (faults : ℕ) (before after : Ends) → Begins bits o scene
+    → Opens o before.rest rest → HasParts o part read → o.part ≡ Some n → more ≡ more_than o.text.items
     → result ≡ result_of ending → from ≡ session_opened scene → work ≡ 0
     → Fits bits now after.array.device after.array.slots
     → Serves ending bits read more (moment from work before.out asks rest faults)
-    (moment now after.array.work after.out asks' after.rest after.faults)
-    → PerformsSession result bits before after
+    (moment now after.array.work after.out asks' after.rest after.faults) → PerformsSession result bits before after
 performs_served quit result ending bits o scene n more part read from now work asks asks' rest faults before after
     begins opens parts is left result_is start none fits serves =
-    let z = serves.bytes in
-    let text = o.text.items in
-    let never : (A : Type 0) → o.part ≡ None → A =
-    λ A absent. absurd (let two : Some n ≡ None = sym is ∙ absent in cc) in
-    let taken = holds bits o scene begins z (text ++ z) (λ absent. never _ absent) refl in
-    let whole : read ++ seen more z ≡ command_text (text ++ z) = rw (parts.commands, left) (sym taken.behind) in
-    rw result_is (performs_sat quit ending bits o scene now z before after begins
-    (consumes_both before.rest rest after.rest text z opens.taken serves.taken) (λ absent. never _ absent) fits
-    (λ failed. ap is_some is) (rw left at serves.ended) (rw (whole, start, none) at serves.served))
+    grind (arith, holds, begins, performs_sat, consumes_both, is_some)
 
 -- there was nothing behind it
 appended : (a b : SinkState) → Keeps a.written b.written → Appends a.written b.written []
@@ -255,8 +200,7 @@ performs_empty quit result bits o scene from before after begins opens none star
     sat : (ending : Ending) → (ending ≡ e.ReadFault → is_some o.part ≡ true)
         → HasRead ending [] (more_than text) after.rest
         → HasServed ending true bits (stand (session_opened scene) 0 before.out) (stand from after.array.work after.out)
-        (lines_in [])
-        → PerformsSession (result_of ending) bits before after
+        (lines_in []) → PerformsSession (result_of ending) bits before after
     sat ending part read served =
         performs_sat quit ending bits o scene from [] before after begins (rw same opens.taken) (λ none. (refl, at_end))
         fits part read (rw nothing served)
@@ -277,11 +221,7 @@ performs_empty quit result bits o scene from before after begins opens none star
       state = record { session = start; work = omega (arith, idle) };
       gained = 0;
       before = omega arith;
-      wrote = record {
-        within = omega arith;
-        front = appended before.out after.out kept;
-        end = record { taken = λ some. absurd (omega arith); idle = λ e. end };
-      };
+      wrote = grind (arith, appended);
     })
     by_result (Err s.Usage) end = absurd end
     by_result (Err (s.Refused reason)) end = absurd end
@@ -289,8 +229,7 @@ performs_empty quit result bits o scene from before after begins opens none star
     by_result (Err (s.Memory _)) end = absurd end
 
 pub took_served : (ending : Ending) (bits : ℕ) (o : Opening) (read : List ℕ) (more : ℕ) (known : Option (List ℕ))
-    (was now : Moment)
-    → Opens o known was.rest → more ≡ more_than o.text.items → Serves ending bits read more was now
+    (was now : Moment) → Opens o known was.rest → more ≡ more_than o.text.items → Serves ending bits read more was now
     → ConsumesAtMost known now.rest 1048577
 took_served ending bits o read more known was now opens left serves = (
   o.text.items ++ serves.bytes,

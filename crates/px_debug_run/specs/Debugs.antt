@@ -9,8 +9,8 @@ use Rattle.px_scene.specs.Text.{worded}
 use Rattle.px_scene.specs.Reading.{scene_of}
 use Rattle.px_control.specs.Program.{IsAt}
 use Rattle.px_debug.specs.Moves.{Fits, SessionView}
-use Rattle.px_lines.specs.Lines.{all_lines, whole_lines}
-use Rattle.px_lines.specs.Parts.{behind_part, holds_part, scene_part}
+use Rattle.px_asked.specs.Lines.{all_lines, whole_lines}
+use Rattle.px_asked.specs.Parts.{behind_part, holds_part, scene_part}
 use Rattle.px_session.specs.Servings.{Answered, Broken}
 use Rattle.px_session.specs.Sessions.{answers, has_quit, session_opened, stand, until_quit}
 use Rattle.px_outcome.specs.declared.refusal.Refusal.TheVariants as r

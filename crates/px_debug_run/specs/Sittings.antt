@@ -1,20 +1,21 @@
 -- What the pieces of `debug` say by their results. Only proofs and private functions stand on it.
-use Rattle.std.specs.Prelude.{◌≡◌, ℕ, ◌-◌, ◌<◌, ◌≤◌, List, [], ◌++◌, true, false, ◌&&◌, not, ⊤, Option, None}
+use Rattle.std.specs.Prelude.{◌≡◌, ℕ, ◌-◌, ◌<◌, ◌≤◌, List, [], ◌++◌, true, false, ◌&&◌, not, Option, None}
 use Rattle.std.specs.Prelude.{Result, Ok, Err}
 use Rattle.std.specs.Prelude.{is_some, length, unwrap_or}
 use Rattle.std.specs.Io.KnownBytes.{Consumes, IsAtEnd}
 use Rattle.px_io.specs.Told.{SinkState, Tells}
 use Rattle.px_array.specs.Slots.{ArrayView}
 use Rattle.px_scene.specs.Scenes.{SceneView}
-use Rattle.px_lines.specs.Parts.{part_end}
-use Rattle.px_lines.specs.Readings.{TookNoPart}
-use Rattle.px_lines.specs.declared.reading.Opening.{Opening}
+use Rattle.px_asked.specs.Parts.{part_end}
+use Rattle.px_asked.specs.declared.reading.Opening.{Opening}
 use Rattle.px_session.specs.Servings.{seen}
 use Rattle.px_session.specs.declared.serving.Ending.{Ending}
 use Rattle.px_session.specs.declared.serving.Ending.TheVariants as e
 use Rattle.px_outcome.specs.declared.refusal.TheConstants.{READ_LIMIT}
 use Rattle.px_outcome.specs.declared.status.Status.{Status}
 use Rattle.px_outcome.specs.declared.status.Status.TheVariants as status
+use Rattle.px_outcome.specs.declared.stop.SceneStop.{SceneStop}
+use Rattle.px_outcome.specs.declared.stop.SceneStop.TheVariants as halted
 use Rattle.px_outcome.specs.declared.stop.Stop.{Stop}
 use Rattle.px_outcome.specs.declared.stop.Stop.TheVariants as s
 use Rattle.px_outcome.specs.Refusals.{is_long, too_long}
@@ -48,12 +49,6 @@ pub record Opens (o : Opening) (known_old known_new : Option (List ℕ)) : Type 
   pub opening : IsOpening o
   pub end : o.part ≡ None → length o.text.items < READ_LIMIT → IsAtEnd known_new
 
--- why it was not
-abbrev pub IsOpenStop : Stop → (known_old known_new : Option (List ℕ)) → Type 0
-IsOpenStop s.ReadFault known_old known_new = TookNoPart known_old known_new READ_LIMIT
-IsOpenStop (s.Memory _) known_old known_new = ⊤
-IsOpenStop stop known_old known_new = ⊥
-
 -- the scene part, and what was read behind it
 pub record HasParts (o : Opening) (front behind : List ℕ) : Type 0 where
   pub part : front ≡ scene_part_of o.text.items
@@ -61,8 +56,8 @@ pub record HasParts (o : Opening) (front behind : List ℕ) : Type 0 where
   pub short : o.part ≡ None → length o.text.items < READ_LIMIT
 
 -- a scene part that is not whole within the limit of a text
-pub record IsTooLong (o : Opening) (stop : Stop) : Type 0 where
-  pub refused : stop ≡ s.Refused too_long
+pub record IsTooLong (o : Opening) (stop : SceneStop) : Type 0 where
+  pub refused : stop ≡ halted.Refused too_long
   pub none : o.part ≡ None
   pub full : length o.text.items ≡ READ_LIMIT
 

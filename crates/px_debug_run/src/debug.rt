@@ -1,10 +1,12 @@
 //! The command `debug`: a session over the scene part of the input, whose command lines are the rest.
-ghost use Rattle.std.specs.Prelude.{◌≡◌, ◌≢◌, ◌≤◌, ℕ, IfErr, IfOk, OnErr, OnOk, Err};
+ghost use Rattle.std.specs.Prelude.{◌≡◌, ◌≢◌, ◌≤◌, ℕ, IfErr, IfOk, IsErrOf, OnErr, OnOk, Err};
 ghost use Rattle.std.specs.Io.KnownBytes.{Keeps};
 ghost use Rattle.px_io.specs.Told.{ConsumesAtMost};
 ghost use Rattle.px_array.specs.Slots.{array_view};
 ghost use Rattle.px_debug.specs.Moves.{Fits};
-ghost use Rattle.px_lines.specs.Listenings.{ListenedTo, Listens};
+ghost use Rattle.px_io.specs.declared.reading.ReadError.{ReadError};
+ghost use Rattle.px_asked.specs.Listenings.{ListenedTo, Listens};
+ghost use Rattle.px_asked.specs.Readings.{TookNoPart};
 ghost use Rattle.px_session.specs.Sessions.{session_opened};
 ghost use Rattle.px_outcome.specs.declared.stop.Stop.{Stop};
 ghost use Rattle.px_debug_run.specs.Askings.{AnswersInTime};
@@ -12,16 +14,15 @@ ghost use Rattle.px_debug_run.specs.Debugs.{PerformsSession};
 ghost use Rattle.px_outcome.specs.Outcomes.{Outcome, drawable};
 ghost use Rattle.px_outcome.specs.Ends.{ends};
 ghost use Rattle.px_outcome.specs.Results.{HasCauses, status_of};
-ghost use Rattle.px_debug_run.specs.Sittings.{Finishes, HasParts, IsOpenStop, IsOpening, IsTooLong, LeavesClosed, Opens, result_of};
-ghost use Rattle.px_outcome.specs.Stops.{IsReadStop, StopsAt};
+ghost use Rattle.px_debug_run.specs.Sittings.{Finishes, HasParts, IsOpening, IsTooLong, LeavesClosed, Opens, result_of};
+ghost use Rattle.px_outcome.specs.Stops.{IsReadCause, StopsAt, stopped};
 
 use px_array::Array;
-use px_asked::Asks;
+use px_asked::{Asks, Opening, laws_of_parts, read_part};
 use px_asm::Operating;
 use px_debug::Session;
-use px_io::Sink;
-use px_lines::{Opening, laws_of_parts, read_part};
-use px_outcome::{READ_LIMIT, Stop, open_job, scene_in, too_long};
+use px_io::{ReadError, Sink};
+use px_outcome::{READ_LIMIT, SceneStop, Stop, open_job, scene_in, too_long};
 use px_scene::Scene;
 use px_session::{Ending, laws_of_sessions, serve};
 use std::alloc::Global;
@@ -61,34 +62,39 @@ pub fn debug_input<S: Asks<O>, O: Sink, A: Operating>(
 }
 
 /// Reads the input until its scene part is whole, or to its end or its limit.
-fn open_input<S: Asks<O>, O: Sink>(alloc: Global, input: &mut S, out: &O) -> Result<Opening, Stop>
+fn open_input<S: Asks<O>, O: Sink>(
+    alloc: Global,
+    input: &mut S,
+    out: &O,
+) -> Result<Opening, ReadError>
     ensures opens { IfOk result (λ o. Opens o (S.rest input.old) (S.rest input.new)) }
-    ensures err { IfErr result (λ stop. IsOpenStop stop (S.rest input.old) (S.rest input.new)) }
+    ensures failed { IsErrOf result ReadError.Failed →
+        TookNoPart (S.rest input.old) (S.rest input.new) READ_LIMIT }
     ensures most { ConsumesAtMost (S.rest input.old) (S.rest input.new) READ_LIMIT }
     ensures listens { IfOk result (λ o. Listens READ_LIMIT (S.asks input.old) (S.asks input.new)
         (O.state out.now).written o.text.items) }
     ensures listened { OnErr result (ListenedTo READ_LIMIT (S.asks input.old) (S.asks input.new)
         (O.state out.now).written (S.rest input.old) (S.rest input.new)) }
     ensures calm { OnOk result (S.faults input.new ≡ S.faults input.old) }
-    ensures cause { IfErr result (λ stop.
-        IsReadStop stop (S.faults input.old) (S.faults input.new)) }
+    ensures cause { IfErr result (λ fault.
+        IsReadCause fault (S.faults input.old) (S.faults input.new)) }
 {
     laws_of_parts();
     match read_part(alloc, input, out, READ_LIMIT) {
         Ok(opening) => Ok(opening),
-        Err(fault) => Err(Stop::from(fault)),
+        Err(fault) => Err(fault),
     }
 }
 
 /// The scene part, and what was read behind it without the byte past the limit; a part that is not
 /// whole within the limit is past it.
-fn parts_of(opening: &Opening) -> Result<(&[u8], &[u8]), Stop>
+fn parts_of(opening: &Opening) -> Result<(&[u8], &[u8]), SceneStop>
     requires { IsOpening opening.now }
     ensures ok { IfOk result (λ parts. HasParts opening.now parts.0.now parts.1.now) }
     ensures err { IfErr result (λ stop. IsTooLong opening.now stop) }
 {
     if opening.part.is_none() && opening.text.len() == READ_LIMIT {
-        return Err(Stop::Refused(too_long()));
+        return Err(SceneStop::Refused(too_long()));
     }
     let counted = &opening.text[..opening.text.len().min(READ_LIMIT - 1)];
     Ok(counted.split_at(opening.part.unwrap_or(counted.len())))
@@ -99,7 +105,7 @@ fn open_session<'s, A: Array>(
     alloc: Global,
     scene: &'s Scene,
     array: &mut A,
-) -> Result<Session<'s>, Stop>
+) -> Result<Session<'s>, SceneStop>
     requires bits { A.BITS ≤ 256 }
     ensures session { IfOk result (λ session. session ≡ session_opened scene.now) }
     ensures fits { IfOk result (λ session. Fits A.BITS session (A.device array.new)
@@ -107,14 +113,14 @@ fn open_session<'s, A: Array>(
     ensures work { OnOk result (A.work array.new ≡ 0) }
     ensures draws { OnOk result ((o : Outcome) → drawable A.BITS scene.now o ≡ o) }
     ensures err { IfErr result (λ stop. StopsAt (drawable A.BITS scene.now) stop) }
-    ensures array { IfErr result (λ stop. LeavesClosed (status_of stop) A.BITS scene.now
+    ensures array { IfErr result (λ stop. LeavesClosed (status_of (stopped stop)) A.BITS scene.now
         (array_view (A.device array.old) (A.slots array.old) (A.work array.old))
         (array_view (A.device array.new) (A.slots array.new) (A.work array.new))) }
 {
     let job = open_job(alloc, scene, array)?;
     match Session::new(alloc, job, array) {
         Ok(session) => Ok(session),
-        Err(lack) => Err(Stop::Memory(lack)),
+        Err(lack) => Err(SceneStop::Memory(lack)),
     }
 }
 

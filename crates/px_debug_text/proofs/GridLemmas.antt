@@ -1,7 +1,5 @@
 -- Places in a grid and in a tree.
-use Rattle.std.proofs.Common.{◌≡◌, ℕ, ◌+◌, ◌*◌, ◌^◌, ◌<◌, ◌≤◌, length, arith}
-use Rattle.std.proofs.Math.Pow.{pow_mono}
-use Rattle.std.proofs.lemmas.Nat.{pow-add, mul-add-lt}
+use Rattle.px_num.proofs.Basics.{◌≡◌, ℕ, ◌+◌, ◌*◌, ◌^◌, ◌<◌, ◌≤◌, length, arith, pow_mono, pow-add, mul-add-lt}
 use Rattle.px_array.specs.Arrays.{HasGrid, State, pixel_of}
 
 pub below_power : (x e most : ℕ) → x < 2 ^ e → e ≤ most → x < 2 ^ most

@@ -1,8 +1,6 @@
 -- Images one after another.
-use Rattle.std.proofs.Common.{◌≡◌, ℕ, ◌+◌, ◌<◌, List, [], ◌∷◌, ◌++◌, length, take, drop, get_or, refl, ap, sym, ◌∙◌}
-use Rattle.std.proofs.Common.{append-nil}
-use Rattle.std.proofs.lemmas.Grind.{flat_map-append}
-use Rattle.std.proofs.lemmas.List.{take_more, take-append-drop}
+use Rattle.px_num.proofs.Basics.{◌≡◌, ℕ, ◌+◌, ◌<◌, List, [], ◌∷◌, ◌++◌, length, take, drop, get_or, refl, ap, sym, ◌∙◌}
+use Rattle.px_num.proofs.Basics.{append-nil, flat_map-append, take_more, take-append-drop}
 use Rattle.px_model.specs.Scenes.{SceneView}
 use Rattle.px_frame.specs.Picture.{picture_image}
 use Rattle.px_frame.specs.declared.plane.Plane.{Plane}

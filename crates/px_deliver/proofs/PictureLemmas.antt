@@ -1,5 +1,5 @@
 -- What the images of an accepted text show, from what texts and pictures are known for; and which scenes are drawn.
-use Rattle.std.proofs.Common.{ℕ, Option, refl}
+use Rattle.px_num.proofs.Basics.{ℕ, Option, refl}
 use Rattle.px_model.specs.Cells.{picture}
 use Rattle.px_face.specs.Seen.{PicturesShowFirstCells}
 use Rattle.px_scene.specs.AcceptedLaw.{AcceptedIsLawful}

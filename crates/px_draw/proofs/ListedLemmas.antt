@@ -1,8 +1,8 @@
 -- The text of a scene's passes, played.
-use Rattle.std.proofs.Common.{ℕ, ◌≡◌, ◌≢◌, ◌≤◌, List, length, Bool, true, false, nat_lt, if◌then◌else◌, Option, Some}
-use Rattle.std.proofs.Common.{None, refl, ap, subst, sym, ◌∙◌, All}
+use Rattle.px_num.proofs.Basics.{arith, ℕ, ◌≡◌, ◌≢◌, ◌≤◌, List, length, Bool, true, false, nat_lt, if◌then◌else◌}
+use Rattle.px_num.proofs.Basics.{Option, Some, None, refl, ap, subst, sym, ◌∙◌, nat_tests, common_steps}
 use Rattle.px_num.specs.Want.{want}
-use Rattle.px_macro.specs.Macros.{IsLawful, IsLawfulInMore}
+use Rattle.px_macro.specs.Macros.{IsLawfulInMore}
 use Rattle.px_num.proofs.TruthLaws.{lt_fails}
 use Rattle.px_text.specs.declared.text.TheConstants.{MAX_TEXT_BYTES}
 use Rattle.px_prune.specs.Kept.{crowd_of}
@@ -15,17 +15,15 @@ use Rattle.px_listing.specs.Listings.{ListingView, canonical_listing}
 use Rattle.px_playing.specs.Memories.{played_text}
 use Rattle.px_playing.specs.PassesText.{CanPlay, PassesAreReadBack, PlayedPassesShowThePicture, passes_listing}
 use Rattle.px_playing.specs.Played.{HasPlayed}
-use Rattle.px_listing.specs.Reading.{listing_refusal_of}
+use Rattle.px_listing.specs.Reading.{listing_refusal_of, ListFault}
 use Rattle.px_listing.specs.RoundTrip.{IsReadAsListing}
-use Rattle.px_listing.specs.Reading.{ListFault}
-use Rattle.px_show.specs.declared.fault.TextFault.TheVariants as f
 use Rattle.px_outcome.specs.declared.refusal.Refusal.{Refusal}
-use Rattle.px_draw.specs.ListedScenes.{DoneShowsThePicture, IsListed, ListedPassesArePlayed}
-use Rattle.px_draw.specs.ListedScenes.{ListedPassesShowThePicture}
+use Rattle.px_draw.specs.ListedScenes.{DoneShowsThePicture, IsListed, ListedPassesArePlayed, ListedPassesShowThePicture}
 use Rattle.px_play_run.specs.Listings.{list_refusal, list_refusal_by, listing_written}
 use Rattle.px_outcome.specs.Outcomes.{Outcome, done, refused, refused_past, unless_refused}
 use Rattle.px_outcome.specs.Refusals.{short_of_bits, too_long}
 use Rattle.px_outcome.proofs.LimitLaws.{at_most}
+use Rattle.px_show.specs.declared.fault.TextFault.TheVariants as f
 
 -- an outcome that is done passed the limits of a scene
 abbrev limited : Bool → Refusal → Option ℕ → List ℕ → Outcome
@@ -52,14 +50,7 @@ pub record Laws : Type 0 where
   pub picture : PlayedPassesShowThePicture
 
 can_play : Laws → (bits : ℕ) (scene : SceneView) (text : List ℕ) → IsListed bits scene text → CanPlay bits scene
-can_play laws bits scene text is = record {
-  scene_is = is.scene_is;
-  solids = is.solids;
-  lawful = passes_lawful laws.more laws.lawful bits scene is.scene_is is.solids
-      (lt_fails bits (need_of (layout_of scene)) (not_short (nat_lt bits (need_of (layout_of scene)))
-      (short_of_bits (need_of (layout_of scene)))
-      (crowd_of scene) (canonical_listing (passes_listing scene)) text is.answer));
-}
+can_play laws bits scene text is = grind (arith, nat_tests, common_steps, passes_lawful, lt_fails, not_short)
 
 read_as : Laws → (bits : ℕ) (scene : SceneView) (text : List ℕ) → IsListed bits scene text
     → IsReadAsListing bits text (passes_listing scene)
@@ -79,11 +70,7 @@ unfolding list_refusal
 not_refused bits text l read short = rw (at_most (length text) short, read.good) refl
 
 pub passes_played : Laws → ListedPassesArePlayed
-passes_played laws bits scene text is short =
-    let read = read_as laws bits scene text is in
-    ap (λ (r : Option Refusal). unless_refused r (done (played_text bits (listing_written text))))
-    (not_refused bits text (passes_listing scene) read short)
-    ∙ ap (λ (l : ListingView). done (played_text bits l)) (written_as bits text (passes_listing scene) read)
+passes_played laws bits scene text is short = grind (arith, read_as, not_refused, written_as)
 
 pub passes_shown : Laws → ListedPassesShowThePicture
 passes_shown laws bits scene text device is played =
@@ -120,12 +107,7 @@ done_shown laws listed_bits bits scene text answer is done_so =
     let read = read_as laws listed_bits scene text is in
     let same = written_as listed_bits text (passes_listing scene) read in
     let result = not_refused_by (list_refusal bits text) (played_text bits (listing_written text)) answer done_so in
-    let can : CanPlay bits scene = record {
-      scene_is = is.scene_is;
-      solids = is.solids;
-      lawful = subst (λ (l : ListingView). All (λ m. IsLawful m bits) l.macros) read.read
-          (laws.accepted bits text (accepted laws bits text result.0));
-    } in
+    let can : CanPlay bits scene = grind (arith, accepted) in
     record {
       lines = sym result.1 ∙ ap (played_text bits) same;
       picture = λ device played. laws.picture bits scene device.state can

@@ -1,22 +1,22 @@
 -- What a command does is what a run of its words does.
-use Rattle.std.proofs.Common.{ℕ, ◌≡◌, List, [], Option, Some, None, Ok, Err, refl, subst, Result, sym}
+use Rattle.px_num.proofs.Basics.{arith, ℕ, ◌≡◌, List, [], Option, Some, None, Ok, Err, refl, subst, Result, sym}
 use Rattle.px_io.proofs.ToldLaws.{consumes_none, stays}
 use Rattle.px_io.specs.Told.{SinkState}
 use Rattle.px_command.specs.declared.command.Command.{Command}
 use Rattle.px_outcome.specs.declared.stop.Stop.{Stop}
-use Rattle.px_outcome.specs.declared.stop.Stop.TheVariants as s
 use Rattle.px_outcome.specs.declared.status.Status.{Status}
-use Rattle.px_outcome.specs.declared.status.Status.TheVariants as status
 use Rattle.px_command.specs.Commands.{command_of}
 use Rattle.px_outcome.specs.Ends.{Ends, with_notes}
 use Rattle.px_outcome.specs.Notes.{IsTold, note_of}
 use Rattle.px_outcome.specs.Results.{HasCauses, status_of, status_in}
 use Rattle.px_draw.specs.Runs.{IsRunOf, Leaves, Performs, commanded}
 use Rattle.px_outcome.proofs.RunLaws.{performs_over, still}
-use Rattle.px_command.specs.declared.command.Command.TheVariants as c
 use Rattle.px_outcome.specs.Arrays.{Draws}
-use Rattle.px_sample_run.specs.Samples.{sample_scene, sampled}
+use Rattle.px_sample.specs.Samples.{sample_scene, sampled}
 use Rattle.px_outcome.specs.Stops.{DoesWork}
+use Rattle.px_outcome.specs.declared.stop.Stop.TheVariants as s
+use Rattle.px_outcome.specs.declared.status.Status.TheVariants as status
+use Rattle.px_command.specs.declared.command.Command.TheVariants as c
 
 -- a run that did its work tells nothing
 pub run_done : (words : List (List ℕ)) (bits : ℕ) (u : Unit {0}) (before after : Ends) (notes : SinkState)
@@ -28,20 +28,11 @@ run_done words bits u before after notes performs causes =
 
 -- a run that was stopped tells its line
 pub run_stopped : (words : List (List ℕ)) (bits : ℕ) (stop : Stop) (found : Status) (line : List ℕ)
-    (before after : Ends)
-    (notes noted : SinkState) → Performs (Err stop) (command_of words) bits before after
-    → HasCauses (Err stop) before.faults after.faults before.out.faults after.out.faults
-    → found ≡ status_of stop → line ≡ note_of stop → IsTold line notes noted
+    (before after : Ends) (notes noted : SinkState) → Performs (Err stop) (command_of words) bits before after
+    → HasCauses (Err stop) before.faults after.faults before.out.faults after.out.faults → found ≡ status_of stop
+    → line ≡ note_of stop → IsTold line notes noted
     → IsRunOf words bits found (with_notes before notes) (with_notes after noted)
-run_stopped words bits stop found line before after notes noted performs causes is same told =
-    record {
-      result = Err stop;
-      status = is;
-      performs = performs;
-      causes = causes;
-      noted =
-          subst (λ l. IsTold l notes noted) same told;
-    }
+run_stopped words bits stop found line before after notes noted performs causes is same told = grind arith
 
 -- words that name no command
 pub performs_usage : (command : Option Command) (bits : ℕ) (ends : Ends) → command ≡ None

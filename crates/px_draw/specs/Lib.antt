@@ -18,9 +18,9 @@ pub use Rattle.px_outcome.specs.Results
 pub use Rattle.px_outcome.specs.Statuses
 pub use Rattle.px_outcome.specs.Stops
 pub use Rattle.px_play_run.specs.Listings
-pub use Rattle.px_sample_run.specs.Samples
-pub use Rattle.px_shadow_run.specs.Shadows
-pub use Rattle.px_words.specs.Words
+pub use Rattle.px_sample.specs.Samples
+pub use Rattle.px_shadow.specs.Shadows
+pub use Rattle.px_outcome.specs.Words
 pub use Rattle.px_work_run.specs.Refining
 pub use Rattle.px_work_run.specs.Tiling
 pub use Rattle.px_work_run.specs.Works

@@ -16,8 +16,8 @@ use Rattle.px_outcome.specs.Outcomes.{Outcome, usage}
 use Rattle.px_outcome.specs.Results.{HasCauses, status_in}
 use Rattle.px_work_run.specs.Works.{LeavesWork, worked_out}
 use Rattle.px_debug_run.specs.Debugs.{LeavesSession, debugged}
-use Rattle.px_shadow_run.specs.Shadows.{LeavesShadows, shadowed}
-use Rattle.px_sample_run.specs.Samples.{sample_scene, sampled}
+use Rattle.px_shadow.specs.Shadows.{LeavesShadows, shadowed}
+use Rattle.px_sample.specs.Samples.{sample_scene, sampled}
 use Rattle.px_play_run.specs.Listings.{LeavesPlayed, played_out}
 
 -- what a command answers, where these are the bytes of its input

@@ -16,8 +16,8 @@ use px_debug_run::debug_input;
 use px_io::Sink;
 use px_outcome::{Status, Stop, line_of, tell};
 use px_play_run::play_input;
-use px_sample_run::draw_sample;
-use px_shadow_run::shadow_input;
+use px_sample::draw_sample;
+use px_shadow::shadow_input;
 use px_work_run::make_of_input;
 use std::alloc::Global;
 

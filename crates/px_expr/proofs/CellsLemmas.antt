@@ -1,20 +1,13 @@
 -- Surfaces and members of joined expressions.
-use Rattle.std.proofs.Common.{ℕ, ◌≡◌, ◌<◌, not, refl, ap, ◌∙◌}
+use Rattle.px_num.proofs.Basics.{arith, ℕ, ◌≡◌, ◌<◌, refl}
 use Rattle.px_expr.specs.Tree.{Tree, leaf, join, HasLeavesBelow}
-use Rattle.px_expr.specs.Cells.{Cell, cell, combined, is_member, HasSurface, combination_of, complement_of}
+use Rattle.px_expr.specs.Cells.{Cell, cell, combined, is_member, HasSurface}
 use Rattle.px_expr.specs.declared.node.Op.{Op}
 use Rattle.px_expr.proofs.CombinationLaws.{combination_begins, truth_of_complement}
 
 has_combined : (op : Op) (a b c d : Cell) → HasSurface a c → HasSurface b d
     → HasSurface (combined op a b) (combined op c d)
-has_combined op a b c d left right =
-    let k = combination_of op in
-    record {
-      first = combination_begins k a b c d left right;
-      behind = λ before now. combination_begins (complement_of k) a b c d left right
-          (truth_of_complement k a.member b.member ∙ ap not before)
-          (truth_of_complement k c.member d.member ∙ ap not now);
-    }
+has_combined op a b c d left right = grind (arith, combination_begins, truth_of_complement)
 
 pub has_surface : (before now : ℕ → Cell) (count : ℕ)
     → ((solid : ℕ) → solid < count → HasSurface (before solid) (now solid))

@@ -1,9 +1,9 @@
 -- Laws of combinations: which cells the complement of one has, and that what begins shows a face.
-use Rattle.std.proofs.Common.{ℕ, ◌≡◌, ◌<◌, ◌&&◌, ◌||◌, ◌++◌, Bool, true, false, not, List, length, refl, arith}
-use Rattle.std.proofs.Common.{length-append}
+use Rattle.px_num.proofs.Basics.{ℕ, ◌≡◌, ◌<◌, ◌&&◌, ◌||◌, ◌++◌, Bool, true, false, not, List, length, refl, arith}
+use Rattle.px_num.proofs.Basics.{length-append}
 use Rattle.px_num.proofs.TruthLaws.{not_false, not_true}
-use Rattle.px_expr.specs.Cells.{Cell, HasSurface, shown_in, shown_when, where_true}
-use Rattle.px_expr.specs.Cells.{complement_of, opposite, truth_in, truth_when}
+use Rattle.px_expr.specs.Cells.{Cell, HasSurface, shown_in, shown_when, where_true, complement_of, opposite, truth_in}
+use Rattle.px_expr.specs.Cells.{truth_when}
 use Rattle.px_expr.specs.declared.node.Sense.{Sense}
 use Rattle.px_expr.specs.declared.node.Sense.TheVariants.{Plain, Complement}
 use Rattle.px_expr.specs.declared.node.Combination.{Combination}

@@ -1,5 +1,5 @@
 -- An expression over some solids is one over more, and over one at least.
-use Rattle.std.proofs.Common.{ℕ, ◌<◌, ◌≤◌, arith}
+use Rattle.px_num.proofs.Basics.{ℕ, ◌<◌, ◌≤◌, arith}
 use Rattle.px_expr.specs.Tree.{HasLeavesBelow, Tree, join, leaf}
 
 pub leaves_below : (count more : ℕ) → count ≤ more → (tree : Tree) → HasLeavesBelow count tree

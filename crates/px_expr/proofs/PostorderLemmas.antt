@@ -1,10 +1,7 @@
 -- The nodes of a tree, read from the first on.
-use Rattle.std.proofs.Common.{ℕ, ◌≡◌, ◌≤◌, ◌<◌, ◌+◌, ◌-◌, ◌*◌, List, [], ◌∷◌, ◌++◌, length, take, get_or, fold, refl}
-use Rattle.std.proofs.Common.{◌∙◌, arith, rules, length-append}
-use Rattle.std.specs.List.{All}
-use Rattle.std.proofs.lemmas.List.Sums.{fold-append}
-use Rattle.std.proofs.lemmas.List.Elements.{All-nil, All-cons, All-append}
-use Prim.Native.Nat.{zero, suc}
+use Rattle.px_num.proofs.Basics.{ℕ, ◌≡◌, ◌≤◌, ◌<◌, ◌+◌, ◌*◌, List, [], ◌∷◌, ◌++◌, length, take, get_or, fold, refl}
+use Rattle.px_num.proofs.Basics.{arith, rules, length-append, All, fold-append, All-nil, All-cons, All-append, zero}
+use Rattle.px_num.proofs.Basics.{suc}
 use Rattle.px_expr.specs.Tree.{Tree, leaf, join, leaf_count, nesting, HasLeavesBelow}
 use Rattle.px_expr.specs.Shapes.{node_shape, op_node, joined, CanPlace, IsLeafBelow}
 use Rattle.px_expr.proofs.OperatorLaws.{shape_of_op}
@@ -20,12 +17,7 @@ size_leaves (join op left right) = omega (arith, size_leaves left, size_leaves r
 pub length-nodes_behind : (others : ℕ) (tree : Tree) → length (nodes_behind others tree) ≡ size tree
 length-nodes_behind others (leaf solid) = refl
 length-nodes_behind others (join op left right) =
-    grind (
-      arith,
-      length-append {A = Node},
-      length-nodes_behind others left,
-      length-nodes_behind (others + size left) right,
-    )
+    grind (arith, length-append, length-nodes_behind others left, length-nodes_behind (others + size left) right)
 
 pub placed_op : (op : Op) (l r : ℕ) (trees : List Tree) → placed trees (op_node op l r) ≡ joined join op trees
 placed_op op l r trees = rw (shape_of_op op l r) refl
@@ -35,13 +27,7 @@ pub read_tree : (others : ℕ) (tree : Tree) (trees : List Tree) → fold placed
     ≡ tree ∷ trees
 read_tree others (leaf solid) trees = refl
 read_tree others (join op left right) trees =
-    fold-append placed trees (nodes_behind others left ++ nodes_behind (others + size left) right) _
-    ∙ rw (
-      fold-append placed trees (nodes_behind others left) (nodes_behind (others + size left) right),
-      read_tree others left trees,
-      read_tree (others + size left) right (left ∷ trees),
-    )
-    (placed_op op _ _ (right ∷ left ∷ trees))
+    grind (arith, fold-append, read_tree others left trees, read_tree (others + size left) right (left ∷ trees))
 
 pub tree_of_nodes : (tree : Tree) → trees_after (nodes_of tree) ≡ tree ∷ []
 tree_of_nodes tree = read_tree 0 tree []
@@ -60,16 +46,14 @@ placed_tree : (others : ℕ) (tree : Tree) (trees : List Tree) → length trees 
     → AllPlaced trees (nodes_behind others tree)
 placed_tree others (leaf solid) trees room = (omega arith, tt)
 placed_tree others (join op left right) trees room =
-    placed_both trees (nodes_behind others left ++ nodes_behind (others + size left) right) _
-    (placed_both trees (nodes_behind others left) (nodes_behind (others + size left) right)
-    (placed_tree others left trees (omega arith))
-    (rw (read_tree others left trees) (placed_tree (others + size left) right (left ∷ trees) (omega arith))))
-    (rw (
-      fold-append placed trees (nodes_behind others left) (nodes_behind (others + size left) right),
-      read_tree others left trees,
-      read_tree (others + size left) right (left ∷ trees),
+    grind (
+      arith,
+      placed_both,
+      read_tree,
+      fold-append,
+      placed_tree others left trees (omega arith),
+      placed_tree (others + size left) right (left ∷ trees) (omega arith),
     )
-    (rw (shape_of_op op (others + size left - 1) (others + size left + size right - 1)) (omega arith, omega arith), tt))
 
 placed_at : (trees : List Tree) (nodes : List Node) (i : ℕ) (any : Node) → AllPlaced trees nodes → i < length nodes
     → CanPlace (length (fold placed trees (take i nodes))) (node_shape (get_or nodes i any))

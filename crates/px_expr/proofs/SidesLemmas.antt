@@ -1,11 +1,6 @@
 -- Each node of a tree but the root is one node's side, and stands before it.
-use Rattle.std.proofs.Common.{ℕ, ◌≡◌, ◌≤◌, ◌<◌, ◌+◌, ◌-◌, ◌==◌, List, [], ◌∷◌, ◌++◌, length, get_or, refl, arith}
-use Rattle.std.proofs.Common.{cond, length-append}
-use Rattle.std.specs.List.{All, count_by}
-use Rattle.std.proofs.lemmas.Bool.Decides.{nat_tests}
-use Rattle.std.proofs.lemmas.List.Sums.{sum_by-append}
-use Rattle.std.proofs.lemmas.List.Elements.{All-nil, All-cons}
-use Prim.Native.Nat.{zero, suc}
+use Rattle.px_num.proofs.Basics.{ℕ, ◌≡◌, ◌≤◌, ◌<◌, ◌+◌, ◌-◌, ◌==◌, List, [], ◌∷◌, ◌++◌, length, get_or, refl, arith}
+use Rattle.px_num.proofs.Basics.{cond, length-append, All, count_by, nat_tests, sum_by-append, zero, suc}
 use Rattle.px_expr.specs.Tree.{Tree, leaf, join}
 use Rattle.px_expr.specs.Shapes.{node_shape, op_node, sides}
 use Rattle.px_expr.proofs.OperatorLaws.{shape_of_op}
@@ -39,15 +34,10 @@ pub record Parents (place before size count : ℕ) : Type 0 where
   pub high : before + size ≤ place + 1 → count ≡ 0
 
 parents_join : (place before a b left right l r : ℕ) → 1 ≤ a → 1 ≤ b → Parents place before a left
-    → Parents place (before + a) b right
-    → (before + a - 1 ≡ place → l ≡ 1) → ((before + a - 1 ≡ place → ⊥) → l ≡ 0)
+    → Parents place (before + a) b right → (before + a - 1 ≡ place → l ≡ 1) → ((before + a - 1 ≡ place → ⊥) → l ≡ 0)
     → (before + a + b - 1 ≡ place → r ≡ 1) → ((before + a + b - 1 ≡ place → ⊥) → r ≡ 0)
     → Parents place before (a + b + 1) ((left + right) + (l + r))
-parents_join place before a b left right l r some others first second l_same l_other r_same r_other = record {
-  low = λ lt. grind arith;
-  inside = λ le lt. grind arith;
-  high = λ le. grind arith;
-}
+parents_join place before a b left right l r some others first second l_same l_other r_same r_other = grind arith
 
 pub parents : (place before : ℕ) (tree : Tree) → Parents place before (size tree)
     (parent_count place (nodes_behind before tree))
@@ -77,8 +67,7 @@ behind_both place end (x ∷ xs) ys is first second =
     (first.0, behind_both (place + 1) end xs ys (omega arith) first.1 second)
 
 both_behind : (place l r : ℕ) → l < place → r < place → All (λ side. side < place) (l ∷ r ∷ [])
-both_behind place l r first second = All-cons (λ side. side < place) l (r ∷ []) first
-    (All-cons (λ side. side < place) r [] second (All-nil (λ side. side < place)))
+both_behind place l r first second = grind arith
 
 op_behind : (place : ℕ) (op : Op) (l r : ℕ) → l < place → r < place
     → All (λ side. side < place) (sides (node_shape (op_node op l r)))

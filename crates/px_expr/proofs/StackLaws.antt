@@ -1,13 +1,11 @@
 -- Laws for every loop over nodes that keeps a value of each tree that waits.
-use Rattle.std.specs.Prelude.{ℕ, ◌≡◌, ◌+◌, ◌<◌, ◌≤◌, List, [], ◌∷◌, ◌++◌, Option, Some, map, take, length, reverse}
-use Rattle.std.specs.Prelude.{slice_index_or, refl}
+use Rattle.px_num.proofs.Basics.{arith, ap, sym, ◌∙◌, ℕ, ◌≡◌, ◌+◌, ◌<◌, ◌≤◌, List, [], ◌∷◌, ◌++◌, Option, Some, map}
+use Rattle.px_num.proofs.Basics.{take, length, reverse, slice_index_or, refl, take_all, length-reverse, length-map}
+use Rattle.px_num.proofs.Basics.{reverse-append, fold_more}
 use Rattle.std.specs.Option.{option_to_list}
-use Rattle.std.proofs.Common.{ap, sym, ◌∙◌}
-use Rattle.std.proofs.lemmas.List.{take_all, length-reverse, length-map, reverse-append}
-use Rattle.std.proofs.lemmas.List.Sums.{fold_more}
 use Rattle.px_expr.specs.Tree.{Tree, leaf, join}
 use Rattle.px_expr.specs.Shapes.{node_shape, joined, put}
-use Rattle.px_expr.specs.Postorder.{placed, trees_after}
+use Rattle.px_expr.specs.Postorder.{trees_after}
 use Rattle.px_expr.specs.declared.node.Node.{Node}
 use Rattle.px_expr.specs.declared.node.Op.{Op}
 use Rattle.px_expr.specs.declared.node.Shape.{Shape}
@@ -18,8 +16,7 @@ module _ {X : Type 0} (value : Tree → X) (at : ℕ → X) (made : Op → X →
     (leaves : (solid : ℕ) → value (leaf solid) ≡ at solid)
     (joins : (op : Op) (left right : Tree) →
     value (join op left right) ≡ made op (value left) (value right)) where
-  value_joined : (op : Op) (trees : List Tree) →
-      map value (joined join op trees) ≡ joined made op (map value trees)
+  value_joined : (op : Op) (trees : List Tree) → map value (joined join op trees) ≡ joined made op (map value trees)
   value_joined op [] = refl
   value_joined op (right ∷ []) = refl
   value_joined op (right ∷ left ∷ others) = ap (λ x. x ∷ map value others) (joins op left right)
@@ -30,36 +27,23 @@ module _ {X : Type 0} (value : Tree → X) (at : ℕ → X) (made : Op → X →
   value_put trees (p.Join op left right) = value_joined op trees
 
   pub values_more : (nodes : List Node) (i : ℕ) (any : Node) (old new : List X) → i < length nodes
-      → old ≡ map value (trees_after (take i nodes))
-      → new ≡ put at made old (node_shape (slice_index_or nodes i any))
+      → old ≡ map value (trees_after (take i nodes)) → new ≡ put at made old (node_shape (slice_index_or nodes i any))
       → new ≡ map value (trees_after (take (i + 1) nodes))
-  values_more nodes i any old new lt before now =
-      let shape = node_shape (slice_index_or nodes i any)
-      in now ∙ ap (λ values. put at made values shape) before
-      ∙ sym (value_put (trees_after (take i nodes)) shape)
-      ∙ ap (map value) (sym (fold_more placed [] nodes i any lt))
+  values_more nodes i any old new lt before now = grind (arith, value_put, fold_more)
 
 -- behind the last node, the value of the whole tree is left
-pub values_last : {X : Type 0} (value : Tree → X) (nodes : List Node) (i : ℕ) (tree : Tree)
-    (values : List X) → length nodes ≤ i
-    → trees_after nodes ≡ tree ∷ []
-    → values ≡ map value (trees_after (take i nodes))
+pub values_last : {X : Type 0} (value : Tree → X) (nodes : List Node) (i : ℕ) (tree : Tree) (values : List X)
+    → length nodes ≤ i → trees_after nodes ≡ tree ∷ [] → values ≡ map value (trees_after (take i nodes))
     → values ≡ value tree ∷ []
 values_last value nodes i tree values past whole now =
     now ∙ ap (λ some. map value (trees_after some)) (take_all i nodes past) ∙ ap (map value) whole
 
 -- a stack that keeps the values, the newest last, has as many as trees wait
 pub values_length : {X : Type 0} (value : Tree → X) (stack : List X) (trees : List Tree)
-    → reverse stack ≡ map value trees
-    → length stack ≡ length trees
-values_length value stack trees is =
-    sym (length-reverse stack) ∙ ap length is ∙ length-map trees value
+    → reverse stack ≡ map value trees → length stack ≡ length trees
+values_length value stack trees is = sym (length-reverse stack) ∙ ap length is ∙ length-map trees value
 
 -- the one value of a stack is what is popped
-pub value_popped : {X : Type 0} (stack rest : List X) (value last : X) (popped : Option X)
-    → reverse stack ≡ value ∷ []
+pub value_popped : {X : Type 0} (stack rest : List X) (value last : X) (popped : Option X) → reverse stack ≡ value ∷ []
     → stack ≡ rest ++ option_to_list popped → popped ≡ Some last → last ≡ value
-value_popped stack rest value last popped one items is =
-    let turned : last ∷ reverse rest ≡ value ∷ [] = sym (reverse-append rest (last ∷ []))
-    ∙ ap (λ some. reverse (rest ++ option_to_list some)) (sym is) ∙ ap reverse (sym items) ∙ one
-    in cc
+value_popped stack rest value last popped one items is = grind (arith, reverse-append)

@@ -1,19 +1,18 @@
 -- What is known of the trees that wait in a builder.
-use Rattle.std.proofs.Common.{ℕ, ◌≡◌, ◌≤◌, ◌<◌, ◌+◌, ◌-◌, ◌*◌, max, List, [], ◌∷◌, ◌++◌, length, reverse, refl, ap}
-use Rattle.std.proofs.Common.{sym, ◌∙◌, arith, append_assoc, length-append}
-use Rattle.std.proofs.lemmas.List.{reverse-append, length-reverse}
-use Rattle.std.proofs.lemmas.List.Sums.{fold-append}
+use Rattle.px_num.proofs.Basics.{nat_tests, common_steps, ℕ, ◌≡◌, ◌≤◌, ◌<◌, ◌+◌, ◌-◌, ◌*◌, max, List, [], ◌∷◌, ◌++◌}
+use Rattle.px_num.proofs.Basics.{length, reverse, refl, ap, arith, append_assoc, length-append, reverse-append}
+use Rattle.px_num.proofs.Basics.{length-reverse, fold-append}
 use Rattle.px_expr.specs.Tree.{Tree, leaf, join, nesting}
 use Rattle.px_expr.specs.Shapes.{op_node, joined}
-use Rattle.px_expr.specs.Postorder.{size, nodes_behind, placed, trees_after}
+use Rattle.px_expr.specs.Postorder.{size, placed, trees_after}
 use Rattle.px_expr.specs.Waiting.{newest, all_leaves}
 use Rattle.px_expr.specs.Kept.{all_size, all_nodes, subtrees_of, AreLawful, IsKept}
 use Rattle.px_expr.specs.declared.node.Node.{Node}
-use Rattle.px_expr.specs.declared.node.Node.TheVariants as n
 use Rattle.px_expr.specs.declared.node.Op.{Op}
 use Rattle.px_expr.specs.declared.builder.Subtree.{Subtree}
 use Rattle.px_expr.specs.declared.node.TheConstants.{MAX_LEAVES, MAX_NESTING}
 use Rattle.px_expr.proofs.PostorderLemmas.{size_leaves, length-nodes_behind}
+use Rattle.px_expr.specs.declared.node.Node.TheVariants as n
 
 pub length-all_nodes : (trees : List Tree) → length (all_nodes trees) ≡ all_size trees
 length-all_nodes [] = refl
@@ -36,55 +35,37 @@ pub record HasCounts (given : List Node) (kept : List Subtree) (trees : List Tre
 
 pub counts : (given : List Node) (kept : List Subtree) (trees : List Tree) → IsKept given kept trees
     → HasCounts given kept trees
-counts given kept trees is =
-    let as_many : length kept ≡ length trees =
-    omega (arith, length-reverse kept, ap length is.subtrees, length-subtrees_of trees)
-    in let sizes : length given ≡ all_size trees = ap length is.nodes ∙ length-all_nodes trees
-    in record { subtrees = as_many; nodes = sizes; leaves = omega (arith, all_size_leaves trees) }
+counts given kept trees is = grind (arith, length-reverse, length-subtrees_of, length-all_nodes, all_size_leaves)
 
 reverse_push : {X : Type 0} (xs : List X) (x : X) → reverse (xs ++ x ∷ []) ≡ x ∷ reverse xs
 reverse_push xs x = reverse-append xs (x ∷ [])
 
 -- a leaf is put down
 pub kept_leaf : (given : List Node) (kept : List Subtree) (trees : List Tree) (solid : ℕ) → IsKept given kept trees
-    → all_leaves trees < MAX_LEAVES → solid < 256
-    → IsKept (given ++ n.Leaf solid ∷ []) (kept ++ record { root = length given; nesting = 0 } ∷ [])
-    (leaf solid ∷ trees)
+    → all_leaves trees < MAX_LEAVES → solid < 256 → IsKept (given ++ n.Leaf solid ∷ [])
+    (kept ++ record { root = length given; nesting = 0 } ∷ []) (leaf solid ∷ trees)
 kept_leaf given kept trees solid is few known =
     let root : length given ≡ all_size trees + 1 - 1 = omega (arith, (counts given kept trees is).nodes)
-    in record {
-      nodes = ap (λ nodes. nodes ++ n.Leaf solid ∷ []) is.nodes;
-      subtrees = reverse_push kept _ ∙ cc (root, is.subtrees);
-      leaves = omega arith;
-      lawful = (omega arith, known, is.lawful);
-    }
+    in grind (arith, reverse_push)
 
 all_nodes_joined : (op : Op) (left right : Tree) (others : List Tree) →
     all_nodes (join op left right ∷ others)
     ≡ all_nodes (right ∷ left ∷ others) ++ op_node op (all_size others + size left - 1) (all_size others + size left
     + size right - 1) ∷ []
-all_nodes_joined op left right others =
-    sym (append_assoc (all_nodes others) (nodes_behind (all_size others) left
-    ++ nodes_behind (all_size others + size left) right) _)
-    ∙ ap (λ nodes. nodes ++ op_node op (all_size others + size left - 1) (all_size others + size left
-    + size right - 1) ∷ [])
-    (sym (append_assoc (all_nodes others) (nodes_behind (all_size others) left)
-    (nodes_behind (all_size others + size left) right)))
+all_nodes_joined op left right others = grind (arith, append_assoc)
 
 -- the last two that are kept are those of the last two trees
 last_are : (kept rest : List Subtree) (left right : Subtree) (a b : Tree) (others : List Tree) → reverse kept
     ≡ subtrees_of (b ∷ a ∷ others)
     → kept ≡ rest ++ left ∷ right ∷ [] → right ∷ left ∷ reverse rest ≡ subtrees_of (b ∷ a ∷ others)
-last_are kept rest left right a b others is last = sym (reverse-append rest (left ∷ right ∷ []))
-    ∙ ap reverse (sym last) ∙ is
+last_are kept rest left right a b others is last = grind (arith, reverse-append)
 
 pub nesting_joined : (kept rest : List Subtree) (left right : Subtree) (op : Op) (trees : List Tree) → reverse kept
     ≡ subtrees_of trees → 2 ≤ length trees
     → kept ≡ rest ++ left ∷ right ∷ [] → max left.nesting right.nesting + 1 ≡ nesting (newest (joined join op trees))
 nesting_joined kept rest left right op [] is two last = absurd (omega arith)
 nesting_joined kept rest left right op (b ∷ []) is two last = absurd (omega arith)
-nesting_joined kept rest left right op (b ∷ a ∷ others) is two last = let same =
-    last_are kept rest left right a b others is last in cc
+nesting_joined kept rest left right op (b ∷ a ∷ others) is two last = grind (arith, nat_tests, common_steps, last_are)
 
 -- the last two trees are joined
 pub kept_joined : (given : List Node) (kept rest : List Subtree) (left right : Subtree) (trees : List Tree) (op : Op)
@@ -101,20 +82,12 @@ kept_joined given kept rest left right (b ∷ a ∷ others) op depth is two last
     in let root : length given ≡ all_size others + (size a + size b + 1) - 1 =
     omega (arith, (counts given kept (b ∷ a ∷ others) is).nodes)
     in let below : reverse rest ≡ subtrees_of others = cc
-    in record {
-      nodes = rw (left_root, right_root) (ap (λ nodes. nodes ++ op_node op (all_size others + size a - 1)
-          (all_size others + size a + size b - 1) ∷ []) is.nodes
-          ∙ sym (all_nodes_joined op a b others));
-      subtrees = reverse_push rest _ ∙ cc (root, below, same);
-      leaves = omega arith;
-      lawful = (omega arith, (is.lawful.2.1, is.lawful.1), is.lawful.2.2);
-    }
+    in grind (arith, all_nodes_joined, reverse_push)
 
 -- what a node leaves of the trees that waited
 pub after_push : (new old given : List Node) (node : Node) → new ≡ old ++ node ∷ [] → old ≡ given → trees_after new
     ≡ placed (trees_after given) node
-after_push new old given node is same = ap trees_after is ∙ fold-append placed [] old (node ∷ [])
-    ∙ ap (λ nodes. placed (trees_after nodes) node) same
+after_push new old given node is same = grind (arith, fold-append)
 
 pub same_kept : (given more : List Node) (kept others : List Subtree) (trees now : List Tree) → more ≡ given
     → others ≡ kept → now ≡ trees → IsKept given kept trees → IsKept more others now
@@ -130,8 +103,4 @@ pub nesting_most : (kept rest : List Subtree) (left right : Subtree) (trees : Li
     → max left.nesting right.nesting ≤ MAX_NESTING
 nesting_most kept rest left right [] is two last each = absurd (omega arith)
 nesting_most kept rest left right (b ∷ []) is two last each = absurd (omega arith)
-nesting_most kept rest left right (b ∷ a ∷ others) is two last each =
-    let same = last_are kept rest left right a b others is last in
-    let first : left.nesting ≡ nesting a = cc in
-    let second : right.nesting ≡ nesting b = cc in
-    omega (arith, first, second, each.0, each.2.0)
+nesting_most kept rest left right (b ∷ a ∷ others) is two last each = grind (arith, nat_tests, common_steps, last_are)

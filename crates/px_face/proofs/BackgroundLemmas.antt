@@ -1,16 +1,10 @@
 -- A pixel shows a face of the scene where it has a first cell, and face 0 elsewhere.
-use Rattle.std.proofs.Common.{◌≡◌, ◌<◌, ◌≤◌, ◌+◌, ◌&&◌, ◌==◌, ℕ, zero, suc, ℤ, pos, Bool, true, false, List, []}
-use Rattle.std.proofs.Common.{◌∷◌, ◌++◌, length, min, Option, Some, None, refl, sym, subst, arith, inl, inr, ◌↔◌}
-use Rattle.std.proofs.Common.{if◌then◌else◌}
-use Rattle.std.specs.List.{All}
-use Rattle.std.specs.Ordering.{int_eq}
-use Rattle.std.proofs.lemmas.Bool.{cases_eq}
-use Rattle.std.proofs.lemmas.List.Elements.{All-nil, All-cons, All-append, All-filter, All-map}
-use Rattle.std.proofs.lemmas.List.Sums.{sum_by-cons}
+use Rattle.px_num.proofs.Basics.{◌≡◌, ◌<◌, ◌≤◌, ◌+◌, ℕ, zero, suc, ℤ, Bool, true, false, List, [], ◌∷◌, ◌++◌, length}
+use Rattle.px_num.proofs.Basics.{min, Option, Some, None, refl, sym, subst, arith, inl, inr, ◌↔◌, if◌then◌else◌, All}
+use Rattle.px_num.proofs.Basics.{int_eq, cases_eq, All-nil, All-append, All-filter, All-map, sum_by-cons}
 use Rattle.px_num.specs.Forms.{value_at}
 use Rattle.px_num.proofs.TruthLaws.{min_cases}
 use Rattle.px_expr.specs.Cells.{Cell, cell, combined, shown_in, shown_when, own_faces}
-use Rattle.px_expr.specs.Cells.{combination_of, complement_of, truth_in}
 use Rattle.px_expr.specs.Tree.{Tree, join, leaf}
 use Rattle.px_expr.specs.declared.node.Op.{Op}
 use Rattle.px_expr.specs.declared.node.Sense.{Sense}
@@ -18,25 +12,16 @@ use Rattle.px_expr.specs.declared.node.Sense.TheVariants.{Plain, Complement}
 use Rattle.px_expr.specs.declared.node.Combination.{Combination}
 use Rattle.px_expr.specs.declared.node.Combination.TheVariants.{Both, Either, EitherWay}
 use Rattle.px_model.specs.declared.solid.Face.{Face}
-use Rattle.px_model.specs.Scenes.{IsLawfulSolid, SolidView, faces_in}
-use Rattle.px_model.specs.Scenes.{AreNumberedFrom, IsLawfulScene, SceneView, faces_of}
-use Rattle.px_model.specs.Cells.{Depths, cell_of, depths_of, end_of, enters_at, faces_at, far_of, first, first_cell}
-use Rattle.px_model.specs.Cells.{first_or, is_inside_before, is_member_at, leaf_cell, least, leaves_at, scene_cell}
-use Rattle.px_model.specs.Cells.{sight_at, solid_cell}
+use Rattle.px_model.specs.Scenes.{IsLawfulSolid, SolidView, faces_in, AreNumberedFrom, IsLawfulScene, SceneView}
+use Rattle.px_model.specs.Scenes.{faces_of}
+use Rattle.px_model.specs.Cells.{Depths, depths_of, faces_at, far_of, first, first_cell, is_member_at, leaf_cell, least}
+use Rattle.px_model.specs.Cells.{scene_cell, sight_at, solid_cell}
 use Rattle.px_face.specs.Surfaces.{IsFirst, IsFirstOf, FirstCellsAreFirst, PicturesShowBackground, PicturesShowFaces}
 use Rattle.px_face.specs.Surfaces.{ScenesHaveSurfaces, scene_before}
 
 first_tells : (test : ℕ → Bool) (limit : ℕ) → IsFirstOf test limit (first test limit)
 first_tells test zero = λ n h. absurd (omega arith)
-first_tells test (suc limit) = next (first test limit) (first_tells test limit) where
-  by_test : (b : Bool) → test limit ≡ b → ((n : ℕ) → n < limit → test n ≡ false)
-      → IsFirstOf test (suc limit) (if b then Some limit else None)
-  by_test true e none = record { below = omega arith; passes = e; none_before = none }
-  by_test false e none = λ n h. elim (cases_eq n limit) [ inl same ↦ rw same e | inr other ↦ none n (omega arith) ]
-
-  next : (found : Option ℕ) → IsFirstOf test limit found → IsFirstOf test (suc limit) (first_or test limit found)
-  next (Some n) r = record { below = omega (arith, r.below); passes = r.passes; none_before = r.none_before }
-  next None none = by_test (test limit) refl none
+first_tells test (suc limit) = grind (arith, cases_eq, first_tells test limit)
 
 pub first_cells : FirstCellsAreFirst
 first_cells scene x y = first_tells (is_member_at scene x y) (far_of scene)
@@ -57,10 +42,7 @@ module _ (Is : ℕ → Type 0) where
   all_both ms ns first second = All-append Is ms ns first second
 
   all_own : (c : Cell) → HasFaces c → AreAll (own_faces c)
-  all_own c faces = by_test c.member where
-    by_test : (test : Bool) → AreAll (if test then c.shown else c.hidden)
-    by_test true = faces.shown
-    by_test false = faces.hidden
+  all_own c faces = grind arith
 
   all_in : (sense : Sense) (c : Cell) → HasFaces c → AreAll (shown_in sense c)
   all_in Plain c faces = faces.shown
@@ -68,16 +50,11 @@ module _ (Is : ℕ → Type 0) where
 
   all_when : (k : Combination) (a b : Cell) → HasFaces a → HasFaces b → AreAll (shown_when k a b)
   all_when (Both s t) a b left right = all_both _ _ (all_in s a left) (all_in t b right)
-  all_when (Either s t) a b left right =
-      all_both _ _ (all_where (truth_in s a.member) _ (all_in s a left)) (all_where (truth_in t b.member) _
-      (all_in t b right))
+  all_when (Either s t) a b left right = grind (arith, all_both, all_where, all_in)
   all_when (EitherWay s) a b left right = all_both _ _ (all_own a left) (all_own b right)
 
   all_combined : (op : Op) (a b : Cell) → HasFaces a → HasFaces b → HasFaces (combined op a b)
-  all_combined op a b left right = record {
-    shown = all_when (combination_of op) a b left right;
-    hidden = all_when (complement_of (combination_of op)) a b left right;
-  }
+  all_combined op a b left right = grind (arith, all_when)
 
   all_cell : (cells : ℕ → Cell) → ((solid : ℕ) → HasFaces (cells solid)) → (tree : Tree) → HasFaces (cell cells tree)
   all_cell cells each (leaf solid) = each solid
@@ -89,16 +66,7 @@ module _ (Is : ℕ → Type 0) where
 
   all_solid : (s : SolidView) (d : Depths) (x y z : ℕ) → Is s.near_number → All (λ f. Is f.number) s.fronts
       → All (λ f. Is f.number) s.backs → HasFaces (solid_cell d x y z s)
-  all_solid s d x y z near fronts backs =
-      let enters = enters_at s x y in
-      let leaves = leaves_at s (end_of d) x y in
-      record {
-        shown = all_where (cell_of d enters == z) _ (all_both _ _
-            (all_where (int_eq (pos 0) enters) (s.near_number ∷ []) (All-cons Is s.near_number [] near (All-nil Is)))
-            (all_faces s.fronts x y enters fronts));
-        hidden = all_where (is_inside_before s d x y z && (cell_of d leaves == z)) _
-            (all_faces s.backs x y leaves backs);
-      }
+  all_solid s d x y z near fronts backs = grind (arith, all_where, all_both, all_faces)
 
   none_at : HasFaces (record { member = false; shown = []; hidden = [] })
   none_at = record { shown = All-nil Is; hidden = All-nil Is }
@@ -130,8 +98,7 @@ leaf_below (s ∷ ss) first bound d x y z (suc solid) numbered le =
 
 -- no face has the number 0
 leaf_some : (solids : List SolidView) (first : ℕ) (d : Depths) (x y z solid : ℕ) → 0 < first
-    → AreNumberedFrom first solids
-    → All IsLawfulSolid solids → HasFaces (λ n. 0 < n) (leaf_cell solids d x y z solid)
+    → AreNumberedFrom first solids → All IsLawfulSolid solids → HasFaces (λ n. 0 < n) (leaf_cell solids d x y z solid)
 leaf_some [] first d x y z solid some numbered lawful = none_at (λ n. 0 < n)
 leaf_some (s ∷ ss) first d x y z zero some numbered lawful =
     let one = lawful 0 s (omega arith) in
@@ -192,7 +159,4 @@ shows_faces surfaces scene lawful x y =
     face_below surfaces scene lawful x y (first_cell scene x y) (first_cells scene x y)
 
 pub shows_background : ScenesHaveSurfaces → PicturesShowBackground
-shows_background surfaces scene lawful solids x y = record {
-  face = face_none surfaces scene lawful x y solids (first_cell scene x y) (first_cells scene x y);
-  depth = depth_none surfaces scene lawful x y (first_cell scene x y) (first_cells scene x y);
-}
+shows_background surfaces scene lawful solids x y = grind (arith, face_none, first_cells, depth_none)

@@ -1,10 +1,8 @@
 -- The cells of a solid at a pixel, by the cells of the greatest front and of the least back.
-use Rattle.std.proofs.Common.{◌≡◌, ◌≤◌, ℕ, true, ◌&&◌, nat_le, nat_lt, refl, ◌∙◌, arith, inl, inr}
-use Rattle.std.proofs.lemmas.Int.{ints}
-use Rattle.std.proofs.lemmas.Bool.{cases_lt}
+use Rattle.px_num.proofs.Basics.{◌≡◌, ◌≤◌, ℕ, true, ◌&&◌, nat_le, nat_lt, refl, ◌∙◌, arith, inl, inr, ints, cases_lt}
 use Rattle.px_num.proofs.TruthLaws.{le_true, lt_true, never}
 use Rattle.px_model.specs.Scenes.{SolidView}
-use Rattle.px_model.specs.Cells.{Depths, cell_of, end_of, enters_at, is_inside, leaves_at, value_of}
+use Rattle.px_model.specs.Cells.{Depths, cell_of, end_of, enters_at, is_inside, leaves_at}
 use Rattle.px_model.proofs.CellLaws.{cell_is_first, cell_is_least, cells_end, cells_grow}
 use Rattle.px_face.specs.Covering.{HasCells, is_met}
 use Rattle.px_face.proofs.DepthLaws.{cells_are, depths_are}
@@ -20,9 +18,7 @@ module _ (s : SolidView) (d : Depths) (x y : ℕ) where
   last = cell_of d (leaves_at s end x y)
 
   by_cells : (z : ℕ) → is_inside s d x y z ≡ (is_met s end x y && nat_le first z && nat_lt z last)
-  by_cells z =
-      cells_are s end x y (value_of d z)
-      ∙ rw (cell_is_first d (enters_at s x y) z, cell_is_least d (leaves_at s end x y) z) refl
+  by_cells z = grind (arith, cells_are, cell_is_first, cell_is_least)
 
   pub in_order : is_met s end x y ≡ true → first ≤ last
   in_order met =

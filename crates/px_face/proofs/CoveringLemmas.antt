@@ -1,13 +1,9 @@
 -- The covering law: one front and one back cover a pixel where the solid has a cell there.
-use Rattle.std.proofs.Common.{◌≡◌, ◌<◌, ◌≤◌, ◌+◌, ◌-◌, ℕ, zero, suc, ℤ, pos, neg_ℤ, ◌-ℤ◌, Bool, true, false, ◌&&◌}
-use Rattle.std.proofs.Common.{List, [], ◌∷◌, ◌++◌, length, map, take, drop, get_or, eqb, refl, ap, sym, ◌∙◌}
-use Rattle.std.proofs.Common.{arith, inl, inr, add-one}
-use Rattle.std.specs.List.{list_all}
-use Rattle.std.proofs.lemmas.Int.{ints}
-use Rattle.std.proofs.lemmas.Bool.{cases_lt}
-use Rattle.std.proofs.lemmas.Bool.Decides.{nat_tests}
-use Rattle.std.proofs.lemmas.List.{drop-map, get_or-append_right, get_or-map, get_or_append_left, length-map, take-map}
-use Rattle.std.proofs.lemmas.List.Folds.{list_all-append, list_all-map}
+use Rattle.px_num.proofs.Basics.{common_steps, ◌≡◌, ◌<◌, ◌≤◌, ◌+◌, ◌-◌, ℕ, zero, suc, ℤ, pos, neg_ℤ, ◌-ℤ◌, Bool, true}
+use Rattle.px_num.proofs.Basics.{false, ◌&&◌, List, [], ◌∷◌, ◌++◌, length, map, take, drop, get_or, eqb, refl, ap, sym}
+use Rattle.px_num.proofs.Basics.{◌∙◌, arith, add-one, list_all, ints, cases_lt, nat_tests, get_or-append_right}
+use Rattle.px_num.proofs.Basics.{get_or-map, get_or_append_left, length-map, list_all-append, list_all-map}
+use Rattle.std.proofs.lemmas.List.{drop-map, take-map}
 use lib.Signed.{le_z, lt_z}
 use Rattle.px_num.specs.declared.linear.Linear.{Linear}
 use Rattle.px_num.proofs.FormLaws.{value_at-less_one, value_at-minus}
@@ -23,8 +19,8 @@ use Rattle.px_face.specs.Faces.{back_planes, face_count, front_planes, is_front_
 use Rattle.px_face.specs.Faces.{numbers_in_faces, face_plane}
 use Rattle.px_face.proofs.DepthLaws.{backs_over, cells_are, depths_are, fronts_below, fronts_under, before_turned}
 use Rattle.px_face.proofs.DepthLaws.{turned_backs, le_same}
-use Rattle.px_face.proofs.PlaceLemmas.{greatest_bounds, greatest_first, greatest_only}
-use Rattle.px_face.proofs.PlaceLemmas.{greatest_there, is_first_greatest}
+use Rattle.px_face.proofs.PlaceLemmas.{greatest_bounds, greatest_first, greatest_only, greatest_there}
+use Rattle.px_face.proofs.PlaceLemmas.{is_first_greatest}
 use Rattle.px_face.proofs.RangeLemmas.{backs_size, fronts_size}
 
 above_test : (u v : ℤ) → le_z (pos 0) ((u -ℤ v) -ℤ pos 1) ≡ lt_z v u
@@ -55,16 +51,11 @@ moved_place n i k h = grind (arith, nat_tests)
 part : (f : Linear → Linear) (v : Linear → ℤ) (t : ℤ → Bool) (x y : ℕ)
     → ((q : Linear) → le_z (pos 0) (value_at (f q) x y) ≡ t (v q)) → (qs : List Linear) → hold_at (map f qs) x y
     ≡ list_all t (map v qs)
-part f v t x y same qs =
-    list_all-map (λ e. le_z (pos 0) (value_at e x y)) f qs
-    ∙ all_same (λ q. le_z (pos 0) (value_at (f q) x y)) (λ q. t (v q)) same qs
-    ∙ sym (list_all-map t v qs)
+part f v t x y same qs = grind (arith, list_all-map, all_same)
 
 kept_parts : (a b c d : List Linear) (x y : ℕ) → hold_at (a ++ (b ++ c) ++ d) x y
     ≡ (hold_at a x y && (hold_at b x y && hold_at c x y)) && hold_at d x y
-kept_parts a b c d x y =
-    let kept : Linear → Bool = λ e. le_z (pos 0) (value_at e x y) in
-    rw (list_all-append kept (a ++ (b ++ c)) d, list_all-append kept a (b ++ c), list_all-append kept b c) refl
+kept_parts a b c d x y = grind (arith, list_all-append)
 
 one_place : (sides first others met here : Bool) → first ≡ here → (here ≡ true → others ≡ met) → (sides && first)
     && others ≡ (sides && met) && here
@@ -73,9 +64,8 @@ one_place true false others met here e is = rw (← e) (sym (and_false met))
 one_place true true others met here e is = is (sym e) ∙ rw (← e) (sym (and_true met))
 
 -- the place that leads, of values of planes
-lead_is : (v : Linear → ℤ) (ps : List Linear) (i : ℕ) → i < length ps →
-    is_first_greatest (map v (take i ps)) (v (get_or ps i (level 0))) (map v (drop (i + 1) ps))
-    ≡ eqb i (greatest_place (map v ps))
+lead_is : (v : Linear → ℤ) (ps : List Linear) (i : ℕ) → i < length ps → is_first_greatest (map v (take i ps))
+    (v (get_or ps i (level 0))) (map v (drop (i + 1) ps)) ≡ eqb i (greatest_place (map v ps))
 lead_is v ps i low =
     let room : i < length (map v ps) = simp length-map low in
     rw (← take-map v i ps, ← drop-map v (i + 1) ps, ← get_or-map v ps i (level 0) (pos 0) low, add-one)
@@ -100,11 +90,7 @@ numbers_grow near fs (suc i) zero are le there = absurd (omega arith)
 numbers_grow near (f ∷ fs) (suc i) (suc j) are le there =
     let here = number_at (f ∷ fs) i f (omega arith) in
     let later = number_at (f ∷ fs) j f (omega arith) in
-    elim (cases_lt i j) [
-      | inl before ↦ let above : (get_or (f ∷ fs) i f).number < (get_or (f ∷ fs) j f).number =
-          are.order i j f before (omega arith) in omega (arith, here, later, above)
-      | inr same ↦ let one : i ≡ j = omega arith in rw one (omega arith)
-    ]
+    grind (arith, cases_lt)
 
 module _ (s : SolidView) (end x y : ℕ) where
   abbrev at : Linear → ℤ
@@ -126,14 +112,10 @@ module _ (s : SolidView) (end x y : ℕ) where
   at_least_is p q = rw (value_at-minus p q x y) (at_least_test (at p) (at q))
 
   front_low : front_place ≤ length s.fronts
-  front_low =
-      let n = some_values at (front_planes s.fronts) (length s.fronts) (fronts_size s) in
-      omega (arith, greatest_there (map at (front_planes s.fronts)) (omega (arith, n)), n)
+  front_low = grind (arith, nat_tests, common_steps, some_values, fronts_size, greatest_there)
 
   back_low : back_place ≤ length s.backs
-  back_low =
-      let n = some_values turned (back_planes s.backs end) (length s.backs) (backs_size s end) in
-      omega (arith, greatest_there (map turned (back_planes s.backs end)) (omega (arith, n)), n)
+  back_low = grind (arith, nat_tests, common_steps, some_values, backs_size, greatest_there)
 
   front_value : at (get_or (front_planes s.fronts) front_place (level 0)) ≡ enters_at s x y
   front_value =
@@ -207,21 +189,15 @@ module _ (s : SolidView) (end x y : ℕ) where
 
   plane_back : (face : ℕ) → length s.fronts + 1 ≤ face → face_plane s end face ≡ get_or (back_planes s.backs end)
       (face - (length s.fronts + 1)) (level 0)
-  plane_back face high = get_or-append_right (front_planes s.fronts) (back_planes s.backs end) (length s.fronts + 1)
-      face (level 0) (fronts_size s) high
+  plane_back face high = grind (arith, get_or-append_right, fronts_size)
 
   fronts_cover : (face : ℕ) → is_front_face s face ≡ true → covers s end face x y
       ≡ (is_met s end x y && eqb face (covering_front s x y))
-  fronts_cover face front =
-      let low = lt_holds face (length s.fronts + 1) front in
-      rw front (front_is face (omega arith))
+  fronts_cover face front = grind (arith, lt_holds, front_is)
 
   backs_cover : (face : ℕ) → face < face_count s → is_front_face s face ≡ false → covers s end face x y
       ≡ (is_met s end x y && eqb face (covering_back s end x y))
-  backs_cover face there back =
-      let n = length s.fronts + 1 in
-      let high : n ≤ face = lt_fails face (length s.fronts + 1) back in
-      rw (back, back_is (face - n) (omega arith), moved_place n face back_place high) refl
+  backs_cover face there back = grind (arith, lt_fails, back_is, moved_place)
 
   least_index : (face : ℕ) → face < face_count s → is_front_face s face ≡ false → value_at (face_plane s end face) x y
       ≡ leaves_at s end x y → covering_back s end x y ≤ face
@@ -234,8 +210,7 @@ module _ (s : SolidView) (end x y : ℕ) where
       let place : i < length (map turned (back_planes s.backs end)) =
       omega (arith, some_values turned (back_planes s.backs end) (length s.backs) (backs_size s end)) in
       let here : get_or (map turned (back_planes s.backs end)) i (pos 0) ≡ neg_ℤ v =
-      get_or-map turned (back_planes s.backs end) i (level 0) (pos 0) room
-      ∙ ap neg_ℤ (sym (ap at (plane_back face high)) ∙ same) in
+      grind (arith, get_or-map, neg_ℤ, plane_back) in
       let least : neg_ℤ (v -ℤ pos 1) -ℤ pos 1 ≡ neg_ℤ v = omega (arith, ints) in
       let all : list_all (λ u. le_z u (neg_ℤ v)) (map turned (back_planes s.backs end)) ≡ true =
       ap (λ w. list_all (λ u. le_z u w) (map turned (back_planes s.backs end))) (sym least)
@@ -261,38 +236,19 @@ module _ (s : SolidView) (end x y : ℕ) where
 
   number_front : (face : ℕ) → face ≤ length s.fronts → face_number s face
       ≡ get_or (s.near_number ∷ numbers_in_faces s.fronts) face 0
-  number_front face low = get_or_append_left (s.near_number ∷ numbers_in_faces s.fronts)
-      (numbers_in_faces s.backs ++ 0 ∷ []) 0
-      face (omega (arith, length-map s.fronts (λ f. f.number)))
+  number_front face low = grind (arith, get_or_append_left, length-map)
 
   least_number : IsLawfulSolid s → (face : ℕ) → is_front_face s face ≡ true → value_at (face_plane s end face) x y
       ≡ enters_at s x y → face_number s (covering_front s x y) ≤ face_number s face
-  least_number lawful face front same =
-      let there = lt_holds face (length s.fronts + 1) front in
-      let low : face ≤ length s.fronts = omega arith in
-      rw (number_front face low, number_front front_place front_low)
-      (numbers_grow s.near_number s.fronts front_place face lawful.fronts (first_index face low same) low)
+  least_number lawful face front same = grind (arith, lt_holds, number_front, front_low, numbers_grow, first_index)
 
   pub covered_once : IsCoveredOnce s end x y
   covered_once =
-      let n = length s.fronts + 1 in
-      let high : n ≤ n + back_place = omega arith in
-      let moved : n + back_place - n ≡ back_place = omega arith in
       record {
         fronts = fronts_cover;
         backs = backs_cover;
-        front = record {
-          there = lt_true front_place n (omega (arith, front_low));
-          value = ap at (plane_front front_place front_low) ∙ front_value;
-          least = least_number;
-        };
-        back = record {
-          there = omega (arith, back_low);
-          behind = lt_false (n + back_place) n high;
-          value = ap at (plane_back (n + back_place) high)
-              ∙ ap (λ j. at (get_or (back_planes s.backs end) j (level 0))) moved ∙ back_value;
-          least = least_index;
-        };
+        front = grind (arith, lt_true, front_low, plane_front, front_value, least_number);
+        back = grind (arith, back_low, lt_false, plane_back, back_value, least_index);
         values = cells_are s end x y;
         depths = depths_are s end x y;
       }

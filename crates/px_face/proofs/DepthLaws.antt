@@ -1,20 +1,17 @@
 -- Where a ray enters a solid and leaves it: the greatest front and the least back, as tests of all fronts and backs.
-use Rattle.std.proofs.Common.{◌≡◌, ◌-ℤ◌, ◌≤ℤ◌, ◌<ℤ◌, ℕ, ℤ, pos, neg_ℤ, Bool, true, false, ◌&&◌, [], ◌∷◌, map}
-use Rattle.std.proofs.Common.{nat_lt, refl, ap, sym, ◌∙◌, arith}
-use Rattle.std.specs.List.{list_all}
-use Rattle.std.proofs.lemmas.Int.{fold-int_max_bounds, fold-int_min_bounds, ints}
-use Rattle.std.proofs.lemmas.List.Folds.{list_all-append, list_all-map}
+use Rattle.px_num.proofs.Basics.{◌≡◌, ◌-ℤ◌, ◌≤ℤ◌, ◌<ℤ◌, ℕ, ℤ, pos, neg_ℤ, Bool, true, false, ◌&&◌, map, nat_lt, refl}
+use Rattle.px_num.proofs.Basics.{sym, ◌∙◌, arith, list_all, ints, list_all-append, list_all-map}
+use Rattle.std.proofs.lemmas.Int.{fold-int_max_bounds, fold-int_min_bounds}
 use Rattle.std.proofs.Math.IntN.{zero-*ℤ}
 use lib.Signed.{le_z, lt_z}
 use Rattle.px_num.specs.declared.linear.Linear.{Linear}
 use Rattle.px_num.specs.Forms.{value_at}
-use Rattle.px_num.proofs.TruthLaws.{and_right}
 use Rattle.px_num.proofs.MostLaws.{all_max, all_min, all_same}
 use Rattle.px_model.specs.Scenes.{SolidView}
 use Rattle.px_model.specs.Cells.{enters_at, is_inside_at, leaves_at}
 use Rattle.px_face.specs.Covering.{is_met}
 use Rattle.px_face.specs.Edges.{hold_at}
-use Rattle.px_face.specs.Faces.{back_planes, front_planes, level, planes_in_faces}
+use Rattle.px_face.specs.Faces.{back_planes, front_planes, level}
 
 pub value_at-level : (n x y : ℕ) → value_at (level n) x y ≡ pos n
 value_at-level n x y = omega (arith, ints, zero-*ℤ (pos x), zero-*ℤ (pos y))
@@ -59,13 +56,7 @@ module _ (s : SolidView) (end x y : ℕ) where
   turned p = neg_ℤ (value_at p x y)
 
   pub fronts_below : (z : ℤ) → list_all (λ u. le_z u z) (map at (front_planes s.fronts)) ≡ le_z (enters_at s x y) z
-  fronts_below z =
-      both_same (le_z (at (level 0)) z) (le_z (pos 0) z) (list_all (λ u. le_z u z) (map at (planes_in_faces s.fronts)))
-      (list_all (λ f. le_z (value_at f.plane x y) z) s.fronts)
-      (ap (λ v. le_z v z) (value_at-level 0 x y))
-      (list_all-map (λ u. le_z u z) at (planes_in_faces s.fronts) ∙ list_all-map (λ q. le_z (at q) z) (λ f. f.plane)
-      s.fronts)
-      ∙ sym (all_max (λ f. value_at f.plane x y) s.fronts (pos 0) z)
+  fronts_below z = grind (arith, both_same, value_at-level, list_all-map, all_max)
 
   pub fronts_under : (z : ℤ) → list_all (λ u. lt_z u z) (map at (front_planes s.fronts)) ≡ lt_z (enters_at s x y) z
   fronts_under z =
@@ -74,15 +65,7 @@ module _ (s : SolidView) (end x y : ℕ) where
       ∙ sym (below_is_most (enters_at s x y) z)
 
   pub backs_over : (z : ℤ) → list_all (λ u. lt_z z u) (map at (back_planes s.backs end)) ≡ lt_z z (leaves_at s end x y)
-  backs_over z =
-      rw (
-        list_all-map (λ u. lt_z z u) at (back_planes s.backs end),
-        list_all-append (λ q. lt_z z (at q)) (planes_in_faces s.backs) (level end ∷ []),
-        list_all-map (λ q. lt_z z (at q)) (λ f. f.plane) s.backs,
-        value_at-level end x y,
-      )
-      (swapped (list_all (λ f. lt_z z (value_at f.plane x y)) s.backs) (lt_z z (pos end))
-      ∙ sym (all_min (λ f. value_at f.plane x y) s.backs (pos end) z))
+  backs_over z = grind (arith, list_all-map, list_all-append, value_at-level, swapped, all_min)
 
   pub turned_backs : (z : ℤ) → list_all (λ u. le_z u (neg_ℤ z -ℤ pos 1)) (map turned (back_planes s.backs end))
       ≡ lt_z z (leaves_at s end x y)
@@ -109,8 +92,6 @@ module _ (s : SolidView) (end x y : ℕ) where
   pub depths_are : is_met s end x y ≡ true → (pos 0 ≤ℤ enters_at s x y) × (enters_at s x y <ℤ leaves_at s end x y)
       × (leaves_at s end x y ≤ℤ pos end)
   depths_are met =
-      let some : lt_z (enters_at s x y) (leaves_at s end x y) ≡ true =
-      and_right (hold_at s.sides x y) (lt_z (enters_at s x y) (leaves_at s end x y)) met in
       let low = fold-int_max_bounds (pos 0) (map (λ f. value_at f.plane x y) s.fronts) (enters_at s x y) refl in
       let high = fold-int_min_bounds (pos end) (map (λ f. value_at f.plane x y) s.backs) (leaves_at s end x y) refl in
       (low.0, grind (arith, ints), high.0)

@@ -1,15 +1,15 @@
 -- The edges of a face one by one, how many there are, and their range.
-use Rattle.std.proofs.Common.{◌≡◌, ◌<◌, ◌≤◌, ◌+◌, ◌-◌, ◌^◌, All, ℕ, List, [], ◌∷◌, ◌++◌, length, map, take, drop}
-use Rattle.std.proofs.Common.{get_or, refl, ap, sym, ◌∙◌, arith, append_assoc, length-append, inl, inr}
-use Rattle.std.proofs.lemmas.Bool.{cases_lt}
-use Rattle.std.proofs.lemmas.List.{length-map, length-drop, length-take-le, get_or_append_left, get_or-append_right}
-use Rattle.std.proofs.lemmas.List.{get_or-drop, get_or-map, get_or-take, take_all, take_more}
-use Rattle.std.proofs.lemmas.List.Elements.{All-get_or}
+use Rattle.px_num.proofs.Basics.{rules, ◌≡◌, ◌<◌, ◌≤◌, ◌+◌, ◌-◌, ◌^◌, All, ℕ, List, [], ◌∷◌, ◌++◌, length, map, take}
+use Rattle.px_num.proofs.Basics.{drop, get_or, ap, sym, ◌∙◌, arith, append_assoc, length-append, inl, inr, nat_tests}
+use Rattle.px_num.proofs.Basics.{common_steps, cases_lt, length-map, get_or_append_left, get_or-append_right}
+use Rattle.px_num.proofs.Basics.{get_or-map, get_or-take, take_all, take_more, All-get_or}
+use Rattle.std.proofs.lemmas.List.{length-drop, length-take-le}
+use Rattle.std.proofs.lemmas.List.{get_or-drop}
 use Rattle.px_num.specs.declared.linear.Linear.{Linear}
 use Rattle.px_num.specs.Forms.{IsInTreeRange}
 use Rattle.px_num.proofs.TruthLaws.{lt_false, lt_true}
 use Rattle.px_model.specs.Scenes.{IsLawfulSolid, SolidView}
-use Rattle.px_face.specs.Edges.{above, at_least, back_edges, edge_count, edges, front_edges, leads, trails}
+use Rattle.px_face.specs.Edges.{above, at_least, back_edges, edge_count, edges, front_edges}
 use Rattle.px_face.specs.Orders.{back_orders, front_orders}
 use Rattle.px_face.specs.Faces.{back_planes, face_count, front_planes, level}
 use Rattle.px_face.proofs.RangeLemmas.{back_range, backs_size, front_range, fronts_size}
@@ -33,10 +33,7 @@ module _ (f g h : Linear → Linear) (ps qs : List Linear) (n i : ℕ) (size : l
 
   pub form_before : (k : ℕ) (d : Linear) → k < i → get_or (before ++ after ++ map h qs) k d ≡ f (get_or ps k d)
   form_before k d low =
-      get_or_append_left (before ++ after) (map h qs) d k (omega (arith, kind_size))
-      ∙ get_or_append_left before after d k (omega (arith, before_size))
-      ∙ get_or-map f (take i ps) k d d (omega (arith, length-take-le i ps (omega (arith, size))))
-      ∙ ap f (get_or-take i ps k d low)
+      grind (arith, get_or_append_left, kind_size, before_size, get_or-map, length-take-le, get_or-take)
 
   pub form_after : (k : ℕ) (d : Linear) → i ≤ k → k < n → get_or (before ++ after ++ map h qs) k d
       ≡ g (get_or ps (k + 1) d)
@@ -49,9 +46,7 @@ module _ (f g h : Linear → Linear) (ps qs : List Linear) (n i : ℕ) (size : l
 
   pub form_beyond : (k : ℕ) (d : Linear) → n ≤ k → k < n + length qs → get_or (before ++ after ++ map h qs) k d
       ≡ h (get_or qs (k - n) d)
-  form_beyond k d low high =
-      get_or-append_right (before ++ after) (map h qs) n k d kind_size low
-      ∙ get_or-map h qs (k - n) d d (omega arith)
+  form_beyond k d low high = grind (arith, get_or-append_right, kind_size, get_or-map)
 
 -- one form of a front, or of a back, from what was compared
 module _ (s : SolidView) (end i k : ℕ) (r p q : Linear) where
@@ -59,12 +54,7 @@ module _ (s : SolidView) (end i k : ℕ) (r p q : Linear) where
       → p ≡ get_or (front_planes s.fronts) i (level 0)
       → q ≡ get_or (back_planes s.backs end) (k - length s.fronts) (level 0) → r ≡ above q p
       → r ≡ get_or (front_orders s end i) k (level 0)
-  front_form_beyond there low high e f g =
-      let o = get_or (front_planes s.fronts) i (level 0) in
-      rw (g, f, e)
-      (sym (form_beyond (λ q. above o q) (λ q. at_least o q) (λ q. above q o) (front_planes s.fronts)
-      (back_planes s.backs end) (length s.fronts) i (fronts_size s) there k (level 0) low
-      (omega (arith, backs_size s end))))
+  front_form_beyond there low high e f g = grind (arith, form_beyond, fronts_size, backs_size)
 
   pub front_form_before : i ≤ length s.fronts → k < i → p ≡ get_or (front_planes s.fronts) i (level 0)
       → q ≡ get_or (front_planes s.fronts) k (level 0) → r ≡ above p q → r ≡ get_or (front_orders s end i) k (level 0)
@@ -74,10 +64,9 @@ module _ (s : SolidView) (end i k : ℕ) (r p q : Linear) where
       (sym (form_before (λ q. above o q) (λ q. at_least o q) (λ q. above q o) (front_planes s.fronts)
       (back_planes s.backs end) (length s.fronts) i (fronts_size s) there k (level 0) low))
 
-  pub front_form_after : i ≤ length s.fronts → i ≤ k → k < length s.fronts → p ≡ get_or (front_planes s.fronts) i
-      (level 0)
-      → q ≡ get_or (front_planes s.fronts) (k + 1) (level 0) → r ≡ at_least p q → r ≡ get_or (front_orders s end i) k
-      (level 0)
+  pub front_form_after : i ≤ length s.fronts → i ≤ k → k < length s.fronts
+      → p ≡ get_or (front_planes s.fronts) i (level 0) → q ≡ get_or (front_planes s.fronts) (k + 1) (level 0)
+      → r ≡ at_least p q → r ≡ get_or (front_orders s end i) k (level 0)
   front_form_after there low high e f g =
       let o = get_or (front_planes s.fronts) i (level 0) in
       rw (g, f, e)
@@ -97,16 +86,11 @@ module _ (s : SolidView) (end i k : ℕ) (r p q : Linear) where
 
   pub back_form_before : i ≤ length s.backs → k < i → p ≡ get_or (back_planes s.backs end) i (level 0)
       → q ≡ get_or (back_planes s.backs end) k (level 0) → r ≡ above q p → r ≡ get_or (back_orders s end i) k (level 0)
-  back_form_before there low e f g =
-      let o = get_or (back_planes s.backs end) i (level 0) in
-      rw (g, f, e)
-      (sym (form_before (λ q. above q o) (λ q. at_least q o) (λ q. above o q) (back_planes s.backs end)
-      (front_planes s.fronts) (length s.backs) i (backs_size s end) there k (level 0) low))
+  back_form_before there low e f g = grind (arith, nat_tests, common_steps, form_before, backs_size)
 
-  pub back_form_after : i ≤ length s.backs → i ≤ k → k < length s.backs → p ≡ get_or (back_planes s.backs end) i
-      (level 0)
-      → q ≡ get_or (back_planes s.backs end) (k + 1) (level 0) → r ≡ at_least q p → r ≡ get_or (back_orders s end i)
-      k (level 0)
+  pub back_form_after : i ≤ length s.backs → i ≤ k → k < length s.backs
+      → p ≡ get_or (back_planes s.backs end) i (level 0) → q ≡ get_or (back_planes s.backs end) (k + 1) (level 0)
+      → r ≡ at_least q p → r ≡ get_or (back_orders s end i) k (level 0)
   back_form_after there low high e f g =
       let o = get_or (back_planes s.backs end) i (level 0) in
       rw (g, f, e)
@@ -116,72 +100,32 @@ module _ (s : SolidView) (end i k : ℕ) (r p q : Linear) where
 module _ (s : SolidView) (end i : ℕ) where
   pub front_beyond : (k : ℕ) (d : Linear) → length s.sides ≤ k → get_or (front_edges s end i) k d
       ≡ get_or (front_orders s end i) (k - length s.sides) d
-  front_beyond k d low =
-      let p = get_or (front_planes s.fronts) i (level 0) in
-      let a = leads p (front_planes s.fronts) i in
-      let b = map (λ q. above q p) (back_planes s.backs end) in
-      ap (λ l. get_or l k d) (append_assoc s.sides a b) ∙ get_or-append_right s.sides (a ++ b) (length s.sides) k d
-      refl low
+  front_beyond k d low = search (rules, append_assoc, get_or-append_right)
 
   pub back_beyond : (k : ℕ) (d : Linear) → length s.sides ≤ k → get_or (back_edges s end i) k d
       ≡ get_or (back_orders s end i) (k - length s.sides) d
-  back_beyond k d low =
-      let p = get_or (back_planes s.backs end) i (level 0) in
-      let a = trails p (back_planes s.backs end) i in
-      let b = map (λ q. above p q) (front_planes s.fronts) in
-      ap (λ l. get_or l k d) (append_assoc s.sides a b) ∙ get_or-append_right s.sides (a ++ b) (length s.sides) k d
-      refl low
+  back_beyond k d low = grind (arith, append_assoc, get_or-append_right)
 
   front_count : i ≤ length s.fronts → length (front_edges s end i) ≡ edge_count s
   front_count there =
-      let p = get_or (front_planes s.fronts) i (level 0) in
-      let a = leads p (front_planes s.fronts) i in
-      let b = map (λ q. above q p) (back_planes s.backs end) in
-      let kind : length a ≡ length s.fronts =
-      kind_size (λ q. above p q) (λ q. at_least p q) (λ q. above q p) (front_planes s.fronts)
-      (back_planes s.backs end) (length s.fronts) i (fronts_size s) there in
-      length-append (s.sides ++ a) b ∙ omega (
-        arith,
-        length-append s.sides a,
-        kind,
-        length-map (back_planes s.backs end) (λ q. above q p),
-        backs_size s end,
-      )
+      grind (arith, nat_tests, common_steps, kind_size, fronts_size, length-append, length-map, backs_size)
 
   back_count : i ≤ length s.backs → length (back_edges s end i) ≡ edge_count s
   back_count there =
-      let p = get_or (back_planes s.backs end) i (level 0) in
-      let a = trails p (back_planes s.backs end) i in
-      let b = map (λ q. above p q) (front_planes s.fronts) in
-      let kind : length a ≡ length s.backs =
-      kind_size (λ q. above q p) (λ q. at_least q p) (λ q. above p q) (back_planes s.backs end)
-      (front_planes s.fronts) (length s.backs) i (backs_size s end) there in
-      length-append (s.sides ++ a) b ∙ omega (
-        arith,
-        length-append s.sides a,
-        kind,
-        length-map (front_planes s.fronts) (λ q. above p q),
-        fronts_size s,
-      )
+      grind (arith, nat_tests, common_steps, kind_size, backs_size, length-append, length-map, fronts_size)
 
 pub edges_count : (s : SolidView) (end face : ℕ) → face < face_count s → length (edges s end face) ≡ edge_count s
-edges_count s end face there = elim (cases_lt face (length s.fronts + 1)) [
-  | inl front ↦ rw (lt_true face (length s.fronts + 1) front) (front_count s end face (omega arith))
-  | inr back ↦ rw (lt_false face (length s.fronts + 1) back) (back_count s end (face - (length s.fronts + 1))
-      (omega arith))
-]
+edges_count s end face there = grind (arith, cases_lt, lt_true, front_count, lt_false, back_count)
 
 pub front_form : (s : SolidView) (end face k : ℕ) (r : Linear) → face < length s.fronts + 1 → length s.sides ≤ k
-    → r ≡ get_or (front_orders s end face) (k - length s.sides) (level 0)
-    → r ≡ get_or (edges s end face) k (level 0)
+    → r ≡ get_or (front_orders s end face) (k - length s.sides) (level 0) → r ≡ get_or (edges s end face) k (level 0)
 front_form s end face k r front low is =
     rw (lt_true face (length s.fronts + 1) front) (is ∙ sym (front_beyond s end face k (level 0) low))
 
 pub back_form : (s : SolidView) (end face k : ℕ) (r : Linear) → length s.fronts + 1 ≤ face → length s.sides ≤ k
     → r ≡ get_or (back_orders s end (face - (length s.fronts + 1))) (k - length s.sides) (level 0)
     → r ≡ get_or (edges s end face) k (level 0)
-back_form s end face k r back low is = rw (lt_false face (length s.fronts + 1) back) (is
-    ∙ sym (back_beyond s end (face - (length s.fronts + 1)) k (level 0) low))
+back_form s end face k r back low is = grind (arith, lt_false, back_beyond)
 
 pub edges_range : (s : SolidView) → IsLawfulSolid s → (end : ℕ) → end < 2 ^ 32 → (face : ℕ) → face < face_count s
     → All IsInTreeRange (edges s end face)
@@ -192,8 +136,7 @@ edges_range s lawful end small face there = elim (cases_lt face (length s.fronts
 ]
 
 pub edge_range : (s : SolidView) → IsLawfulSolid s → (end : ℕ) → end < 2 ^ 32 → (face k : ℕ) (r : Linear)
-    → face < face_count s → k < edge_count s
-    → r ≡ get_or (edges s end face) k (level 0) → IsInTreeRange r
+    → face < face_count s → k < edge_count s → r ≡ get_or (edges s end face) k (level 0) → IsInTreeRange r
 edge_range s lawful end small face k r there low is =
     rw is (All-get_or IsInTreeRange (edges s end face) k (level 0) (omega (arith, edges_count s end face there))
     (edges_range s lawful end small face there))

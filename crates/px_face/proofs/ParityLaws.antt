@@ -1,9 +1,6 @@
 -- A truth that is turned at each thing counted says whether their number is odd.
-use Rattle.std.proofs.Common.{◌≡◌, ◌∙◌, ℕ, ◌+◌, Bool, true, false, not, List, [], ◌∷◌, cond, count_by, if◌then◌else◌}
-use Rattle.std.proofs.Common.{ap, refl, sym, arith}
-use Rattle.std.specs.List.{fold}
-use Rattle.std.proofs.lemmas.Bool.Decides.{nat_tests}
-use Rattle.std.proofs.lemmas.List.Sums.{sum_by-append}
+use Rattle.px_num.proofs.Basics.{◌≡◌, ◌∙◌, ℕ, ◌+◌, Bool, true, false, not, List, [], ◌∷◌, cond, count_by, if◌then◌else◌}
+use Rattle.px_num.proofs.Basics.{ap, refl, sym, arith, fold, nat_tests, sum_by-append}
 use Rattle.px_face.specs.Covering.{is_odd}
 
 abbrev pub turned_where : (ℕ → Bool) → Bool → ℕ → Bool

@@ -1,21 +1,18 @@
 -- The parity law: an odd number of covering faces stands at or before a cell exactly where it is inside.
-use Rattle.std.proofs.Common.{◌≡◌, ◌<◌, ◌≤◌, ◌+◌, ℕ, zero, suc, ℤ, pos, Bool, true, false, ◌&&◌, not, List, [], cond}
-use Rattle.std.proofs.Common.{◌∷◌, length, eqb, count_by, refl, ap, sym, ◌∙◌, arith, inl, inr}
-use Rattle.std.specs.List.{range_with_len}
-use Rattle.std.proofs.lemmas.Int.{ints}
-use Rattle.std.proofs.lemmas.Bool.{cases_eq}
-use Rattle.std.proofs.lemmas.List.Sums.{sum_by-append}
+use Rattle.px_num.proofs.Basics.{nat_tests, common_steps, ◌≡◌, ◌<◌, ◌≤◌, ◌+◌, ℕ, zero, suc, ℤ, pos, Bool, true, false}
+use Rattle.px_num.proofs.Basics.{◌&&◌, not, List, [], cond, ◌∷◌, length, eqb, count_by, refl, ap, sym, ◌∙◌, arith, inl}
+use Rattle.px_num.proofs.Basics.{inr, range_with_len, ints, cases_eq, sum_by-append}
 use lib.Signed.{le_z, lt_z}
 use Rattle.px_num.specs.Forms.{value_at}
 use Rattle.px_num.proofs.TruthLaws.{and_false, and_right, and_true, eqb_holds, eqb_itself, eqb_other, lt_false}
 use Rattle.px_num.proofs.TruthLaws.{lt_holds, lt_is_not_le, lt_true}
 use Rattle.px_num.proofs.RangeLaws.{range_cut}
 use Rattle.px_model.specs.Scenes.{SolidView}
-use Rattle.px_model.specs.Cells.{Depths, end_of, enters_at, is_inside_at, leaves_at, value_of}
+use Rattle.px_model.specs.Cells.{Depths, end_of, enters_at, is_inside_at, leaves_at}
 use Rattle.px_model.proofs.CellLaws.{cell_is_first}
 use Rattle.px_face.specs.Covering.{IsCoveredOnce, IsInsideByParity, covering_back, covering_front, is_met, is_odd}
-use Rattle.px_face.specs.Covering.{is_passed, is_passed_at}
-use Rattle.px_face.specs.Edges.{covers, hold_at}
+use Rattle.px_face.specs.Covering.{is_passed_at}
+use Rattle.px_face.specs.Edges.{hold_at}
 use Rattle.px_face.specs.Faces.{face_count, face_plane}
 use Rattle.px_face.proofs.ParityLaws.{count_by-cons}
 
@@ -33,18 +30,11 @@ count_one : (test : ℕ → Bool) (a n k : ℕ) (b : Bool) → ((i : ℕ) → a 
 count_one test a zero k b one low high = absurd (omega arith)
 count_one test a (suc n) k b one low high = elim (cases_eq a k) [
   | inl same ↦
-      let here : test a ≡ b = one a (omega arith) (omega arith) ∙ rw (same, eqb_itself k) (and_true b) in
-      let rest : count_by test (range_with_len (a + 1) n) ≡ 0 =
-      count_none test (a + 1) n (λ i p q. one i (omega arith) (omega arith)
-      ∙ rw (eqb_other i k (λ e. omega arith)) (and_false b)) in
-      count_by-cons test a (range_with_len (a + 1) n)
-      ∙ ap (λ c. cond c 1 0 + count_by test (range_with_len (a + 1) n)) here ∙ omega (arith, rest)
+      grind (arith, eqb_itself, and_true, count_none, eqb_other, and_false, count_by-cons, cond)
   | inr other ↦
-      let here : test a ≡ false = one a (omega arith) (omega arith) ∙ rw (eqb_other a k other) (and_false b) in
       let rest : count_by test (range_with_len (a + 1) n) ≡ cond b 1 0 =
       count_one test (a + 1) n k b (λ i p q. one i (omega arith) (omega arith)) (omega arith) (omega arith) in
-      count_by-cons test a (range_with_len (a + 1) n)
-      ∙ ap (λ c. cond c 1 0 + count_by test (range_with_len (a + 1) n)) here ∙ omega (arith, rest)
+      grind (arith, count_by-cons, cond)
 ]
 
 -- a test that adds something where the place is the one
@@ -79,12 +69,7 @@ module _ (s : SolidView) (end x y : ℕ) (law : IsCoveredOnce s end x y) where
 
   backs_passed : (z i : ℕ) → length s.fronts + 1 ≤ i → i < face_count s → is_passed_at s end x y z i
       ≡ ((is_met s end x y && le_z (leaves_at s end x y) (pos z)) && eqb i (covering_back s end x y))
-  backs_passed z i low high =
-      rw (law.backs i high (lt_false i (length s.fronts + 1) low))
-      (where_here (is_met s end x y) (eqb i (covering_back s end x y))
-      (le_z (value_at (face_plane s end i) x y) (pos z)) (le_z (leaves_at s end x y) (pos z))
-      (λ e. ap (λ v. le_z v (pos z)) (ap (λ j. value_at (face_plane s end j) x y)
-      (eqb_holds i (covering_back s end x y) e) ∙ law.back.value)))
+  backs_passed z i low high = grind (arith, nat_tests, common_steps, lt_false, where_here, eqb_holds)
 
   pub odd_inside_at : ((v : ℕ) → is_inside_at s end x y v
       ≡ is_odd (count_by (is_passed_at s end x y v) (range_with_len 0 (face_count s))))
@@ -120,16 +105,8 @@ module _ (s : SolidView) (end x y : ℕ) (law : IsCoveredOnce s end x y) where
 
 count_same : (p q : ℕ → Bool) → ((i : ℕ) → p i ≡ q i) → (is : List ℕ) → count_by p is ≡ count_by q is
 count_same p q same [] = refl
-count_same p q same (i ∷ is) =
-    count_by-cons p i is ∙ ap (λ b. cond b 1 0 + count_by p is) (same i)
-    ∙ ap (λ n. cond (q i) 1 0 + n) (count_same p q same is)
-    ∙ sym (count_by-cons q i is)
+count_same p q same (i ∷ is) = grind (arith, count_by-cons, cond, count_same p q same is)
 
 -- the same by the cells of the faces
 pub odd_inside : (s : SolidView) (d : Depths) (x y : ℕ) → IsCoveredOnce s (end_of d) x y → IsInsideByParity s d x y
-odd_inside s d x y law z =
-    let faces = range_with_len 0 (face_count s) in
-    odd_inside_at s (end_of d) x y law (value_of d z)
-    ∙ ap is_odd (count_same (is_passed_at s (end_of d) x y (value_of d z)) (is_passed s d x y z)
-    (λ i. ap (λ b. covers s (end_of d) i x y && b) (sym (cell_is_first d (value_at (face_plane s (end_of d) i) x y) z)))
-    faces)
+odd_inside s d x y law z = grind (arith, odd_inside_at, count_same, cell_is_first)

@@ -1,10 +1,7 @@
 -- The place of the greatest number: above all before it, and at least all after it.
-use Rattle.std.proofs.Common.{◌≡◌, ◌<◌, ◌≤◌, ℕ, zero, suc, ℤ, Bool, true, false, ◌&&◌, List, [], ◌∷◌, length, take}
-use Rattle.std.proofs.Common.{drop, get_or, eqb, refl, ap, sym, ◌∙◌, arith, ◌⊎◌, inl, inr}
-use Rattle.std.specs.List.{list_all}
-use Rattle.std.proofs.lemmas.Int.{ints}
-use Rattle.std.proofs.lemmas.Bool.{cases_Bool}
-use Rattle.std.proofs.lemmas.Bool.Decides.{nat_tests}
+use Rattle.px_num.proofs.Basics.{common_steps, ◌≡◌, ◌<◌, ◌≤◌, ℕ, zero, suc, ℤ, Bool, true, false, ◌&&◌, List, [], ◌∷◌}
+use Rattle.px_num.proofs.Basics.{length, take, drop, get_or, eqb, refl, ap, sym, ◌∙◌, arith, ◌⊎◌, inl, inr, list_all}
+use Rattle.px_num.proofs.Basics.{ints, cases_Bool, nat_tests}
 use Rattle.px_num.proofs.TruthLaws.{and_both, and_false, and_left, and_right, and_true}
 use lib.Signed.{le_z, lt_z}
 use Rattle.px_face.specs.Covering.{greatest_place}
@@ -32,8 +29,7 @@ stays v vs z all (inl under) = rw (under, all_along vs v z all under) refl
 stays v vs z all (inr out) = rw out refl
 
 goes : (v t : ℤ) (vs : List ℤ) (z : ℤ) → ((y : ℤ) → le_z t y ≡ list_all (λ u. le_z u y) vs)
-    → list_all (λ u. le_z u v) vs ≡ false
-    → (list_all (λ u. le_z u z) vs ≡ true) ⊎ (list_all (λ u. le_z u z) vs ≡ false)
+    → list_all (λ u. le_z u v) vs ≡ false → (list_all (λ u. le_z u z) vs ≡ true) ⊎ (list_all (λ u. le_z u z) vs ≡ false)
     → le_z t z ≡ (le_z v z && list_all (λ u. le_z u z) vs)
 goes v t vs z bounds some (inl all) = rw (bounds z, all, over_along v t z (bounds v ∙ some) (bounds z ∙ all)) refl
 goes v t vs z bounds some (inr out) = rw (bounds z, out) (sym (and_false (le_z v z)))
@@ -41,11 +37,7 @@ goes v t vs z bounds some (inr out) = rw (bounds z, out) (sym (and_false (le_z v
 greatest_cons : (v : ℤ) (vs : List ℤ) (d z : ℤ) → le_z (get_or (v ∷ vs) (greatest_place (v ∷ vs)) d) z
     ≡ list_all (λ u. le_z u z) (v ∷ vs)
 greatest_cons v [] d z = sym (and_true (le_z v z))
-greatest_cons v (w ∷ ws) d z = elim (cases_Bool (list_all (λ u. le_z u v) (w ∷ ws))) [
-  | inl all ↦ rw all (stays v (w ∷ ws) z all (cases_Bool (le_z v z)))
-  | inr some ↦ rw some (goes v (get_or (w ∷ ws) (greatest_place (w ∷ ws)) d) (w ∷ ws) z (greatest_cons w ws d) some
-      (cases_Bool (list_all (λ u. le_z u z) (w ∷ ws))))
-]
+greatest_cons v (w ∷ ws) d z = grind (arith, nat_tests, common_steps, stays, goes, greatest_cons w ws d)
 
 -- the greatest is at most z exactly where all are
 pub greatest_bounds : (vs : List ℤ) (d z : ℤ) → 0 < length vs → le_z (get_or vs (greatest_place vs) d) z
@@ -55,10 +47,7 @@ greatest_bounds (v ∷ vs) d z some = greatest_cons v vs d z
 
 cons_there : (v : ℤ) (vs : List ℤ) → greatest_place (v ∷ vs) ≤ length vs
 cons_there v [] = omega arith
-cons_there v (w ∷ ws) = elim (cases_Bool (list_all (λ u. le_z u v) (w ∷ ws))) [
-  | inl all ↦ rw all (omega arith)
-  | inr some ↦ rw some (omega (arith, cons_there w ws))
-]
+cons_there v (w ∷ ws) = grind (arith, cons_there w ws)
 
 pub greatest_there : (vs : List ℤ) → 0 < length vs → greatest_place vs < length vs
 greatest_there [] some = absurd (omega arith)
@@ -73,16 +62,12 @@ greatest_first (v ∷ vs) (suc i) d low all =
     let later : greatest_place vs ≤ i =
     greatest_first vs i d (omega arith)
     (and_right (le_z v (get_or vs i d)) (list_all (λ u. le_z u (get_or vs i d)) vs) all) in
-    elim (cases_Bool (list_all (λ u. le_z u v) vs)) [
-      | inl first ↦ rw first (omega arith)
-      | inr some ↦ rw some (omega arith)
-    ]
+    grind arith
 
 at_most : (vs : List ℤ) (v : ℤ) (i : ℕ) (d : ℤ) → i < length vs → list_all (λ u. le_z u v) vs ≡ true
     → lt_z v (get_or vs i d) ≡ false
 at_most [] v i d h all = absurd (omega arith)
-at_most (u ∷ us) v zero d h all = let e : le_z u v ≡ true = and_left (le_z u v) (list_all (λ w. le_z w v) us) all in
-    grind (arith, ints)
+at_most (u ∷ us) v zero d h all = grind (arith, and_left)
 at_most (u ∷ us) v (suc i) d h all =
     at_most us v i d (omega arith) (and_right (le_z u v) (list_all (λ w. le_z w v) us) all)
 
@@ -102,10 +87,7 @@ next i k b h = grind (arith, nat_tests)
 pub greatest_only : (vs : List ℤ) (i : ℕ) (d : ℤ) → i < length vs → is_first_greatest (take i vs) (get_or vs i d)
     (drop (suc i) vs) ≡ eqb i (greatest_place vs)
 greatest_only [] i d h = absurd (omega arith)
-greatest_only (v ∷ vs) zero d h = elim (cases_Bool (list_all (λ u. le_z u v) vs)) [
-  | inl all ↦ rw all refl
-  | inr some ↦ rw some (not_first (greatest_place vs))
-]
+greatest_only (v ∷ vs) zero d h = grind (arith, not_first)
 greatest_only (v ∷ []) (suc i) d h = absurd (omega arith)
 greatest_only (v ∷ w ∷ ws) (suc i) d h =
     let vs = w ∷ ws in

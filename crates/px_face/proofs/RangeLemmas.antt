@@ -1,16 +1,14 @@
 -- The edges of a face are in the range of the multiplier tree.
-use Rattle.std.proofs.Common.{◌≡◌, ◌<◌, ◌≤◌, ◌+◌, ◌^◌, ℕ, ℤ, pos, ◌-ℤ◌, List, [], ◌∷◌, ◌++◌, length, map, take, drop}
-use Rattle.std.proofs.Common.{get_or, All, arith, lit≤, length-append}
-use Rattle.std.proofs.lemmas.Int.{ints}
-use Rattle.std.proofs.lemmas.List.{length-map}
-use Rattle.std.proofs.lemmas.List.Elements.{All-cons, All-append, All-map, All-take, All-drop, All-weaker, All-get_or}
-use Rattle.std.proofs.lemmas.List.Elements.{All-push}
+use Rattle.px_num.proofs.Basics.{nat_tests, common_steps, ◌≡◌, ◌<◌, ◌≤◌, ◌+◌, ◌^◌, ℕ, ℤ, pos, ◌-ℤ◌, List, [], ◌∷◌, ◌++◌}
+use Rattle.px_num.proofs.Basics.{length, map, take, drop, get_or, All, arith, length-append, ints, length-map, All-cons}
+use Rattle.px_num.proofs.Basics.{All-append, All-map, All-weaker, All-get_or, All-push}
+use Rattle.std.proofs.lemmas.List.Elements.{All-take, All-drop}
 use Rattle.px_num.specs.declared.linear.Linear.{Linear}
 use Rattle.px_num.specs.Forms.{IsInTreeRange, IsWithin}
 use Rattle.px_model.specs.Scenes.{IsLawfulSolid, IsPlane, SolidView}
-pub use Rattle.px_model.proofs.PlaneLaws.{half_range, plane_range}
 use Rattle.px_face.specs.Edges.{above, at_least, back_edges, front_edges, leads, trails}
 use Rattle.px_face.specs.Faces.{back_planes, face_count, front_planes, level, face_plane, planes_in_faces}
+pub use Rattle.px_model.proofs.PlaneLaws.{half_range, plane_range}
 
 pub fronts_size : (s : SolidView) → length (front_planes s.fronts) ≡ length s.fronts + 1
 fronts_size s = rw (length-map s.fronts (λ f. f.plane)) (omega arith)
@@ -26,25 +24,13 @@ apart_less : (m n : ℕ) (u v : ℤ) → m + m < n → IsWithin m u → IsWithin
 apart_less m n u v le (ulow, uhigh) (vlow, vhigh) = (omega (arith, ints), omega (arith, ints))
 
 at_least_range : (p q : Linear) → IsPlane p → IsPlane q → IsInTreeRange (at_least p q)
-at_least_range p q h k = record {
-  a = apart (2 ^ 23) (2 ^ 27) p.a q.a (lit≤ tt) h.a k.a;
-  b = apart (2 ^ 23) (2 ^ 27) p.b q.b (lit≤ tt) h.b k.b;
-  c = apart (2 ^ 33) (2 ^ 38) p.c q.c (lit≤ tt) h.c k.c;
-}
+at_least_range p q h k = grind (arith, nat_tests, common_steps, apart)
 
 above_range : (p q : Linear) → IsPlane p → IsPlane q → IsInTreeRange (above p q)
-above_range p q h k = record {
-  a = apart (2 ^ 23) (2 ^ 27) p.a q.a (lit≤ tt) h.a k.a;
-  b = apart (2 ^ 23) (2 ^ 27) p.b q.b (lit≤ tt) h.b k.b;
-  c = apart_less (2 ^ 33) (2 ^ 38) p.c q.c (lit≤ tt) h.c k.c;
-}
+above_range p q h k = grind (arith, nat_tests, common_steps, apart, apart_less)
 
 level_plane : (n : ℕ) → n < 2 ^ 32 → IsPlane (level n)
-level_plane n h = record {
-  a = (omega (arith, ints), omega (arith, ints));
-  b = (omega (arith, ints), omega (arith, ints));
-  c = (omega (arith, ints), omega (arith, ints));
-}
+level_plane n h = grind arith
 
 part : (f : Linear → Linear) → ((q : Linear) → IsPlane q → IsInTreeRange (f q)) → (ps : List Linear) → All IsPlane ps
     → All IsInTreeRange (map f ps)

@@ -1,15 +1,10 @@
 -- Where a solid begins it shows a front, and just behind its end it hides a back; and so does a scene.
-use Rattle.std.proofs.Common.{◌≡◌, ◌<◌, ◌≤◌, ◌&&◌, ℕ, zero, suc, ℤ, pos, Bool, true, false, nat_le, nat_lt}
-use Rattle.std.proofs.Common.{List, [], ◌∷◌, ◌++◌, length, map, Option, Some, None, refl, ap, sym, ◌∙◌, arith, inl}
-use Rattle.std.proofs.Common.{inr, if◌then◌else◌, slice_get}
+use Rattle.px_num.proofs.Basics.{common_steps, ◌≡◌, ◌<◌, ◌≤◌, ◌&&◌, ℕ, zero, suc, ℤ, pos, Bool, true, false, nat_le}
+use Rattle.px_num.proofs.Basics.{nat_lt, List, [], ◌∷◌, ◌++◌, length, map, Option, Some, None, refl, sym, ◌∙◌, arith}
+use Rattle.px_num.proofs.Basics.{inl, inr, if◌then◌else◌, slice_get, option_map_or, int_eq, ints, nat_tests}
 use Rattle.std.specs.List.{Contains}
-use Rattle.std.specs.Option.{option_map_or}
-use Rattle.std.specs.Ordering.{int_eq}
-use Rattle.std.proofs.lemmas.Int.{fold-int_max_reached, fold-int_min_reached, ints}
-use Rattle.std.proofs.lemmas.Bool.{cases_Bool}
-use Rattle.std.proofs.lemmas.Bool.Decides.{nat_tests}
+use Rattle.std.proofs.lemmas.Int.{fold-int_max_reached, fold-int_min_reached}
 use Rattle.std.proofs.lemmas.List.{length-append}
-use lib.Signed.{lt_z}
 use Rattle.px_num.specs.Forms.{value_at}
 use Rattle.px_num.proofs.TruthLaws.{int_same_true, lt_false, lt_of_ints, lt_true, same_true}
 use Rattle.px_expr.specs.Cells.{Cell, HasSurface, cell, is_member}
@@ -19,7 +14,6 @@ use Rattle.px_model.specs.declared.solid.Face.{Face}
 use Rattle.px_model.specs.Scenes.{SolidView, IsLawfulScene, SceneView}
 use Rattle.px_model.specs.Cells.{Depths, backs_at, cell_of, depths_of, end_of, enters_at, far_of, faces_at, fronts_at}
 use Rattle.px_model.specs.Cells.{greatest_fronts, is_inside, leaf_cell, leaves_at, no_cell, scene_cell, solid_cell}
-use Rattle.px_model.specs.Cells.{value_of}
 use Rattle.px_model.proofs.CellLaws.{before_end, cell_is_least}
 use Rattle.px_face.specs.Covering.{is_met}
 use Rattle.px_face.specs.Surfaces.{NoMemberBehind, ScenesHaveSurfaces, scene_before, solid_before}
@@ -29,11 +23,8 @@ use Rattle.px_face.proofs.CellLemmas.{has_cells}
 faces_there : (fs : List Face) (x y : ℕ) (v : ℤ) → Contains (map (λ f. value_at f.plane x y) fs) v
     → 0 < length (faces_at fs x y v)
 faces_there [] x y v c = absurd (omega (arith, c.1))
-faces_there (f ∷ fs) x y v (zero, low, c) = let e : int_eq (value_at f.plane x y) v ≡ true =
-    int_same_true (value_at f.plane x y) v c in rw e (omega arith)
-faces_there (f ∷ fs) x y v (suc k, low, c) =
-    let later = faces_there fs x y v (k, omega (arith, low), c) in
-    elim (cases_Bool (int_eq (value_at f.plane x y) v)) [ inl yea ↦ rw yea (omega arith) | inr nay ↦ rw nay later ]
+faces_there (f ∷ fs) x y v (zero, low, c) = grind (arith, int_same_true)
+faces_there (f ∷ fs) x y v (suc k, low, c) = grind (arith, faces_there fs x y v (k, omega (arith, low), c))
 
 module _ (s : SolidView) (d : Depths) (x y : ℕ) where
   abbrev limit : ℕ
@@ -54,12 +45,7 @@ module _ (s : SolidView) (d : Depths) (x y : ℕ) where
   greatest_there : 0 < length (greatest_fronts s x y)
   greatest_there = elim (fold-int_max_reached (pos 0) (map (λ f. value_at f.plane x y) s.fronts) enters refl) [
     | inl e ↦ near (int_eq (pos 0) enters) (same enters e)
-    | inr c ↦ omega (
-      arith,
-      length-append {A = ℕ} (if int_eq (pos 0) enters then s.near_number ∷ [] else [])
-          (faces_at s.fronts x y enters),
-      faces_there s.fronts x y enters c,
-    )
+    | inr c ↦ grind (arith, length-append, faces_there)
   ]
     where
       same : (v : ℤ) → v ≡ pos 0 → int_eq (pos 0) v ≡ true
@@ -93,9 +79,7 @@ module _ (s : SolidView) (d : Depths) (x y : ℕ) where
   -- the cell of the far limit's value is not before it
   not_limit : (z : ℕ) → z < d.far → leaves ≡ pos limit → last ≡ z → ⊥
   not_limit z before is e =
-      let test : nat_lt z last ≡ true =
-      cell_is_least d leaves z ∙ ap (λ v. lt_z (pos (value_of d z)) v) is ∙ sym (lt_of_ints (value_of d z) limit)
-      ∙ before_end d z ∙ lt_true z d.far before in
+      let test : nat_lt z last ≡ true = grind (arith, cell_is_least, lt_of_ints, before_end, lt_true) in
       absurd (lt_never z last test e)
     where
       lt_never : (m n : ℕ) → nat_lt m n ≡ true → n ≡ m → ⊥
@@ -141,16 +125,7 @@ MemberLaw = (solid_at : ℕ → Cell) (tree : Tree) → (cell solid_at tree).mem
     ≡ is_member (λ solid. (solid_at solid).member) tree
 
 pub none_behind : MemberLaw → NoMemberBehind
-none_behind member scene x y z past =
-    let d = depths_of scene in
-    member (leaf_cell scene.solids d x y z) scene.show
-    ∙ none_member (λ solid. (leaf_cell scene.solids d x y z solid).member)
-    (λ solid. each d (slice_get scene.solids solid) past) scene.show
-  where
-    each : (d : Depths) (found : Option SolidView) → d.far ≤ z
-        → (option_map_or (solid_cell d x y z) found no_cell).member ≡ false
-    each d None past = refl
-    each d (Some s) past = outside_behind s d x y z past
+none_behind member scene x y z past = grind (arith, nat_tests, common_steps, none_member, slice_get, outside_behind)
 
 -- the solid of an index at the cell before
 abbrev leaf_before : List SolidView → Depths → (x y z solid : ℕ) → Cell
@@ -172,18 +147,10 @@ module _ (surface : SurfaceLaw) (member : MemberLaw) (scene : SceneView) (lawful
   at_before z = leaf_before scene.solids d x y z
 
   surface_of : (z : ℕ) → z < far_of scene → HasSurface (cell (at_before z) scene.show) (scene_cell scene x y z)
-  surface_of z low =
-      surface (at_before z) (leaf_cell scene.solids d x y z) (length scene.solids)
-      (λ solid h. leaf_surface scene.solids d x y z solid low) scene.show lawful.shown
+  surface_of z low = grind (arith, leaf_surface)
 
   none_at_start : (cell (at_before 0) scene.show).member ≡ false
-  none_at_start =
-      member (at_before 0) scene.show
-      ∙ none_member (λ solid. (at_before 0 solid).member) (λ solid. each (slice_get scene.solids solid)) scene.show
-    where
-      each : (found : Option SolidView) → (option_map_or (solid_before d x y 0) found no_cell).member ≡ false
-      each None = refl
-      each (Some s) = refl
+  none_at_start = grind (arith, none_member, slice_get)
 
   pub scene_has_surface : (z : ℕ) → z < far_of scene → HasSurface (scene_before scene x y z) (scene_cell scene x y z)
   scene_has_surface zero low = record {

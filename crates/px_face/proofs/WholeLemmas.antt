@@ -1,11 +1,7 @@
 -- Without a fraction the cells of a solid are its values, and the faces at a cell are those whose value it is.
-use Rattle.std.proofs.Common.{◌≡◌, ◌<◌, ◌≤◌, ◌≤ℤ◌, ◌==◌, ℕ, zero, suc, ℤ, pos, negsuc, Bool, true, false, ◌&&◌, List}
-use Rattle.std.proofs.Common.{[], ◌∷◌, ◌++◌, refl, ap, sym, ◌∙◌, arith, inl, inr, if◌then◌else◌}
-use Rattle.std.specs.List.{list_all}
-use Rattle.std.specs.Ordering.{int_eq}
-use Rattle.std.proofs.lemmas.Int.{ints}
-use Rattle.std.proofs.lemmas.Bool.{cases_Bool, cases_eq}
-use Rattle.std.proofs.lemmas.Bool.Decides.{nat_tests}
+use Rattle.px_num.proofs.Basics.{◌≡◌, ◌<◌, ◌≤◌, ◌≤ℤ◌, ◌==◌, ℕ, zero, suc, ℤ, pos, negsuc, Bool, true, false, ◌&&◌, List}
+use Rattle.px_num.proofs.Basics.{[], ◌∷◌, ◌++◌, refl, ap, sym, ◌∙◌, arith, inl, inr, if◌then◌else◌, list_all, int_eq}
+use Rattle.px_num.proofs.Basics.{ints, cases_Bool, cases_eq, nat_tests}
 use lib.Signed.{le_z, lt_z}
 use Rattle.px_num.specs.Forms.{value_at}
 use Rattle.px_num.proofs.TruthLaws.{and_left, and_right, first_of_three, int_eq_holds, itself_true, third_of_three}

@@ -1,5 +1,5 @@
 -- What a stored pixel shows is a face of the scene, or none.
-use Rattle.std.proofs.Common.{arith}
+use Rattle.px_num.proofs.Basics.{arith}
 use Rattle.px_face.specs.Surfaces.{PicturesShowFaces}
 use Rattle.px_frame.specs.ImagesLaw.{FacesAreOfTheScene}
 

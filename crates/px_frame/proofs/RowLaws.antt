@@ -1,9 +1,9 @@
 -- Rows by their pixels, and images by their rows, as they are written one after another; images of the same numbers.
-use Rattle.std.proofs.Common.{◌≡◌, ℕ, ◌+◌, ◌-◌, ◌/◌, ◌^◌, ◌<◌, refl, ap, sym, ◌∙◌, arith}
-use Rattle.std.proofs.Common.{List, [], ◌∷◌, ◌++◌, append_assoc}
+use Rattle.px_num.proofs.Basics.{◌≡◌, ℕ, ◌+◌, ◌-◌, ◌/◌, ◌^◌, ◌<◌, ◌≤◌, refl, ap, sym, ◌∙◌, arith, List, [], ◌∷◌, ◌++◌}
+use Rattle.px_num.proofs.Basics.{append_assoc, get_or, length, set, take, length-set, flat_map-append, flat_map}
+use Rattle.px_num.proofs.Basics.{range_with_len}
 use Rattle.std.proofs.lemmas.List.{append-nil}
-use Rattle.std.proofs.lemmas.Grind.{flat_map-append}
-use Rattle.std.specs.List.{flat_map, range_with_len}
+use Rattle.std.proofs.lemmas.Grind.{take-set_at}
 use Rattle.px_num.proofs.RangeLaws.{range_cut, same_parts}
 use Rattle.px_io.specs.Told.{SinkState, TakesAll, TakesFront}
 use Rattle.px_io.proofs.ToldLaws.{front_after, front_before, takes_both}
@@ -15,9 +15,9 @@ use Rattle.px_model.specs.Scenes.{SceneView}
 use Rattle.px_sched.specs.Layouts.{LayoutView}
 use Rattle.px_frame.specs.declared.plane.Plane.{Plane}
 use Rattle.px_frame.specs.declared.plane.Plane.TheVariants as p
-use Rattle.px_frame.specs.Rows.{IsShown, field_shown, row_bytes, shown_pixel, strip_pixel}
-use Rattle.px_frame.specs.Stored.{StoresFaces, stored_pixel}
-use Rattle.px_frame.specs.Strips.{HoldsRow, strip_number}
+use Rattle.px_frame.specs.Rows.{field_shown, row_bytes, shown_pixel, strip_pixel}
+use Rattle.px_frame.specs.Stored.{stored_pixel}
+use Rattle.px_frame.specs.Strips.{HoldsRow}
 
 range_join : (n m : ℕ) → range_with_len 0 n ++ range_with_len n m ≡ range_with_len 0 (n + m)
 range_join n m =
@@ -35,6 +35,20 @@ made_more f n =
 
 made_all : (f : ℕ → List ℕ) (n m : ℕ) → made f n ++ flat_map f (range_with_len n m) ≡ made f (n + m)
 made_all f n m = sym (flat_map-append f (range_with_len 0 n) (range_with_len n m)) ∙ ap (flat_map f) (range_join n m)
+
+-- three bytes that are entered behind some others
+pub three_entered : (xs ys : List ℕ) (n m : ℕ) → m ≡ n + 3 → m ≤ length xs → length ys ≡ 3
+    → take m (set (set (set xs n (get_or ys 0 0)) (n + 1) (get_or ys 1 0)) (n + 2) (get_or ys 2 0)) ≡ take n xs ++ ys
+three_entered xs [] n m behind room three = absurd (omega arith)
+three_entered xs (a ∷ []) n m behind room three = absurd (omega arith)
+three_entered xs (a ∷ b ∷ []) n m behind room three = absurd (omega arith)
+three_entered xs (a ∷ b ∷ c ∷ d ∷ rest) n m behind room three = absurd (omega arith)
+three_entered xs (a ∷ b ∷ c ∷ []) n m behind room three =
+    take-set_at (set (set xs n a) (n + 1) b) (n + 2) m c (omega arith) (omega (arith, length-set {A = ℕ}))
+    ∙ ap (λ bytes. bytes ++ c ∷ []) (take-set_at (set xs n a) (n + 1) (n + 2) b (omega arith)
+    (omega (arith, length-set {A = ℕ}))
+    ∙ ap (λ bytes. bytes ++ b ∷ []) (take-set_at xs n (n + 1) a refl (omega arith)))
+    ∙ grind (arith, append_assoc {A = ℕ})
 
 -- one pixel more
 pub pixels_grown : (pixel : (x y : ℕ) → List ℕ) (x y : ℕ) (bytes old new : List ℕ) → old ≡ row_of_pixels x pixel y
@@ -57,8 +71,7 @@ rows_grown a b c front row y written next =
     rw more at (takes_both a b c (front ++ made row y) (row y) written next)
 
 -- a front of one row more is one of the whole
-pub rows_broken : (a b c : SinkState) (front : List ℕ) (row : ℕ → List ℕ) (y height : ℕ)
-    → y < height
+pub rows_broken : (a b c : SinkState) (front : List ℕ) (row : ℕ → List ℕ) (y height : ℕ) → y < height
     → TakesAll a b (front ++ flat_map row (range_with_len 0 y)) → TakesFront b c (row y)
     → TakesFront a c (front ++ flat_map row (range_with_len 0 height))
 rows_broken a b c front row y height above written next =
@@ -79,8 +92,7 @@ pixel_shown scene layout state p.Face x y = refl
 pixel_shown scene layout state p.Colour x y = refl
 
 -- an image is that of the pixels in the picture
-pub same_pixels : (width height : ℕ) (f g : (x y : ℕ) → List ℕ)
-    → ((x y : ℕ) → x < width → y < height → f x y ≡ g x y)
+pub same_pixels : (width height : ℕ) (f g : (x y : ℕ) → List ℕ) → ((x y : ℕ) → x < width → y < height → f x y ≡ g x y)
     → image_of_pixels width height f ≡ image_of_pixels width height g
 same_pixels width height f g same =
     ap (λ bytes. header width height ++ bytes)

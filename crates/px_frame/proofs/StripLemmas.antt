@@ -1,10 +1,8 @@
 -- The numbers of a strip, column by column.
-use Rattle.std.proofs.Common.{◌≡◌, ℕ, zero, suc, ◌+◌, ◌*◌, ◌/◌, ◌%◌, ◌^◌, ◌==◌, ◌<◌, ◌≤◌, Bool, true, false}
-use Rattle.std.proofs.Common.{if◌then◌else◌, List, ◌++◌, get_or, length, ap, sym, subst, ◌∙◌, arith, inl, inr}
-use Rattle.std.proofs.Common.{length-append}
-use Rattle.std.proofs.lemmas.Bool.{cases_lt}
-use Rattle.std.proofs.lemmas.List.{get_or_append_left, get_or-append-add}
-use Rattle.std.proofs.lemmas.Nat.{shr-shr}
+use Rattle.px_num.proofs.Basics.{◌≡◌, ℕ, zero, suc, ◌+◌, ◌*◌, ◌/◌, ◌%◌, ◌^◌, ◌==◌, ◌<◌, ◌≤◌, Bool, true, false}
+use Rattle.px_num.proofs.Basics.{if◌then◌else◌, List, ◌++◌, get_or, length, ap, sym, subst, ◌∙◌, arith, inl, inr}
+use Rattle.px_num.proofs.Basics.{length-append, cases_lt, get_or_append_left, get_or-append-add, shr-shr, shr_split}
+use Rattle.px_num.proofs.Basics.{bit_at_cat_low}
 use Rattle.px_num.specs.Bits.{bit_at, nat_bit}
 use Rattle.px_num.proofs.TruthLaws.{double_pow, lt_true, power_grows}
 use Rattle.px_array.specs.Arrays.{State, pixel_of}
@@ -14,12 +12,15 @@ use Rattle.px_macro.specs.Fields.{number_from_bits, number_in}
 use Rattle.px_macro.specs.declared.field.Field.{Field}
 use Rattle.px_frame.specs.Strips.{HoldsRow, strip_number}
 
--- a bit of a word that is moved down to a place
-pub moved_bit : (state : State) (at place word j : ℕ) → IsMemoryWord state at (place / 64) word
-    → place % 64 + j < 64 → nat_bit (word / 2 ^ (place % 64)) j ≡ memory_bit state at (place + j)
-moved_bit state at place word j is within =
+-- one of eight bits of a word that is moved down to a place
+pub moved_bit : (state : State) (at place word j : ℕ) → IsMemoryWord state at (place / 64) word → j < 8
+    → place % 64 + j < 64 → nat_bit (word / 2 ^ (place % 64) % 256) j ≡ memory_bit state at (place + j)
+moved_bit state at place word j is low within =
+    let moved = word / 2 ^ (place % 64) in
     let whole : 64 * (place / 64) + (place % 64 + j) ≡ place + j = omega arith in
-    ap (λ m. m % 2 == 1) (shr-shr word (place % 64) j)
+    ap (λ b. b == 1) (sym (bit_at_cat_low (moved / 2 ^ 8) 8 (moved % 2 ^ 8) j low))
+    ∙ ap (λ m. nat_bit m j) (shr_split moved 8)
+    ∙ ap (λ m. m % 2 == 1) (shr-shr word (place % 64) j)
     ∙ (is (place % 64 + j) within ∙ ap (memory_bit state at) whole)
 
 -- a number with one bit more stays small

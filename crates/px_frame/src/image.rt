@@ -1,5 +1,5 @@
 //! Image files in the raw form of Netpbm's pixel maps.
-ghost use Rattle.std.specs.Prelude.{◌≡◌, ◌<◌, ◌≤◌, ◌*◌, ◌^◌, ℕ, OnErr, OnOk, length};
+ghost use Rattle.std.specs.Prelude.{◌≡◌, ◌<◌, ◌≤◌, ◌*◌, ◌^◌, ℕ, OnErr, OnOk, length, take};
 ghost use Rattle.px_io.specs.Counts.{HasCause};
 ghost use Rattle.px_io.specs.Told.{TakesAll, TakesFront};
 ghost use Rattle.px_array.specs.Arrays.{IsOpen};
@@ -11,7 +11,7 @@ ghost use Rattle.px_frame.specs.Strips.{strip_number};
 
 use crate::plane::{Plane, field_of, shown_pixel};
 use crate::strip::Strip;
-use arrayvec::{ArrayString, ArrayVec};
+use arrayvec::ArrayString;
 use itoa::Buffer;
 use px_array::Array;
 use px_io::{Failed, Sink, write_whole};
@@ -48,7 +48,7 @@ pub fn write_picture<A: Array, O: Sink>(
     for y in 0..scene.height() {
         strip.enter_row(array, field, scene.width(), y);
         let row = row_bytes(&strip, scene, plane, y);
-        write_whole(out, row.as_slice())?;
+        write_whole(out, &row[..3 * scene.width() as usize])?;
     }
     Ok(())
 }
@@ -68,19 +68,24 @@ pub fn header(width: u32, height: u32) -> ArrayString<128>
     text
 }
 
-/// The pixels of row `y`, from the left.
-fn row_bytes(strip: &Strip, scene: &Scene, plane: Plane, y: u32) -> ArrayVec<u8, ROW_BYTES>
+/// The pixels of row `y`, from the left, and then zeros.
+///
+/// Each byte has a place of its own: bytes that are appended would wait for the length that the last one left.
+fn row_bytes(strip: &Strip, scene: &Scene, plane: Plane, y: u32) -> [u8; ROW_BYTES]
     requires columns { length strip.now ≡ 8 * scene.now.width }
     requires small { (x : ℕ) → x < scene.now.width → strip_number strip.now x y < 2 ^ 24 }
     requires shown { (x : ℕ) → x < scene.now.width
         → IsShown scene.now plane (strip_number strip.now x y) }
-    ensures { result.items ≡ row_of_pixels scene.now.width
+    ensures { take (3 * scene.now.width) result ≡ row_of_pixels scene.now.width
         (strip_pixel scene.now plane strip.now) y }
 {
-    let mut bytes = ArrayVec::new();
+    let mut bytes = [0; ROW_BYTES];
     for x in 0..scene.width() {
         let pixel = shown_pixel(plane, scene, strip.at(x, y));
-        bytes.try_extend_from_slice(&pixel).unwrap();
+        let at = 3 * x as usize;
+        bytes[at] = pixel[0];
+        bytes[at + 1] = pixel[1];
+        bytes[at + 2] = pixel[2];
     }
     bytes
 }

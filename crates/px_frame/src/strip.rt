@@ -98,32 +98,33 @@ fn eight_numbers<A: Array>(array: &A, field: Field, place: usize) -> [u32; 8]
     ensures small { (j : ℕ) → j < 8 → get_or result j 0 < 2 ^ field.len }
 {
     let mut numbers = [0; 8];
+    let mut value = 1;
     for t in 0..field.len {
         let word = array.word(field.at + t, place / 64);
-        add_bits(&mut numbers, word >> (place % 64), t);
+        add_bits(&mut numbers, ((word >> (place % 64)) % 256) as u32, value);
+        value *= 2;
     }
     numbers
 }
 
-/// Adds a bit to each number, as its bit `t`.
+/// Adds a bit to each number, which counts so much.
 #[inline(always)]
-fn add_bits(numbers: &mut [u32; 8], bits: u64, t: u32)
-    requires few { t < 24 }
-    requires small { (j : ℕ) → j < 8 → get_or numbers.old j 0 < 2 ^ t }
+fn add_bits(numbers: &mut [u32; 8], bits: u32, value: u32)
+    requires few { value < 2 ^ 24 }
+    requires small { (j : ℕ) → j < 8 → get_or numbers.old j 0 < value }
     ensures { (j : ℕ) → j < 8 → get_or numbers.new j 0
-        ≡ get_or numbers.old j 0 + (if nat_bit bits j then 2 ^ t else 0) }
+        ≡ get_or numbers.old j 0 + (if nat_bit bits j then value else 0) }
 {
     for j in 0..8 {
-        numbers[j] += bit_value(bits, j, t);
+        numbers[j] += bit_value(bits, j, value);
     }
 }
 
-/// What bit `j` of a word counts as bit `t` of a number.
+/// What bit `j` of eight counts.
 #[inline(always)]
-fn bit_value(bits: u64, j: usize, t: u32) -> u32
-    requires bit { j < 64 }
-    requires few { t < 24 }
-    ensures { result ≡ (if nat_bit bits j then 2 ^ t else 0) }
+fn bit_value(bits: u32, j: usize, value: u32) -> u32
+    requires { j < 32 }
+    ensures { result ≡ (if nat_bit bits j then value else 0) }
 {
-    if (bits >> j) & 1 == 1 { 1 << t } else { 0 }
+    if (bits >> j) & 1 == 1 { value } else { 0 }
 }

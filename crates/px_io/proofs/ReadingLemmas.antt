@@ -1,6 +1,5 @@
 -- What left a source, at an error.
-use Rattle.std.proofs.Common.{ℕ, ◌≤◌, List, length, Option, Result, Ok, Err, OnErr}
-use Rattle.std.specs.Io.KnownBytes.{Consumes}
+use Rattle.px_num.proofs.Basics.{ℕ, ◌≤◌, List, length, Option, Result, Ok, Err, OnErr, Consumes}
 use Rattle.px_io.specs.Told.{ConsumesAtMost}
 
 pub on_err_consumed : {T E : Type 0} (r : Result T E) (a b : Option (List ℕ)) (bs : List ℕ) (limit : ℕ)

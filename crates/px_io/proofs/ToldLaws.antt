@@ -1,16 +1,12 @@
 -- The laws of told bytes over several calls in a row.
-use Rattle.std.proofs.Common.{◌≡◌, ℕ, ◌+◌, ◌-◌, Bool, List, [], ◌++◌, take, drop, length, Option, Some, None}
-use Rattle.std.proofs.Common.{Result, Ok, Err, OnErr, append_assoc, append-nil, refl, sym, arith, length-append}
-use Rattle.std.proofs.Common.{length-drop}
-use Prim.Native.Nat.{zero, suc}
-use Rattle.std.proofs.Math.Seq.{take-add, take-append-add}
-use Rattle.std.proofs.lemmas.List.{take_all, take-append-le as take_within}
-use Rattle.std.specs.Io.KnownBytes.{Appends, Consumes, Keeps}
+use Rattle.px_num.proofs.Basics.{◌≡◌, ℕ, ◌+◌, ◌-◌, Bool, List, [], ◌++◌, take, drop, length, Option, Some, None, Result}
+use Rattle.px_num.proofs.Basics.{Ok, Err, OnErr, append_assoc, append-nil, refl, sym, arith, length-append, length-drop}
+use Rattle.px_num.proofs.Basics.{zero, suc, take-add, take-append-add, take_all, Appends, Consumes, Keeps}
+use Rattle.std.proofs.lemmas.List.{take-append-le as take_within}
 use Rattle.px_io.specs.Told.{Reopens, SinkState, TakesAll, TakesFront, TakesNone}
 
 -- first xs were appended, and then ys
-pub appends_both : (a b c : Option (List ℕ)) (xs ys : List ℕ) → Appends a b xs → Appends b c ys
-    → Appends a c (xs ++ ys)
+pub appends_both : (a b c : Option (List ℕ)) (xs ys : List ℕ) → Appends a b xs → Appends b c ys → Appends a c (xs ++ ys)
 appends_both None b c xs ys p q = tt
 appends_both (Some a) None c xs ys p q = absurd p
 appends_both (Some a) (Some b) None xs ys p q = absurd q
@@ -30,14 +26,8 @@ appends_kept (Some a) (Some b) (Some c) xs p q = rw q p
 
 -- a sink that took m bytes and then n
 pub reopens_both : (f g h : Option Bool) (m n : ℕ) → Reopens f g m → Reopens g h n → Reopens f h (m + n)
-reopens_both f g h m zero first second = record {
-  taken = λ some. rw (second.idle refl) (first.taken (omega arith));
-  idle = λ none. rw (second.idle refl) (first.idle (omega arith));
-}
-reopens_both f g h m (suc n) first second = record {
-  taken = λ some. second.taken (omega arith);
-  idle = λ none. absurd (omega arith);
-}
+reopens_both f g h m zero first second = grind arith
+reopens_both f g h m (suc n) first second = grind arith
 
 pub keeps_same : (a : Option (List ℕ)) → Keeps a a
 keeps_same None = tt
@@ -48,18 +38,11 @@ pub stays : (a : SinkState) → TakesNone a a
 stays a = record { all = keeps_same a.written; end = refl }
 
 pub takes_none : (a : SinkState) → TakesAll a a []
-takes_none a = record {
-  all = appends_none a.written;
-  end = record { taken = λ some. absurd (omega arith); idle = λ none. refl };
-}
+takes_none a = grind (arith, appends_none)
 
 -- all of xs, and then all of ys
 pub takes_both : (a b c : SinkState) (xs ys : List ℕ) → TakesAll a b xs → TakesAll b c ys → TakesAll a c (xs ++ ys)
-takes_both a b c xs ys first second = record {
-  all = appends_both a.written b.written c.written xs ys first.all second.all;
-  end = rw (length-append xs ys)
-      (reopens_both a.finished b.finished c.finished (length xs) (length ys) first.end second.end);
-}
+takes_both a b c xs ys first second = grind (arith, appends_both, length-append, reopens_both)
 
 -- all of xs, and then a front of ys
 pub front_after : (a b c : SinkState) (xs ys : List ℕ) → TakesAll a b xs → TakesFront b c ys → TakesFront a c (xs ++ ys)
@@ -74,34 +57,17 @@ front_after a b c xs ys first (n, second) = (
 
 -- a front of xs is one of all that begins with xs
 pub front_before : (a b : SinkState) (xs ys : List ℕ) → TakesFront a b xs → TakesFront a b (xs ++ ys)
-front_before a b xs ys (n, first) = (
-  n,
-  record {
-    within = omega (arith, first.within, length-append xs ys);
-    front = rw (take_within n xs ys first.within) first.front;
-    end = first.end;
-  },
-)
+front_before a b xs ys (n, first) = grind (arith, length-append, take_within)
 
 -- all of xs, and then nothing, is a front of xs
 pub front_all : (a b c : SinkState) (xs : List ℕ) → TakesAll a b xs → Keeps b.written c.written
     → c.finished ≡ b.finished → TakesFront a c xs
-front_all a b c xs first kept same = (
-  length xs,
-  record {
-    within = omega arith;
-    front = rw (take_all (length xs) xs (omega arith)) (appends_kept a.written b.written c.written xs first.all kept);
-    end = rw same first.end;
-  },
-)
+front_all a b c xs first kept same = grind (arith, take_all, appends_kept)
 
 -- the first i of xs, and then the first n of the others, are the first i + n
-pub appends_more : (a b c : Option (List ℕ)) (xs : List ℕ) (i n m : ℕ) → m ≡ length xs - i
-    → Appends a b (take i xs) → Appends b c (take n (take m (drop i xs)))
-    → Appends a c (take (i + n) xs)
-appends_more a b c xs i n m e p q =
-    let whole : take m (drop i xs) ≡ drop i xs = take_all m (drop i xs) (omega (arith, length-drop i xs))
-    in rw take-add (appends_both a b c _ _ p (rw whole at q))
+pub appends_more : (a b c : Option (List ℕ)) (xs : List ℕ) (i n m : ℕ) → m ≡ length xs - i → Appends a b (take i xs)
+    → Appends b c (take n (take m (drop i xs))) → Appends a c (take (i + n) xs)
+appends_more a b c xs i n m e p q = grind (arith, take_all, length-drop, take-add, appends_both)
 
 -- nothing left
 pub consumes_none : (a : Option (List ℕ)) → Consumes a a []
@@ -117,8 +83,7 @@ consumes_both (Some a) (Some b) None xs ys p q = absurd q
 consumes_both (Some a) (Some b) (Some c) xs ys p q = rw (p, q) (sym (append_assoc xs ys c))
 
 -- xs left, and then nothing
-pub consumes_kept : (a b c : Option (List ℕ)) (xs : List ℕ) → Consumes a b xs → Keeps b c
-    → Consumes a c xs
+pub consumes_kept : (a b c : Option (List ℕ)) (xs : List ℕ) → Consumes a b xs → Keeps b c → Consumes a c xs
 consumes_kept None b c xs p q = tt
 consumes_kept (Some a) None c xs p q = absurd p
 consumes_kept (Some a) (Some b) None xs p q = absurd q

@@ -1,8 +1,6 @@
 -- The values at the pixels of a block of eight words, from the one at its first.
-use Rattle.std.proofs.Common.{◌≡◌, ◌∙◌, ℕ, ◌+◌, ◌-◌, ◌*◌, ◌/◌, ◌%◌, ◌^◌, ◌≤◌, ℤ, ◌+ℤ◌, ap, arith}
-use Rattle.std.proofs.Math.Nat.{one-le-pow}
-use Rattle.std.proofs.lemmas.Int.{ints}
-use Rattle.std.proofs.lemmas.Nat.{pow-add}
+use Rattle.px_num.proofs.Basics.{◌≡◌, ◌∙◌, ℕ, ◌+◌, ◌-◌, ◌*◌, ◌/◌, ◌%◌, ◌^◌, ◌≤◌, ℤ, ◌+ℤ◌, ap, arith, one-le-pow, ints}
+use Rattle.px_num.proofs.Basics.{pow-add}
 use Rattle.px_num.specs.Forms.{value_at}
 use Rattle.px_num.specs.declared.linear.Linear.{Linear}
 use Rattle.px_lanes.specs.Lanes.{offset}
@@ -13,22 +11,17 @@ block_splits : (ny block j : ℕ) → ny ≤ 9 → Splits (2 ^ ny) j (512 * bloc
 block_splits ny block j low =
     let e : 9 ≡ ny + (9 - ny) = omega arith in
     let power : 512 ≡ 2 ^ ny * 2 ^ (9 - ny) = ap (λ n. 2 ^ n) e ∙ pow-add 2 ny (9 - ny) in
-    let place : 512 * block ≡ 2 ^ ny * (2 ^ (9 - ny) * block) = ap (λ n. n * block) power
-    ∙ mul_assoc (2 ^ ny) (2 ^ (9 - ny)) block in
+    let place : 512 * block ≡ 2 ^ ny * (2 ^ (9 - ny) * block) = grind arith in
     rw place (splits_above (2 ^ ny) j (2 ^ (9 - ny) * block) (one-le-pow ny 2 (omega arith)))
   where
     mul_assoc : (a b c : ℕ) → a * b * c ≡ a * (b * c)
     mul_assoc a b c = omega arith
 
-value_in_block : (form : Linear) (ny block j : ℕ) → ny ≤ 9
-    → value_at form ((512 * block + j) / 2 ^ ny) ((512 * block + j) % 2 ^ ny)
-    ≡ offset form ny j +ℤ value_at form (512 * block / 2 ^ ny) (512 * block % 2 ^ ny)
+value_in_block : (form : Linear) (ny block j : ℕ) → ny ≤ 9 → value_at form ((512 * block + j) / 2 ^ ny)
+    ((512 * block + j) % 2 ^ ny) ≡ offset form ny j +ℤ value_at form (512 * block / 2 ^ ny) (512 * block % 2 ^ ny)
 value_in_block form ny block j low =
     let s = block_splits ny block j low in
-    let turn : 512 * block + j ≡ j + 512 * block = omega arith in
-    sum_of_values form.a form.b form.c (j / 2 ^ ny) (j % 2 ^ ny) (512 * block / 2 ^ ny) (512 * block % 2 ^ ny)
-    ((512 * block + j) / 2 ^ ny) ((512 * block + j) % 2 ^ ny) (ap (λ n. n / 2 ^ ny) turn ∙ s.column)
-    (ap (λ n. n % 2 ^ ny) turn ∙ s.row)
+    grind (arith, sum_of_values)
 
 -- a value and that of the block behind
 pub value_behind : (form : Linear) (ny block j : ℕ) → ny ≤ 9

@@ -1,26 +1,15 @@
 -- The offset of a lane, from the bits of its number.
-use Rattle.std.proofs.Common.{◌≡◌, ℕ, ◌+◌, ◌-◌, ◌*◌, ◌/◌, ◌%◌, ◌^◌, ◌<◌, ◌≤◌, ◌==◌, ℤ, pos, ◌+ℤ◌, ◌*ℤ◌}
-use Rattle.std.proofs.Common.{if◌then◌else◌, sym, ap, ◌∙◌, arith, inl, inr, ◌⊎◌}
-use Rattle.std.proofs.Math.Arith.{mod-mul}
-use Rattle.std.proofs.Math.Nat.{add-mul-div_left, add-mul-mod_self_left, mod-eq_of_lt, div-eq_of_lt, one-le-pow}
-use Rattle.std.proofs.Math.Nat.{pow-le-pow_right}
-use Rattle.std.proofs.lemmas.Bool.{cases_lt}
-use Rattle.std.proofs.lemmas.Int.{ints}
-use Rattle.std.proofs.lemmas.Nat.{pow-add}
+use Rattle.px_num.proofs.Basics.{◌≡◌, ℕ, ◌+◌, ◌-◌, ◌*◌, ◌/◌, ◌%◌, ◌^◌, ◌<◌, ◌≤◌, ◌==◌, ℤ, pos, ◌+ℤ◌, ◌*ℤ◌}
+use Rattle.px_num.proofs.Basics.{if◌then◌else◌, ap, ◌∙◌, arith, inl, inr, ◌⊎◌, mod-mul, mod-eq_of_lt, one-le-pow}
+use Rattle.px_num.proofs.Basics.{pow-le-pow_right, cases_lt, ints, pow-add}
+use Rattle.std.proofs.Math.Nat.{add-mul-div_left, add-mul-mod_self_left, div-eq_of_lt}
 use Rattle.px_num.specs.Bits.{nat_bit}
 use Rattle.px_num.specs.Forms.{value_at}
 use Rattle.px_num.specs.declared.linear.Linear.{Linear}
 use Rattle.px_lanes.specs.Lanes.{offset}
 
 pub offset_zero : (form : Linear) (ny : ℕ) → offset form ny 0 ≡ pos 0
-offset_zero form ny =
-    let some : 1 ≤ 2 ^ ny = one-le-pow ny 2 (omega arith) in
-    let q : 0 / 2 ^ ny ≡ 0 = div-eq_of_lt (omega arith) in
-    let r : 0 % 2 ^ ny ≡ 0 = mod-eq_of_lt (omega arith) in
-    rw (q, r) (nothing form.a form.b)
-  where
-    nothing : (a b : ℤ) → (a *ℤ pos 0) +ℤ (b *ℤ pos 0) ≡ pos 0
-    nothing a b = omega (arith, ints)
+offset_zero form ny = grind (arith, one-le-pow, div-eq_of_lt, mod-eq_of_lt)
 
 -- adding r and K, of which K alone or their columns are whole
 pub record Splits (p r k : ℕ) : Type 0 where
@@ -28,14 +17,7 @@ pub record Splits (p r k : ℕ) : Type 0 where
   pub row : (r + k) % p ≡ r % p + k % p
 
 splits_below : (p r k : ℕ) → r < k → k + k ≤ p → Splits p r k
-splits_below p r k small fits =
-    let a : (r + k) / p ≡ 0 = div-eq_of_lt (omega arith) in
-    let b : r / p ≡ 0 = div-eq_of_lt (omega arith) in
-    let c : k / p ≡ 0 = div-eq_of_lt (omega arith) in
-    let d : (r + k) % p ≡ r + k = mod-eq_of_lt (omega arith) in
-    let e : r % p ≡ r = mod-eq_of_lt (omega arith) in
-    let f : k % p ≡ k = mod-eq_of_lt (omega arith) in
-    record { column = omega arith; row = omega arith }
+splits_below p r k small fits = grind (arith, div-eq_of_lt, mod-eq_of_lt)
 
 pub splits_above : (p r q : ℕ) → 0 < p → Splits p r (p * q)
 splits_above p r q some =
@@ -43,8 +25,6 @@ splits_above p r q some =
     let b : (r + p * q) % p ≡ r % p = add-mul-mod_self_left r p q in
     let z : (0 + p * q) / p ≡ 0 / p + q = add-mul-div_left 0 q some in
     let y : (0 + p * q) % p ≡ 0 % p = add-mul-mod_self_left 0 p q in
-    let c : 0 / p ≡ 0 = div-eq_of_lt (omega arith) in
-    let d : 0 % p ≡ 0 = mod-eq_of_lt (omega arith) in
     let e : 0 + p * q ≡ p * q = omega arith in
     let z2 : p * q / p ≡ 0 / p + q = rw e at z in
     let y2 : p * q % p ≡ 0 % p = rw e at y in
@@ -68,10 +48,7 @@ sum_of_offsets a b c d e f x y columns rows = rw (columns, rows) (omega (arith, 
 
 offset_more : (form : Linear) (ny r k : ℕ) → r < 2 ^ k → offset form ny r +ℤ offset form ny (2 ^ k)
     ≡ offset form ny (r + 2 ^ k)
-offset_more form ny r k small =
-    let s = splits ny r k small in
-    sum_of_offsets form.a form.b (r / 2 ^ ny) (r % 2 ^ ny) (2 ^ k / 2 ^ ny) (2 ^ k % 2 ^ ny) ((r + 2 ^ k) / 2 ^ ny)
-    ((r + 2 ^ k) % 2 ^ ny) s.column s.row
+offset_more form ny r k small = grind (arith, splits, sum_of_offsets)
 
 with_bit : (form : Linear) (ny r k n : ℕ) → r < 2 ^ k → n < 2
     → offset form ny r +ℤ (if n == 1 then offset form ny (2 ^ k) else pos 0) ≡ offset form ny (n * 2 ^ k + r)
@@ -84,10 +61,7 @@ with_bit form ny r k n small bit = elim (zero_or_one n bit) [
     zero_or_one n below = grind arith
 
     plus_nothing : (form : Linear) (ny r s : ℕ) → s ≡ r → offset form ny r +ℤ pos 0 ≡ offset form ny s
-    plus_nothing form ny r s e = rw e (nothing_more (offset form ny r))
-      where
-        nothing_more : (z : ℤ) → z +ℤ pos 0 ≡ z
-        nothing_more z = omega (arith, ints)
+    plus_nothing form ny r s e = grind arith
 
 -- one bit more of the lane's number
 pub offset_step : (form : Linear) (ny j k : ℕ)
@@ -97,8 +71,7 @@ offset_step form ny j k =
     let some : 1 ≤ 2 ^ k = one-le-pow k 2 (omega arith) in
     let double : 2 ^ (k + 1) ≡ 2 * 2 ^ k = omega (arith, pow-add 2 k 1) in
     let cut : j % (2 * 2 ^ k) ≡ j / 2 ^ k % 2 * 2 ^ k + j % 2 ^ k = mod-mul j (omega arith) (omega arith) in
-    with_bit form ny (j % 2 ^ k) k (j / 2 ^ k % 2) (omega arith) (omega arith)
-    ∙ ap (offset form ny) (sym cut ∙ ap (λ n. j % n) (sym double))
+    grind (arith, with_bit)
 
 -- in a column that has whole words
 pub offset_in_column : (form : Linear) (ny j : ℕ) → 6 ≤ ny → j < 64 → offset form ny j ≡ form.b *ℤ pos j
@@ -142,35 +115,20 @@ word_splits ny w j small = elim (cases_lt 6 ny) [
         let cut : w % q + q * (w / q) ≡ w = omega arith in
         let whole : j + 64 * w ≡ (j + 64 * (w % q)) + 64 * q * (w / q) = omega (arith, ap (λ n. 64 * n) cut) in
         let alone : 64 * w ≡ 64 * (w % q) + 64 * q * (w / q) = omega (arith, ap (λ n. 64 * n) cut) in
-        let rest : w % q < q = omega arith in
         let a : (j + 64 * w) / (64 * q) ≡ (j + 64 * (w % q)) / (64 * q) + w / q =
         ap (λ n. n / (64 * q)) whole ∙ add-mul-div_left (j + 64 * (w % q)) (w / q) (omega arith) in
-        let b : (j + 64 * w) % (64 * q) ≡ (j + 64 * (w % q)) % (64 * q) =
-        ap (λ n. n % (64 * q)) whole ∙ add-mul-mod_self_left (j + 64 * (w % q)) (64 * q) (w / q) in
         let c : 64 * w / (64 * q) ≡ 64 * (w % q) / (64 * q) + w / q =
         ap (λ n. n / (64 * q)) alone ∙ add-mul-div_left (64 * (w % q)) (w / q) (omega arith) in
-        let d : 64 * w % (64 * q) ≡ 64 * (w % q) % (64 * q) =
-        ap (λ n. n % (64 * q)) alone ∙ add-mul-mod_self_left (64 * (w % q)) (64 * q) (w / q) in
         let small_sum : j + 64 * (w % q) < 64 * q = omega arith in
         let e1 : (j + 64 * (w % q)) / (64 * q) ≡ 0 = div-eq_of_lt small_sum in
-        let e2 : (j + 64 * (w % q)) % (64 * q) ≡ j + 64 * (w % q) = mod-eq_of_lt small_sum in
         let smaller : 64 * (w % q) < 64 * q = omega arith in
         let e3 : 64 * (w % q) / (64 * q) ≡ 0 = div-eq_of_lt smaller in
-        let e4 : 64 * (w % q) % (64 * q) ≡ 64 * (w % q) = mod-eq_of_lt smaller in
         let j_small : j < 64 * q = omega arith in
         let e5 : j / (64 * q) ≡ 0 = div-eq_of_lt j_small in
-        let e6 : j % (64 * q) ≡ j = mod-eq_of_lt j_small in
-        record {
-          column = omega (arith, a, c, e1, e3, e5);
-          row = omega (arith, b, d, e2, e4, e6);
-        }
+        grind arith
 
-pub value_in_word : (form : Linear) (ny w j : ℕ) → j < 64
-    → value_at form ((64 * w + j) / 2 ^ ny) ((64 * w + j) % 2 ^ ny)
-    ≡ offset form ny j +ℤ value_at form (64 * w / 2 ^ ny) (64 * w % 2 ^ ny)
+pub value_in_word : (form : Linear) (ny w j : ℕ) → j < 64 → value_at form ((64 * w + j) / 2 ^ ny)
+    ((64 * w + j) % 2 ^ ny) ≡ offset form ny j +ℤ value_at form (64 * w / 2 ^ ny) (64 * w % 2 ^ ny)
 value_in_word form ny w j small =
     let s = word_splits ny w j small in
-    let turn : 64 * w + j ≡ j + 64 * w = omega arith in
-    sum_of_values form.a form.b form.c (j / 2 ^ ny) (j % 2 ^ ny) (64 * w / 2 ^ ny) (64 * w % 2 ^ ny)
-    ((64 * w + j) / 2 ^ ny) ((64 * w + j) % 2 ^ ny) (ap (λ n. n / 2 ^ ny) turn ∙ s.column)
-    (ap (λ n. n % 2 ^ ny) turn ∙ s.row)
+    grind (arith, sum_of_values)

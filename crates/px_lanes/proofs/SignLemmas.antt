@@ -1,22 +1,14 @@
 -- Where a value that grows by a slope from pixel to pixel has another sign than at the first.
-use Rattle.std.proofs.Common.{◌≡◌, ℕ, zero, suc, ◌+◌, ◌*◌, ◌/◌, ◌<◌, ◌≤◌, ℤ, pos, negsuc, ◌+ℤ◌, ◌-ℤ◌, ◌*ℤ◌}
-use Rattle.std.proofs.Common.{◌≤ℤ◌, ◌<ℤ◌, nat_abs}
-use Rattle.std.proofs.Common.{nat_lt, not, arith, inl, inr}
-use Rattle.std.proofs.lemmas.Bool.{cases_lt}
-use Rattle.std.proofs.lemmas.Bool.Decides.{nat_tests}
-use Rattle.std.proofs.lemmas.Int.{ints}
+use Rattle.px_num.proofs.Basics.{common_steps, ◌≡◌, ℕ, zero, suc, ◌+◌, ◌/◌, ◌<◌, ℤ, pos, negsuc, ◌+ℤ◌, ◌-ℤ◌, ◌*ℤ◌, ◌≤ℤ◌}
+use Rattle.px_num.proofs.Basics.{◌<ℤ◌, nat_lt, not, arith, cases_lt, nat_tests, ints, is_negative, lt_z, *ℤ-zero}
+use Rattle.std.proofs.Common.{nat_abs}
 use Rattle.std.proofs.lemmas.Nat.{div_below, le-div}
-use Rattle.std.specs.Int.{is_negative}
-use Rattle.std.specs.Int.Signed.{le_z, lt_z}
-use Rattle.std.proofs.Math.IntN.{*ℤ-zero}
+use Rattle.std.specs.Int.Signed.{le_z}
 use Rattle.px_num.proofs.FormLaws.{*ℤ-suc}
 
 -- as many multiples of a number are at most so great
 multiples : (s j most : ℕ) → 0 < s → nat_lt j (most / s + 1) ≡ le_z (pos s *ℤ pos j) (pos most)
-multiples s j most some = elim (cases_lt most (s * j)) [
-  | inl past ↦ let less : most / s < j = div_below most s j some (omega (arith, past)) in grind (arith, nat_tests)
-  | inr within ↦ let fits : j ≤ most / s = le-div j most s some (omega (arith, within)) in grind (arith, nat_tests)
-]
+multiples s j most some = grind (arith, cases_lt, div_below, le-div)
 
 pub steps_are : (most slope : ℤ) (j : ℕ) → pos 0 ≤ℤ most → pos 0 <ℤ slope
     → nat_lt j (nat_abs most / nat_abs slope + 1) ≡ le_z (slope *ℤ pos j) most
@@ -34,9 +26,7 @@ fallen slope (suc j) = omega (arith, ints, fallen slope j, *ℤ-suc (pos 0 -ℤ 
 
 pub after : (slope base : ℤ) (j : ℕ) → not (le_z ((pos 0 -ℤ slope) *ℤ pos j) base)
     ≡ is_negative ((slope *ℤ pos j) +ℤ base)
-after slope base j = rw (fallen slope j) (turned (slope *ℤ pos j)) where
-  turned : (step : ℤ) → not (le_z (pos 0 -ℤ step) base) ≡ is_negative (step +ℤ base)
-  turned step = grind (arith, ints)
+after slope base j = grind (arith, nat_tests, common_steps, fallen)
 
 pub of_sum : (offset base sum : ℤ) → sum ≡ offset +ℤ base → lt_z sum (pos 0) ≡ is_negative (offset +ℤ base)
 of_sum offset base sum is = rw is (grind (arith, ints))

@@ -1,19 +1,14 @@
 -- A line that is not refused writes an operation that the pixels can carry out.
-use Rattle.std.proofs.Common.{◌≡◌, ℕ, ℤ, pos, ◌+◌, ◌-◌, ◌^◌, ◌<◌, ◌≤◌, ◌≤ℤ◌, All, List, [], ◌∷◌, ◌++◌, length}
-use Rattle.std.proofs.Common.{Option, Some, None, IfOk, IfSome, Result, Ok, Err, refl, sym, subst, arith}
-use Rattle.std.proofs.Common.{append_assoc, append-nil}
-use Rattle.std.specs.Option.{option_or}
-use Rattle.std.proofs.lemmas.Int.{ints}
-use Rattle.std.proofs.lemmas.List.Elements.{All-nil, All-push}
-use Rattle.std.proofs.lemmas.List.Sums.{fold-append}
+use Rattle.px_num.proofs.Basics.{◌≡◌, ℕ, ℤ, pos, ◌+◌, ◌-◌, ◌^◌, ◌<◌, ◌≤◌, ◌≤ℤ◌, All, List, [], ◌∷◌, ◌++◌, length}
+use Rattle.px_num.proofs.Basics.{Option, Some, None, IfOk, IfSome, Result, Ok, Err, sym, subst, arith, append_assoc}
+use Rattle.px_num.proofs.Basics.{append-nil, option_or, ints, All-nil, All-push, fold-append}
 use lib.IntN.{negsuc}
 use Rattle.px_num.proofs.BitLaws.{pow_above}
 use Rattle.px_num.proofs.TruthLaws.{none_first, none_second}
 use Rattle.px_num.specs.Forms.{IsInTreeRange}
 use Rattle.px_macro.specs.Macros.{AreApart, AreOfOneLength, IsField, IsLawful}
 use Rattle.px_macro.specs.declared.operation.Macro.{Macro}
-use Rattle.px_macro.specs.declared.operation.Macro.TheVariants as m
-use Rattle.px_show.specs.Judged.{first_bad, past, size_past}
+use Rattle.px_show.specs.Judged.{first_bad, past}
 use Rattle.px_text.specs.Text.{Words, worded}
 use Rattle.px_show.specs.declared.fault.Cause.{Cause}
 use Rattle.px_show.proofs.JudgedLaws.{none_here, not_memory, not_refused}
@@ -28,17 +23,13 @@ use Rattle.px_listing.specs.Reading.{ListingDraft, ListFault, bad_by, bad_in, ex
 use Rattle.px_listing.specs.Reading.{listing_fault_behind, listing_of, listing_refusal_of, listing_taken, unwritten}
 use Rattle.px_listing.specs.Reading.{with_operation}
 use Rattle.px_listing.specs.declared.kind.Kind.{Kind}
+use Rattle.px_listing.proofs.LimitLemmas.{within}
+use Rattle.px_macro.specs.declared.operation.Macro.TheVariants as m
 use Rattle.px_listing.specs.declared.kind.Kind.TheVariants as n
 use Rattle.px_listing.specs.declared.limit.ListKind.TheVariants as kind
-use Rattle.px_listing.proofs.LimitLemmas.{within}
 
 form_in_range : (a b c : ℤ) → form_past a b c ≡ None → IsInTreeRange (plane_of a b c)
-form_in_range a b c e =
-    let two = none_first _ (size_past kind.Coefficient (2 ^ 38) c) e in record {
-      a = within kind.Coefficient _ _ a (none_first _ (size_past kind.Coefficient (2 ^ 27) b) two);
-      b = within kind.Coefficient _ _ b (none_second (size_past kind.Coefficient (2 ^ 27) a) _ two);
-      c = within kind.Coefficient _ _ c (none_second _ (size_past kind.Coefficient (2 ^ 38) c) e);
-    }
+form_in_range a b c e = grind (arith, none_first, within, none_second)
 
 -- so many bits from a place on stand within the memory
 ends_within : (bits : ℕ) (at len : ℤ) → pos 0 ≤ℤ len → end_past bits at len ≡ None → size_of at + size_of len ≤ bits
@@ -47,34 +38,14 @@ ends_within bits (pos n) (negsuc k) some e = absurd (omega (arith, ints))
 ends_within bits (negsuc n) len some e = cc
 
 field_is : (bits : ℕ) (at len : ℤ) → field_past bits at len ≡ None → IsField (field_of at len) bits
-field_is bits at (pos n) e =
-    let long = within kind.Length (pos 1) (pos 40) (pos n) (none_first _ (end_past bits at (pos n)) e) in record {
-      from_one = omega (arith, ints, long.0);
-      to_forty = omega (arith, ints, long.1);
-      within = ends_within bits at (pos n) (omega (arith, ints))
-          (none_second (past kind.Length (pos 1) (pos 40) (pos n)) _ e);
-    }
-field_is bits at (negsuc n) e =
-    let long = within kind.Length (pos 1) (pos 40) (negsuc n) (none_first _ (end_past bits at (negsuc n)) e) in
-    absurd (omega (arith, ints, long.0))
+field_is bits at (pos n) e = grind (arith, within, none_first, ends_within, none_second)
+field_is bits at (negsuc n) e = grind (arith, within, none_first)
 
 second_is : (bits : ℕ) (at len to : ℤ) → fields_past bits at len to ≡ None → IsField (field_of to len) bits
-second_is bits at len to e =
-    let first = field_is bits at len (none_first _ (end_past bits to len) e) in
-    let some : pos 0 ≤ℤ len = not_negative len first.from_one in record {
-      from_one = first.from_one;
-      to_forty = first.to_forty;
-      within = ends_within bits to len some (none_second (field_past bits at len) _ e);
-    }
-  where
-    not_negative : (z : ℤ) → 1 ≤ size_of z → pos 0 ≤ℤ z
-    not_negative (pos n) some = omega (arith, ints)
-    not_negative (negsuc n) some = absurd (omega arith)
+second_is bits at len to e = grind (arith, field_is, none_first, within, ends_within, none_second)
 
 number_fits : (len number : ℤ) → value_past len number ≡ None → size_of number < 2 ^ size_of len
-number_fits len (pos n) e =
-    let few = within kind.Value (pos 0) (pos (2 ^ size_of len - 1)) (pos n) e in
-    omega (arith, ints, few.1, pow_above (size_of len))
+number_fits len (pos n) e = grind (arith, within, pow_above)
 number_fits len (negsuc n) e =
     let few = within kind.Value (pos 0) (pos (2 ^ size_of len - 1)) (negsuc n) e in absurd (omega (arith, ints, few.0))
 
@@ -87,10 +58,7 @@ lie_apart (pos n) (pos l) (negsuc t) at_is len_is to_is e = absurd (omega (arith
 
 of_one_length : (bits : ℕ) (at len to : ℤ) → fields_past bits at len to ≡ None
     → AreOfOneLength (field_of at len) (field_of to len) bits
-of_one_length bits at len to e = record {
-  fields = (field_is bits at len (none_first _ (end_past bits to len) e), second_is bits at len to e);
-  length = refl;
-}
+of_one_length bits at len to e = grind (arith, field_is, none_first, second_is)
 
 placed : (bits : ℕ) (at len : ℤ) → end_past bits at len ≡ None → pos 0 ≤ℤ at
 placed bits (pos n) len e = omega (arith, ints)
@@ -101,21 +69,11 @@ place_is bits at none = let ends = ends_within bits at (pos 1) (omega (arith, in
 
 copies : (bits : ℕ) (at len to : ℤ) → option_or (fields_past bits at len to) (overlap at len to) ≡ None
     → IsLawful (m.Copy (field_of at len) (field_of to len)) bits
-copies bits at len to e =
-    let fields = none_first _ (overlap at len to) e in
-    let first = none_first _ (end_past bits to len) fields in
-    let long = within kind.Length (pos 1) (pos 40) len (none_first _ (end_past bits at len) first) in
-    let apart = lie_apart at len to (placed bits at len (none_second (past kind.Length (pos 1) (pos 40) len) _ first))
-    (omega (arith, ints, long.0)) (placed bits to len (none_second (field_past bits at len) _ fields))
-    (none_second (fields_past bits at len to) _ e) in
-    (of_one_length bits at len to fields, apart)
+copies bits at len to e = grind (arith, none_first, within, lie_apart, placed, none_second, of_one_length)
 
 linear_is : (bits : ℕ) (a b c at len : ℤ) → option_or (form_past a b c) (field_past bits at len) ≡ None
     → IsInTreeRange (plane_of a b c) × IsField (field_of at len) bits
-linear_is bits a b c at len none = (
-  form_in_range a b c (none_first _ (field_past bits at len) none),
-  field_is bits at len (none_second (form_past a b c) _ none),
-)
+linear_is bits a b c at len none = grind (arith, form_in_range, none_first, field_is, none_second)
 
 bit_is : (bits : ℕ) (at v : ℤ) → option_or (end_past bits at (pos 1)) (past kind.Value (pos 0) (pos 1) v) ≡ None
     → size_of at < bits
@@ -123,10 +81,7 @@ bit_is bits at v none = place_is bits at (none_first _ (past kind.Value (pos 0) 
 
 constant_is : (bits : ℕ) (at len number : ℤ) → option_or (field_past bits at len) (value_past len number) ≡ None
     → IsField (field_of at len) bits × (size_of number < 2 ^ size_of len)
-constant_is bits at len number none = (
-  field_is bits at len (none_first _ (value_past len number) none),
-  number_fits len number (none_second (field_past bits at len) _ none),
-)
+constant_is bits at len number none = grind (arith, field_is, none_first, number_fits, none_second)
 
 -- the operation that numbers write which pass no limit; another count of numbers writes none
 pub kind_lawful : (bits : ℕ) (kind : Kind) (zs : List ℤ) → shape_past bits (shape_of kind) zs ≡ None

@@ -1,6 +1,5 @@
 -- What a number that passes no limit is.
-use Rattle.std.proofs.Common.{◌≡◌, ℤ, ◌≤ℤ◌, None, arith}
-use Rattle.std.proofs.lemmas.Int.{ints}
+use Rattle.px_num.proofs.Basics.{◌≡◌, ℤ, ◌≤ℤ◌, None, arith, ints}
 use Rattle.px_show.specs.Judged.{past}
 
 pub within : {K : Type 0} (kind : K) (low high z : ℤ) → past kind low high z ≡ None → (low ≤ℤ z) × (z ≤ℤ high)

@@ -1,22 +1,16 @@
 -- What is read of the canonical text of a listing.
-use Rattle.std.proofs.Common.{◌≡◌, ℕ, ℤ, pos, ◌+◌, ◌-◌, ◌^◌, ◌<◌, ◌≤◌, ◌≤ℤ◌, List, [], ◌∷◌, Bool, ◌==◌}
-use Rattle.std.proofs.Common.{true, false, Some, None, Ok, Err, map, length, if◌then◌else◌, not, ◌∙◌}
-use Rattle.std.proofs.Common.{inl, inr, ◌⊎◌, refl, ap, arith}
-use Rattle.std.proofs.Math.Pow.{pow_mono}
-use Rattle.std.proofs.lemmas.Int.{ints}
-use Rattle.std.proofs.lemmas.List.{length-map}
+use Rattle.px_num.proofs.Basics.{◌≡◌, ℕ, ℤ, pos, ◌+◌, ◌^◌, ◌<◌, ◌≤◌, ◌≤ℤ◌, List, [], ◌∷◌, Bool, true, false, Some, None}
+use Rattle.px_num.proofs.Basics.{Ok, Err, map, length, if◌then◌else◌, not, ◌∙◌, inl, inr, ◌⊎◌, refl, ap, arith}
+use Rattle.px_num.proofs.Basics.{pow_mono, ints, length-map, signed_decimal}
 use Rattle.std.specs.Bool.{⊤}
-use Rattle.std.specs.Fmt.{signed_decimal}
 use Rattle.px_macro.specs.Macros.{IsField, IsLawful}
 use Rattle.px_macro.specs.declared.field.Field.{Field}
 use Rattle.px_macro.specs.declared.operation.Macro.{Macro}
-use Rattle.px_macro.specs.declared.operation.Macro.TheVariants as m
 use Rattle.px_num.specs.Forms.{IsInTreeRange, IsWithin}
 use Rattle.px_num.specs.declared.linear.Linear.{Linear}
 use Rattle.px_num.proofs.TruthLaws.{same_true}
 use Rattle.px_listing.specs.Lines.{are_numbers, numbers_of, operation, operation_form, timely_form}
 use Rattle.px_show.specs.Judged.{past}
-use Rattle.px_show.specs.declared.fault.Cause.TheVariants as c
 use Rattle.px_text.specs.Text.{Words}
 use Rattle.px_text.specs.Written.{are_plain, is_plain}
 use Rattle.px_text.proofs.DecimalLaws.{signed_read}
@@ -26,15 +20,17 @@ use Rattle.px_listing.specs.Keywords.{listing_keyword_of}
 use Rattle.px_listing.specs.Kinds.{bit_number, is_set, kind_of, number_count, operands_of, operation_with, shape_of}
 use Rattle.px_listing.specs.Kinds.{word_of}
 use Rattle.px_listing.specs.Limits.{end_past, field_past, form_past, overlap, shape_past}
-use Rattle.px_listing.specs.declared.keyword.Keyword.TheVariants as k
 use Rattle.px_listing.specs.declared.kind.Kind.{Kind}
-use Rattle.px_listing.specs.declared.kind.Kind.TheVariants as n
 use Rattle.px_listing.specs.declared.kind.Shape.{Shape}
+use Rattle.px_listing.specs.declared.limit.ListKind.{ListKind}
+use lib.Signed.{mag}
+use Rattle.px_macro.specs.declared.operation.Macro.TheVariants as m
+use Rattle.px_show.specs.declared.fault.Cause.TheVariants as c
+use Rattle.px_listing.specs.declared.keyword.Keyword.TheVariants as k
+use Rattle.px_listing.specs.declared.kind.Kind.TheVariants as n
 use Rattle.px_listing.specs.declared.kind.Shape.TheVariants as s
 use Rattle.px_listing.specs.declared.keyword.Due.TheVariants as d
-use Rattle.px_listing.specs.declared.limit.ListKind.{ListKind}
 use Rattle.px_listing.specs.declared.limit.ListKind.TheVariants as kind
-use lib.Signed.{mag}
 
 -- a number within its range
 pub past_none : (k : ListKind) (low high z : ℤ) → low ≤ℤ z → z ≤ℤ high → past k low high z ≡ None
@@ -44,22 +40,13 @@ pub small_place : (n : ℕ) → n < 10 ^ 18 → mag (pos n) < 10 ^ 18
 small_place n few = omega (arith, ints)
 
 form_none : (a b c : ℤ) → IsWithin (2 ^ 27) a → IsWithin (2 ^ 27) b → IsWithin (2 ^ 38) c → form_past a b c ≡ None
-form_none a b c in_a in_b in_c =
-    rw (
-      past_none kind.Coefficient _ _ a in_a.0 in_a.1,
-      past_none kind.Coefficient _ _ b in_b.0 in_b.1,
-      past_none kind.Coefficient _ _ c in_c.0 in_c.1,
-    ) refl
+form_none a b c in_a in_b in_c = grind (arith, past_none)
 
 end_none : (bits at len : ℕ) → at + len ≤ bits → end_past bits (pos at) (pos len) ≡ None
 end_none bits at len within = grind (arith, ints)
 
 field_none : (bits at len : ℕ) → 1 ≤ len → len ≤ 40 → at + len ≤ bits → field_past bits (pos at) (pos len) ≡ None
-field_none bits at len some few within =
-    rw (
-      past_none kind.Length (pos 1) (pos 40) (pos len) (omega (arith, ints)) (omega (arith, ints)),
-      end_none bits at len within,
-    ) refl
+field_none bits at len some few within = grind (arith, past_none, end_none)
 
 bit_none : (v : Bool) → past kind.Value (pos 0) (pos 1) (bit_number v) ≡ None
 bit_none true = refl
@@ -106,112 +93,29 @@ record Fits (bits : ℕ) (shape : Shape) (zs : List ℤ) : Type 0 where
 
 module _ (bits : ℕ) (most : bits ≤ 256) where
   form_fits : (form : Linear) → IsInTreeRange form → Fits bits s.Form (form.a ∷ form.b ∷ form.c ∷ [])
-  form_fits form range = record {
-    count = refl;
-    short = (
-      small_size (2 ^ 27) form.a (omega arith) range.a,
-      (
-        small_size (2 ^ 27) form.b (omega arith) range.b,
-        (
-          small_size (2 ^ 38) form.c (omega arith) range.c,
-          tt,
-        ),
-      ),
-    );
-    good = form_none form.a form.b form.c range.a range.b range.c;
-  }
+  form_fits form range = grind (arith, small_size, form_none)
 
   place_fits : (at : ℕ) → at < bits → Fits bits s.Place (pos at ∷ [])
-  place_fits at within = record {
-    count = refl;
-    short = (small_place at (omega (arith, within, most)), tt);
-    good = end_none bits at 1 (omega (arith, within));
-  }
+  place_fits at within = grind (arith, small_place, end_none)
 
   bit_fits : (at : ℕ) (v : Bool) → at < bits → Fits bits s.Bit (pos at ∷ bit_number v ∷ [])
-  bit_fits at v within = record {
-    count = refl;
-    short = (small_place at (omega (arith, within, most)), (bit_small v, tt));
-    good = rw (end_none bits at 1 (omega (arith, within)), bit_none v) refl;
-  }
+  bit_fits at v within = grind (arith, small_place, bit_small, end_none, bit_none)
 
   linear_fits : (form : Linear) (f : Field) → IsInTreeRange form → IsField f bits
       → Fits bits s.FormAndField (form.a ∷ form.b ∷ form.c ∷ pos f.at ∷ pos f.len ∷ [])
-  linear_fits form f range is = record {
-    count = refl;
-    short = (
-      small_size (2 ^ 27) form.a (omega arith) range.a,
-      (
-        small_size (2 ^ 27) form.b (omega arith) range.b,
-        (
-          small_size (2 ^ 38) form.c (omega arith) range.c,
-          (
-            small_place f.at (omega (arith, is.within, most)),
-            (
-              small_place f.len (omega (arith, is.to_forty)),
-              tt,
-            ),
-          ),
-        ),
-      ),
-    );
-    good = rw (form_none form.a form.b form.c range.a range.b range.c)
-        (field_none bits f.at f.len is.from_one is.to_forty is.within);
-  }
+  linear_fits form f range is = grind (arith, small_size, small_place, form_none, field_none)
 
   constant_fits : (f : Field) (number : ℕ) → IsField f bits → number < 2 ^ f.len
       → Fits bits s.Constant (pos f.at ∷ pos f.len ∷ pos number ∷ [])
-  constant_fits f number is below =
-      let top : 2 ^ f.len ≤ 2 ^ 40 = pow_mono is.to_forty in
-      record {
-        count = refl;
-        short = (
-          small_place f.at (omega (arith, is.within, most)),
-          (
-            small_place f.len (omega (arith, is.to_forty)),
-            (
-              small_place number (omega (arith, below, top)),
-              tt,
-            ),
-          ),
-        );
-        good = rw (field_none bits f.at f.len is.from_one is.to_forty is.within)
-            (past_none kind.Value (pos 0) (pos (2 ^ f.len - 1)) (pos number) (omega (arith, ints))
-            (omega (arith, ints, below)));
-      }
+  constant_fits f number is below = grind (arith, pow_mono, small_place, field_none, past_none)
 
   fields_fit : (f g : Field) → IsField f bits → IsField g bits → f.len ≡ g.len
       → Fits bits s.Fields (pos f.at ∷ pos f.len ∷ pos g.at ∷ [])
-  fields_fit f g first second same = record {
-    count = refl;
-    short = (
-      small_place f.at (omega (arith, first.within, most)),
-      (
-        small_place f.len (omega (arith, first.to_forty)),
-        (
-          small_place g.at (omega (arith, second.within, most)),
-          tt,
-        ),
-      ),
-    );
-    good = rw (
-      field_none bits f.at f.len first.from_one first.to_forty first.within,
-      end_none bits g.at f.len (omega (arith, second.within, same)),
-    ) refl;
-  }
+  fields_fit f g first second same = grind (arith, small_place, field_none, end_none)
 
   apart_fit : (f g : Field) → IsField f bits → IsField g bits → f.len ≡ g.len
       → (f.at + f.len ≤ g.at) ⊎ (g.at + f.len ≤ f.at) → Fits bits s.FieldsApart (pos f.at ∷ pos f.len ∷ pos g.at ∷ [])
-  apart_fit f g first second same apart =
-      let both = fields_fit f g first second same in
-      record {
-        count = refl;
-        short = both.short;
-        good = rw (
-          field_none bits f.at f.len first.from_one first.to_forty first.within,
-          end_none bits g.at f.len (omega (arith, second.within, same)),
-        ) (apart_none f.at f.len g.at apart);
-      }
+  apart_fit f g first second same apart = grind (arith, fields_fit, field_none, end_none, apart_none)
 
   fits : (op : Macro) → IsLawful op bits → Fits bits (shape_of (kind_of op)) (operands_of op)
   fits m.All lawful = record { count = refl; short = tt; good = refl }
@@ -223,9 +127,7 @@ module _ (bits : ℕ) (most : bits ≤ 256) where
   fits (m.KeepAtMost form f) lawful = linear_fits form f lawful.0 lawful.1
   fits (m.AddLinear form f) lawful = linear_fits form f lawful.0 lawful.1
   fits (m.LoadConst f number) lawful = constant_fits f number lawful.0 lawful.1
-  fits (m.Copy f g) lawful =
-      let apart : (f.at + f.len ≤ g.at) ⊎ (g.at + f.len ≤ f.at) = rw lawful.0.length (rw lawful.0.length at lawful.1) in
-      apart_fit f g lawful.0.fields.0 lawful.0.fields.1 lawful.0.length apart
+  fits (m.Copy f g) lawful = grind (arith, apart_fit)
   fits (m.KeepLess f g) lawful = fields_fit f g lawful.fields.0 lawful.fields.1 lawful.length
 
   -- the numbers of an operation write it
@@ -293,13 +195,4 @@ op_read bits most op lawful =
     let ws = map signed_decimal zs in
     let fit = fits bits most op lawful in
     let count = same_true (length ws) (number_count (shape_of kind)) (length-map zs signed_decimal ∙ fit.count) in
-    record {
-      reads = ap (λ keyword. timely_form d.Operation keyword ws) (word_is kind)
-          ∙ counted_by (length ws == number_count (shape_of kind)) (are_numbers ws) kind ws count
-          (are_numeric zs fit.short)
-          ∙ ap (λ ns. Ok (operation kind ns)) (are_read zs fit.short);
-      good = fit.good;
-      writes = written bits most op lawful;
-      word = plain_word kind;
-      plain = plain_numbers zs fit.short;
-    }
+    grind (arith, word_is, counted_by, are_numeric, are_read, written, plain_word, plain_numbers)

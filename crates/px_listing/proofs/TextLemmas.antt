@@ -1,33 +1,28 @@
 -- The lines and the words of the canonical text of a listing, and what is read of them.
-use Prim.Native.Nat.{suc}
-use Rattle.std.proofs.Common.{◌≡◌, ℕ, pos, ◌+◌, ◌≤◌, All, List, [], ◌∷◌, ◌++◌, true}
-use Rattle.std.proofs.Common.{None, Ok, length, map, codes, refl, ap, sym, ◌∙◌, arith, append_assoc}
-use Rattle.std.proofs.lemmas.Int.{ints}
+use Rattle.px_num.proofs.Basics.{suc, ◌≡◌, ℕ, pos, ◌≤◌, All, List, [], ◌∷◌, ◌++◌, true, None, Ok, map, codes, refl, ap}
+use Rattle.px_num.proofs.Basics.{sym, ◌∙◌, arith, append_assoc, ints, list_all-append, signed_decimal, flat_map}
+use Rattle.px_num.proofs.Basics.{list_all}
 use Rattle.std.proofs.lemmas.List.{append-nil}
-use Rattle.std.proofs.lemmas.List.Folds.{list_all-append}
-use Rattle.std.specs.Fmt.{signed_decimal}
-use Rattle.std.specs.List.{flat_map, list_all}
 use Rattle.px_macro.specs.Macros.{IsLawful}
 use Rattle.px_macro.specs.declared.operation.Macro.{Macro}
-use Rattle.px_show.specs.Judged.{at_line, first_bad}
-use Rattle.px_text.specs.Text.{Words, is_some_byte, words_of, worded}
-use Rattle.px_text.specs.Written.{are_plain, fed, is_no_feed, is_plain, is_plain_byte, spaced}
+use Rattle.px_show.specs.Judged.{first_bad}
+use Rattle.px_text.specs.Text.{Words, words_of, worded}
+use Rattle.px_text.specs.Written.{are_plain, fed, is_no_feed, is_plain, spaced}
 use Rattle.px_text.proofs.DecimalLaws.{signed_read}
 use Rattle.px_text.proofs.PlainLaws.{both, plain_fed, signed_plain, spaced_fed}
 use Rattle.px_text.proofs.SpacedLaws.{lines_read, words_read}
 use Rattle.px_tree.specs.Nodes.{IsGrid}
 use Rattle.px_listing.specs.Limits.{grid_past}
-use Rattle.px_listing.specs.Lines.{closing, grid, grid_form, number_line, opening}
+use Rattle.px_listing.specs.Lines.{grid, grid_form, number_line, opening}
 use Rattle.px_listing.specs.Listings.{ListingView, canonical_listing, end_line, header_line, macro_line}
 use Rattle.px_listing.specs.Kinds.{kind_of, operands_of, word_of}
-use Rattle.px_listing.specs.Reading.{ListingDraft, bad_by, bad_in, extended, extended_by, is_listing_over}
-use Rattle.px_listing.specs.Reading.{listing_draft_of, listing_fault_behind, listing_in, listing_of, listing_taken}
-use Rattle.px_listing.specs.Reading.{unwritten, with_operation}
+use Rattle.px_listing.specs.Reading.{ListingDraft, extended, extended_by, is_listing_over, listing_draft_of}
+use Rattle.px_listing.specs.Reading.{listing_fault_behind, unwritten}
 use Rattle.px_listing.specs.RoundTrip.{TextsAreReadBack}
-use Rattle.px_listing.specs.declared.keyword.Due.TheVariants as d
-use Rattle.px_listing.specs.declared.limit.ListKind.TheVariants as kind
 use Rattle.px_listing.proofs.AcceptedLemmas.{draft_more}
 use Rattle.px_listing.proofs.RoundLemmas.{op_read, op_words, past_none, small_place}
+use Rattle.px_listing.specs.declared.keyword.Due.TheVariants as d
+use Rattle.px_listing.specs.declared.limit.ListKind.TheVariants as kind
 
 -- a line by its words, without the line feed
 abbrev bare : Words → List ℕ
@@ -50,9 +45,7 @@ all_words l = header_words ∷ grid_words l.nx l.ny ∷ words_from l.macros
 
 bare_fed : (w : List ℕ) (ws : Words) → is_plain w ≡ true → are_plain ws ≡ true
     → list_all is_no_feed (w ++ spaced ws) ≡ true
-bare_fed w ws plain others =
-    list_all-append is_no_feed w (spaced ws)
-    ∙ rw (plain_fed w (both (is_some_byte w) (list_all is_plain_byte w) plain).1, spaced_fed ws others) refl
+bare_fed w ws plain others = grind (arith, list_all-append, plain_fed, both, spaced_fed)
 
 -- the lines are the text
 lines_from : (ops : List Macro) → fed (map bare (words_from ops)) ≡ flat_map macro_line ops ++ end_line
@@ -94,34 +87,18 @@ open_listing nx ny ops = record { due = d.Operation; nx = nx; ny = ny; macros = 
 
 ops_read : (bits : ℕ) → bits ≤ 256 → (nx ny : ℕ) (done ops : List Macro) (before : List Words)
     → listing_draft_of before ≡ open_listing nx ny done → AreLawful bits ops → AreRead bits before nx ny done ops
-ops_read bits most nx ny done [] before is lawful =
-    let last = codes "end" ∷ [] in record {
-      fed = refl;
-      words = ap (λ ws. ws ∷ []) (words_read (codes "end") [] refl refl);
-      good = ap (λ (v : ListingDraft). at_line (length before + 1) (bad_in bits v.due last) None) is;
-      says = draft_more before last ∙ ap (λ v. listing_taken v last) is
-          ∙ ap (λ ops. extended (open_listing nx ny ops) closing) (sym (append-nil done));
-    }
+ops_read bits most nx ny done [] before is lawful = grind (arith, codes, words_read, draft_more, append-nil)
 ops_read bits most nx ny done (op ∷ ops) before is lawful =
     let read = op_read bits most op (first_of bits op ops lawful) in
     let word = word_of (kind_of op) in
     let numbers = map signed_decimal (operands_of op) in
     let words = op_words op in
     let next : listing_draft_of (before ++ words ∷ []) ≡ open_listing nx ny (done ++ op ∷ []) =
-    draft_more before words ∙ ap (λ v. listing_taken v words) is ∙ ap (extended_by (open_listing nx ny done)) read.reads
-    ∙ ap (λ o. open_listing nx ny (with_operation o done)) read.writes in
+    grind (arith, draft_more) in
     let more = ops_read bits most nx ny (done ++ op ∷ []) ops (before ++ words ∷ []) next
     (rest_of bits op ops lawful) in
     let later = first_bad (listing_fault_behind bits) (before ++ words ∷ []) (words_from ops) in
-    record {
-      fed = rw (bare_fed word numbers read.word read.plain, more.fed) refl;
-      words = rw (words_read word numbers read.word read.plain, more.words) refl;
-      good = ap (λ (v : ListingDraft). at_line (length before + 1) (bad_in bits v.due words) later) is
-          ∙ ap (λ r. at_line (length before + 1) (bad_by bits r) later) read.reads
-          ∙ ap (λ f. at_line (length before + 1) f later) read.good ∙ more.good;
-      says = ap listing_draft_of (sym (append_assoc before (words ∷ []) (words_from ops))) ∙ more.says
-          ∙ ap (λ ops. extended (open_listing nx ny ops) closing) (append_assoc done (op ∷ []) ops);
-    }
+    grind (arith, bare_fed, words_read, append_assoc)
 
 -- the line of the grid
 pub record IsGridRead (bits nx ny : ℕ) : Type 0 where
@@ -159,12 +136,7 @@ read_back bits l most within lawful =
       words_read (codes "grid") second refl of_grid.plain,
       ops.words,
     ) refl in
-    let good : first_bad (listing_fault_behind bits) [] (all_words l) ≡ None =
-    let rest = first_bad (listing_fault_behind bits) before (words_from l.macros) in
-    ap (λ r. at_line 2 (bad_by bits r) rest) of_grid.reads ∙ ap (λ f. at_line 2 f rest) of_grid.good ∙ ops.good in
+    let good : first_bad (listing_fault_behind bits) [] (all_words l) ≡ None = grind arith in
     let ended : is_listing_over (listing_draft_of (all_words l)).due ≡ true =
     ap (λ (v : ListingDraft). is_listing_over v.due) ops.says in
-    record {
-      good = rw (text, good, ended) refl;
-      read = ap listing_of text ∙ ap listing_in ops.says;
-    }
+    grind arith

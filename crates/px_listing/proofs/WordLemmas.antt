@@ -1,16 +1,11 @@
 -- The words of a line, and the numbers that they write.
-use Prim.Native.Nat.{zero, suc}
-use Rattle.std.proofs.Common.{All, ◌-◌, true, false, sym, min, ◌==◌, if◌then◌else◌, ◌≡◌, ℕ, ℤ, pos, ◌+◌, ◌<◌}
-use Rattle.std.proofs.Common.{◌^◌, ◌∷◌, []}
-use Rattle.std.proofs.Common.{◌++◌, ◌&&◌, List, Bool, Option, Some, None, length, map, take, get_or, is_some}
-use Rattle.std.proofs.Common.{unwrap_or, ap, subst, ◌∙◌, arith, ◌≤◌, Bor}
-use Rattle.std.specs.Int.Digits.{number_from_digits}
-use Rattle.std.specs.List.{list_all}
+use Rattle.px_num.proofs.Basics.{nat_tests, common_steps, zero, suc, All, true, false, min, if◌then◌else◌, ◌≡◌, ℕ, ℤ}
+use Rattle.px_num.proofs.Basics.{pos, ◌+◌, ◌<◌, ◌^◌, ◌∷◌, [], ◌++◌, ◌&&◌, List, Bool, Option, Some, None, length, take}
+use Rattle.px_num.proofs.Basics.{get_or, is_some, unwrap_or, ap, subst, ◌∙◌, arith, ◌≤◌, Bor, ints, get_or-map}
+use Rattle.px_num.proofs.Basics.{length-map, take_all, take_more}
 use Rattle.std.proofs.lemmas.List.Folds.{list_all_more}
-use Rattle.std.proofs.lemmas.Int.{ints}
-use Rattle.std.proofs.lemmas.List.{get_or-map, length-map, take_all, take_more}
 use Rattle.px_num.specs.Forms.{IsWithin}
-use Rattle.px_text.specs.Text.{Words, is_some_byte, is_digit, negative, number_of, positive, size_of_digits}
+use Rattle.px_text.specs.Text.{Words, negative, number_of, positive}
 use Rattle.px_text.specs.LentWords.{now_of}
 use Rattle.px_listing.specs.Lines.{are_numbers, numbers_of}
 
@@ -30,9 +25,7 @@ one_more words i w lt =
     let within : i < length (now_of words) = omega (arith, length-map words (λ v. v.now)) in
     let there = get_or-map (λ v. unwrap_or (number_of v) (pos 0)) (now_of words) i [] (pos 0) within
     ∙ ap (λ v. unwrap_or (number_of v) (pos 0)) (get_or-map (λ v. v.now) words i w [] lt) in
-    take_more (numbers_of (now_of words)) i (pos 0)
-    (omega (arith, length-map (now_of words) (λ v. unwrap_or (number_of v) (pos 0))))
-    ∙ ap (λ z. take i (numbers_of (now_of words)) ++ z ∷ []) there
+    grind (arith, take_more, length-map, unwrap_or)
 
 -- no number is greater than 10 ^ 18 in size
 abbrev pub IsSmall : ℤ → Type 0
@@ -55,10 +48,7 @@ by_sign false x y p q = q
 
 is_small : (w : List ℕ) → IsSmall (unwrap_or (number_of w) (pos 0))
 is_small [] = (omega (arith, ints), omega (arith, ints))
-is_small (b ∷ bs) = by_sign (b == 45) (negative (size_of_digits bs)) (positive (size_of_digits (b ∷ bs)))
-    (of_negative (is_some_byte bs && list_all is_digit bs) (number_from_digits 10 (map (λ b. b - 48) bs)))
-    (of_digits (is_some_byte (b ∷ bs) && list_all is_digit (b ∷ bs))
-    (number_from_digits 10 (map (λ b. b - 48) (b ∷ bs))))
+is_small (b ∷ bs) = grind (arith, by_sign, of_negative, of_digits)
 
 small_of : (w : List ℕ) (z : ℤ) → number_of w ≡ Some z → IsSmall z
 small_of w z is = subst (λ o. IsSmall (unwrap_or o (pos 0))) is (is_small w)
@@ -76,21 +66,9 @@ pub record AreReadTo (words : List (Bor (List ℕ))) (numbers : List ℤ) (i : �
 pub read_more : (words : List (Bor (List ℕ))) (numbers new : List ℤ) (i : ℕ) (w : Bor (List ℕ)) (z y : ℤ)
     → AreReadTo words numbers i → i < length words → number_of (get_or words i w).now ≡ Some z
     → (IsSmall z → y ≡ z) → new ≡ numbers ++ y ∷ [] → AreReadTo words new (i + 1)
-read_more words numbers new i w z y so lt is kept pushed = record {
-  each = numeric_more words i w lt ∙ ap (λ b. b && is_some (number_of (get_or words i w).now)) so.each ∙ ap is_some is;
-  value = pushed ∙ ap (λ n. numbers ++ n ∷ []) (kept (small_of (get_or words i w).now z is))
-      ∙ ap (λ ns. ns ++ z ∷ []) so.value
-      ∙ ap (λ o. take i (numbers_of (now_of words)) ++ unwrap_or o (pos 0) ∷ []) (sym is)
-      ∙ sym (one_more words i w lt);
-}
+read_more words numbers new i w z y so lt is kept pushed =
+    grind (arith, nat_tests, common_steps, numeric_more, small_of, one_more)
 
 pub read_whole : (words : List (Bor (List ℕ))) (numbers : List ℤ) (i : ℕ) → AreReadTo words numbers i
     → length words ≤ i → (are_numbers (now_of words) ≡ true) × (numbers ≡ numbers_of (now_of words))
-read_whole words numbers i so past = (
-  ap are_numbers (sym (take_all i (now_of words) (omega (arith, length-map words (λ v. v.now))))) ∙ so.each,
-  so.value ∙ take_all i (numbers_of (now_of words)) (omega (
-    arith,
-    length-map (now_of words) (λ v. unwrap_or (number_of v) (pos 0)),
-    length-map words (λ v. v.now),
-  )),
-)
+read_whole words numbers i so past = grind (arith, take_all, length-map, unwrap_or)

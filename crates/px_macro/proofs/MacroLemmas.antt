@@ -1,22 +1,19 @@
 -- What holds of every operation.
-use Rattle.std.proofs.Common.{◌≡◌, ℕ, ◌≤◌, Bool, true, false, if◌then◌else◌, List, [], ◌∷◌, length, slice_set, refl}
-use Rattle.std.proofs.Common.{arith, length-set}
+use Rattle.px_num.proofs.Basics.{◌≡◌, ℕ, ◌≤◌, Bool, true, false, if◌then◌else◌, List, [], ◌∷◌, length, slice_set, refl}
+use Rattle.px_num.proofs.Basics.{arith, length-set}
 use Rattle.px_num.proofs.ListLaws.{length-tabulate}
 use Rattle.px_macro.specs.Fields.{with_number}
 use Rattle.px_macro.specs.Macros.{AreOfOneLength, IsField, IsLawfulInMore, MeaningsJoin, MemoryStaysLong, after_macro}
 use Rattle.px_macro.specs.declared.field.Field.{Field}
-use Rattle.px_macro.specs.declared.operation.Macro.TheVariants.{All, KeepSign, LoadLinear, KeepAtMost}
-use Rattle.px_macro.specs.declared.operation.Macro.TheVariants.{AddLinear, LoadConst, SetBit, Toggle, Copy, KeepLess}
+use Rattle.px_macro.specs.declared.operation.Macro.TheVariants.{All, KeepSign, LoadLinear, KeepAtMost, AddLinear}
+use Rattle.px_macro.specs.declared.operation.Macro.TheVariants.{LoadConst, SetBit, Toggle, Copy, KeepLess}
 
 field_in_more : (f : Field) (bits more : ℕ) → bits ≤ more → IsField f bits → IsField f more
 field_in_more f bits more order h =
     record { from_one = h.from_one; to_forty = h.to_forty; within = omega (arith, h.within) }
 
 fields_in_more : (f g : Field) (bits more : ℕ) → bits ≤ more → AreOfOneLength f g bits → AreOfOneLength f g more
-fields_in_more f g bits more order h = record {
-  fields = (field_in_more f bits more order h.fields.0, field_in_more g bits more order h.fields.1);
-  length = h.length;
-}
+fields_in_more f g bits more order h = grind (arith, field_in_more)
 
 pub is_lawful_in_more : IsLawfulInMore
 is_lawful_in_more All bits more order h = h

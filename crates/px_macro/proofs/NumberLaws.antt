@@ -1,13 +1,8 @@
 -- Numbers by their bits, and fields that take them.
-use Rattle.std.proofs.Common.{◌≡◌, ◌≢◌, ℕ, zero, suc, ◌+◌, ◌-◌, ◌*◌, ◌/◌, ◌%◌, ◌^◌, ◌<◌, ◌≤◌, ◌==◌, Bool, true, false}
-use Rattle.std.proofs.Common.{if◌then◌else◌, length, ◌⊎◌, inl, inr, refl, ap, sym, ◌∙◌, arith, get_or-set_other}
-use Rattle.std.proofs.Common.{slice_set}
-use Rattle.std.proofs.lemmas.Bool.{cases_lt}
-use Rattle.std.proofs.lemmas.Bool.Decides.{nat_tests}
-use Rattle.std.proofs.lemmas.Nat.{pow-add}
-use Rattle.std.proofs.lemmas.Nat.Bits.{bit_at_cat_high, bit_at_cat_low}
+use Rattle.px_num.proofs.Basics.{◌≡◌, ◌≢◌, ℕ, zero, suc, ◌+◌, ◌-◌, ◌*◌, ◌%◌, ◌^◌, ◌<◌, ◌≤◌, ◌==◌, Bool, true, false}
+use Rattle.px_num.proofs.Basics.{if◌then◌else◌, ◌⊎◌, inl, inr, refl, sym, ◌∙◌, arith, get_or-set_other, cases_lt}
+use Rattle.px_num.proofs.Basics.{nat_tests, pow-add, bit_at_cat_high, bit_at_cat_low, mod-mul}
 use Rattle.std.proofs.Math.Nat.{mod-one}
-use Rattle.std.proofs.Math.Arith.{mod-mul}
 use Rattle.px_num.proofs.AdderLaws.{number}
 use Rattle.px_num.proofs.BitLaws.{pow_above}
 use Rattle.px_num.specs.Bits.{bit_at, nat_bit}
@@ -59,14 +54,9 @@ pub number_bit : (bit : ℕ → Bool) (n t : ℕ) → t < n → nat_bit (number_
 number_bit bit zero t low = absurd (omega arith)
 number_bit bit (suc n) t low =
     rw (high_bit (bit n) (number_from_bits bit n) (2 ^ n)) (elim (cases_lt t n) [
-      | inl below ↦ ap (λ b. b == 1) (bit_at_cat_low (number (bit n)) n (number_from_bits bit n) t below)
-          ∙ number_bit bit n t below
+      | inl below ↦ grind (arith, bit_at_cat_low, number, number_bit bit n t below)
       | inr past ↦
-          let top : t ≡ n = omega arith in
-          let none : n - n ≡ 0 = omega arith in
-          rw top (ap (λ b. b == 1) (bit_at_cat_high (number (bit n)) n (number_from_bits bit n) n (number_below bit n)
-          (omega arith))
-          ∙ rw none (only_bit (bit n)))
+          grind (arith, bit_at_cat_high, number, number_below, only_bit)
     ])
 
 bit_times : (b p : ℕ) → b < 2 → (if b == 1 then p else 0) ≡ b * p
@@ -77,11 +67,7 @@ bit_times (suc (suc b)) p h = absurd (omega arith)
 -- the number of the bits of a number
 number_of_bits : (m n : ℕ) → number_from_bits (nat_bit m) n ≡ m % 2 ^ n
 number_of_bits m zero = sym (mod-one m)
-number_of_bits m (suc n) =
-    let two : 0 < 2 = omega arith in
-    let digits : m % (2 * 2 ^ n) ≡ m / 2 ^ n % 2 * 2 ^ n + m % 2 ^ n = mod-mul m two (pow_above n) in
-    let bit : m / 2 ^ n % 2 < 2 = omega arith in
-    rw (double_pow n, digits, bit_times (m / 2 ^ n % 2) (2 ^ n) bit, number_of_bits m n) (omega arith)
+number_of_bits m (suc n) = grind (arith, mod-mul, pow_above, double_pow, bit_times, number_of_bits m n)
 
 pub bits_of_number : BitsOfNumber
 bits_of_number field memory t low = number_bit (λ i. bit_at memory (field.at + i)) field.len t low
@@ -90,9 +76,7 @@ pub number_is_below : NumberIsBelow
 number_is_below field memory = number_below (λ t. bit_at memory (field.at + t)) field.len
 
 pub places_are_written : PlacesAreWritten
-places_are_written field number memory place inside =
-    let bits : ℕ → Bool = λ i. if is_in field i then nat_bit number (i - field.at) else bit_at memory i in
-    get_or-tabulate (length memory) bits place false inside
+places_are_written field number memory place inside = grind (arith, number, get_or-tabulate)
 
 is_in_field : (field : Field) (t : ℕ) → t < field.len → is_in field (field.at + t) ≡ true
 is_in_field field t low = grind (arith, nat_tests)
@@ -125,14 +109,7 @@ beside_each : (field : Field) (place t : ℕ) → t < field.len → is_in field 
 beside_each field place t low beside = grind (arith, nat_tests)
 
 pub number_beside_is_kept : NumberBesideIsKept
-number_beside_is_kept field memory place v beside =
-    number_same (λ t. bit_at (slice_set memory place v) (field.at + t)) (λ t. bit_at memory (field.at + t)) field.len
-    (λ t low.
-    get_or-set_other memory place (field.at + t) v false (beside_each field place t low beside))
+number_beside_is_kept field memory place v beside = grind (arith, number_same, get_or-set_other, beside_each)
 
 pub number_of_two_parts : NumberOfParts
-number_of_two_parts at low high memory =
-    number_of_parts (λ t. bit_at memory (at + t)) low high
-    ∙ ap (λ n. number_from_bits (λ t. bit_at memory (at + t)) low + 2 ^ low * n)
-    (number_same (λ t. bit_at memory (at + (low + t))) (λ t. bit_at memory (at + low + t)) high (λ t below.
-    let e : at + (low + t) ≡ at + low + t = omega arith in ap (bit_at memory) e))
+number_of_two_parts at low high memory = grind (arith, number_of_parts, number_same)

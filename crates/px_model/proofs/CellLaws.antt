@@ -1,12 +1,7 @@
 -- Laws of cells and of the values that planes have there.
-use Rattle.std.proofs.Common.{◌≡◌, ℕ, ◌+◌, ◌-◌, ◌*◌, ◌/◌, ◌^◌, ◌<◌, ◌≤◌, ◌≤ℤ◌, ℤ, pos, negsuc, true, nat_le, nat_lt}
-use Rattle.std.proofs.Common.{inl, inr, arith, ap, sym, ◌∙◌}
-use Rattle.std.proofs.Math.Nat.{le-div_iff_mul-le, mul-le-mul}
-use Rattle.std.proofs.Math.Pow.{pow_mono}
-use Rattle.std.proofs.lemmas.Nat.{pow-add, pow_pos}
-use Rattle.std.proofs.lemmas.Bool.{cases_lt}
-use Rattle.std.proofs.lemmas.Bool.Decides.{nat_tests}
-use Rattle.std.proofs.lemmas.Int.{ints}
+use Rattle.px_num.proofs.Basics.{◌≡◌, ℕ, ◌+◌, ◌-◌, ◌*◌, ◌/◌, ◌^◌, ◌<◌, ◌≤◌, ◌≤ℤ◌, ℤ, pos, negsuc, true, nat_le, nat_lt}
+use Rattle.px_num.proofs.Basics.{inl, inr, arith, sym, ◌∙◌, le-div_iff_mul-le, mul-le-mul, pow_mono, pow-add, pow_pos}
+use Rattle.px_num.proofs.Basics.{cases_lt, nat_tests, ints}
 use Rattle.px_num.proofs.TruthLaws.{le_holds, le_true}
 use lib.Signed.{le_z, lt_z}
 use Rattle.px_model.specs.Cells.{Depths, depths, cell_of, end_of, value_of}
@@ -14,21 +9,11 @@ use Rattle.px_model.specs.declared.limits.TheConstants.{MAX_DEPTH_BITS}
 
 -- the first number of wholes that is not below n
 up_is : (u n z : ℕ) → 0 < u → nat_le ((n + (u - 1)) / u) z ≡ nat_le n (z * u)
-up_is u n z some =
-    let one : (z + 1) * u ≡ z * u + u = grind arith in
-    let cut = le-div_iff_mul-le {k = u} {x = z + 1} {y = n + (u - 1)} some in
-    elim (cases_lt z ((n + (u - 1)) / u)) [
-      | inl past ↦ let below : (z + 1) * u ≤ n + (u - 1) = cut.0 (omega arith) in grind (arith, nat_tests)
-      | inr within ↦ elim (cases_lt (z * u) n) [
-        | inl above ↦ let least : z + 1 ≤ (n + (u - 1)) / u = cut.1 (omega arith) in absurd (omega arith)
-        | inr under ↦ grind (arith, nat_tests)
-      ]
-    ]
+up_is u n z some = grind (arith, le-div_iff_mul-le, cases_lt)
 
 -- the cell of a value is the first that is not below it
 pub cell_is_first : (d : Depths) (v : ℤ) (z : ℕ) → nat_le (cell_of d v) z ≡ le_z v (pos (value_of d z))
-cell_is_first d (pos n) z =
-    up_is (2 ^ d.fraction_bits) n z (pow_pos d.fraction_bits) ∙ grind (arith, nat_tests, ints)
+cell_is_first d (pos n) z = up_is (2 ^ d.fraction_bits) n z (pow_pos d.fraction_bits) ∙ grind (arith, nat_tests, ints)
 cell_is_first d (negsuc n) z = grind (arith, nat_tests, ints)
 
 -- and each before it is below the value
@@ -37,16 +22,9 @@ cell_is_least d v z = let same = cell_is_first d v z in grind (arith, nat_tests,
 
 -- the value of the far limit has room in the bits of a depth and of its fraction
 pub end_is_small : (w f : ℕ) → (2 ^ w - 1) * 2 ^ f < 2 ^ (w + f)
-end_is_small w f =
-    let parts : 2 ^ (w + f) ≡ 2 ^ w * 2 ^ f = pow-add 2 w f in
-    let some : 0 < 2 ^ w = pow_pos w in
-    let one : 0 < 2 ^ f = pow_pos f in
-    let less : 2 ^ w * 2 ^ f ≡ (2 ^ w - 1) * 2 ^ f + 2 ^ f =
-    let e : 2 ^ w ≡ (2 ^ w - 1) + 1 = omega (arith, some) in ap (λ k. k * 2 ^ f) e ∙ grind arith in
-    omega (arith, parts, less, one)
+end_is_small w f = grind (arith, pow-add, pow_pos)
 
-pub end_is_within : (w f : ℕ) → w + f ≤ MAX_DEPTH_BITS →
-    (2 ^ w - 1) * 2 ^ f < 2 ^ MAX_DEPTH_BITS
+pub end_is_within : (w f : ℕ) → w + f ≤ MAX_DEPTH_BITS → (2 ^ w - 1) * 2 ^ f < 2 ^ MAX_DEPTH_BITS
 end_is_within w f few = omega (arith, end_is_small w f, pow_mono {i = w + f} {j = MAX_DEPTH_BITS} few)
 
 at_most : (u v : ℤ) → u ≤ℤ v → le_z u v ≡ true

@@ -1,6 +1,5 @@
 -- The face numbers of solids one after another.
-use Rattle.std.proofs.Common.{◌≡◌, ◌+◌, [], ◌∷◌, List, arith}
-use Rattle.std.proofs.lemmas.List.Sums.{sum_by-append}
+use Rattle.px_num.proofs.Basics.{◌≡◌, ◌+◌, [], ◌∷◌, List, arith, sum_by-append}
 use Rattle.px_model.specs.Scenes.{faces_of, SolidView, faces_in}
 
 pub faces_of-cons : (q : SolidView) (qs : List SolidView) → faces_of (q ∷ qs) ≡ faces_in q + faces_of qs

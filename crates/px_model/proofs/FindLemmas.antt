@@ -1,22 +1,14 @@
 -- What is first found in the parts of a list, one after another.
-use Rattle.std.proofs.Common.{◌≡◌, ℕ, zero, suc, ◌+◌, ◌-◌, ◌<◌, List, [], ◌∷◌, ◌++◌, All, length, drop, find, get_or}
-use Rattle.std.proofs.Common.{map}
-use Rattle.std.proofs.Common.{Bool, true, false, cond, Option, Some, None, is_some, refl, ap, sym, ◌∙◌, arith}
-use Rattle.std.proofs.Math.Seq.{drop-cons}
-use Rattle.std.proofs.lemmas.List.Folds.{find-append}
-use Rattle.std.specs.List.{flat_map, range_with_len}
-use Rattle.std.specs.Option.{option_or}
+use Rattle.px_num.proofs.Basics.{◌≡◌, ℕ, zero, suc, ◌+◌, ◌-◌, ◌<◌, List, [], ◌∷◌, ◌++◌, All, length, drop, find, get_or}
+use Rattle.px_num.proofs.Basics.{map, Bool, true, false, cond, Option, Some, None, is_some, refl, sym, ◌∙◌, arith}
+use Rattle.px_num.proofs.Basics.{drop-cons, find-append, flat_map, range_with_len, option_or}
 use Rattle.px_num.proofs.TruthLaws.{none_first, none_second}
 
 -- what is made of an element goes first, then what is made of the later ones
 module _ {X Y A : Type 0} (test : A → Bool) (f : Y → List A) (g : X → Y) where
   both : (xs : List X) (i : ℕ) (d : X) → i < length xs → find test (flat_map f (map g (drop i xs)))
       ≡ option_or (find test (f (g (get_or xs i d)))) (find test (flat_map f (map g (drop (i + 1) xs))))
-  both xs i d within =
-      let next : suc i ≡ i + 1 = omega arith in
-      ap (λ ys. find test (flat_map f (map g ys))) (drop-cons xs i d within)
-      ∙ find-append test (f (g (get_or xs i d))) (flat_map f (map g (drop (suc i) xs)))
-      ∙ ap (λ n. option_or (find test (f (g (get_or xs i d)))) (find test (flat_map f (map g (drop n xs))))) next
+  both xs i d within = grind (arith, find, drop-cons, find-append)
 
   pub found_first : (xs : List X) (i : ℕ) (d : X) (o : Option A) → i < length xs
       → o ≡ find test (f (g (get_or xs i d))) → is_some o ≡ true → o ≡ find test (flat_map f (map g (drop i xs)))
@@ -33,10 +25,7 @@ module _ {X Y A : Type 0} (test : A → Bool) (f : Y → List A) (g : X → Y) w
 module _ {A : Type 0} (test : A → Bool) (f : ℕ → List A) where
   each : (n end : ℕ) → n < end → find test (flat_map f (range_with_len n (end - n)))
       ≡ option_or (find test (f n)) (find test (flat_map f (range_with_len (n + 1) (end - (n + 1)))))
-  each n end within =
-      let more : end - n ≡ suc (end - (n + 1)) = omega (arith, within) in
-      ap (λ k. find test (flat_map f (range_with_len n k))) more
-      ∙ find-append test (f n) (flat_map f (range_with_len (n + 1) (end - (n + 1))))
+  each n end within = grind (arith, find, find-append)
 
   pub number_first : (n end : ℕ) (o : Option A) → n < end → o ≡ find test (f n) → is_some o ≡ true
       → o ≡ find test (flat_map f (range_with_len n (end - n)))

@@ -1,18 +1,9 @@
 -- A scene over other pixels keeps the limits of scenes, where no constant there is past its limit.
-use Rattle.std.proofs.Common.{◌≡◌, ℕ, zero, suc, ℤ, pos, negsuc, ◌+◌, ◌-◌, ◌^◌, ◌<◌, ◌≤◌, ◌==◌, List, [], ◌∷◌}
-use Rattle.std.proofs.Common.{length, map, filter, find, fold, get_or, All, Bool, true, false, cond, not, nat_lt}
-use Rattle.std.proofs.Common.{Option}
-use Rattle.std.proofs.Common.{Some, None, refl, ap, sym, subst, ◌∙◌, arith}
-use Rattle.std.proofs.Math.Path.{fun_ext}
-use Rattle.std.proofs.lemmas.List.{get_or-map, length-map}
-use Rattle.std.proofs.lemmas.List.Elements.{All-map}
-use Rattle.std.proofs.lemmas.List.Folds.{fold-map}
-use Rattle.std.proofs.lemmas.List.FromFn.{get_or-range_with_len, length-range_with_len}
-use Rattle.std.proofs.lemmas.Bool.Decides.{nat_tests}
-use Rattle.std.proofs.lemmas.Int.{ints}
+use Rattle.px_num.proofs.Basics.{◌≡◌, ℕ, zero, suc, ℤ, pos, negsuc, ◌+◌, ◌-◌, ◌^◌, ◌<◌, ◌==◌, List, [], ◌∷◌, length}
+use Rattle.px_num.proofs.Basics.{map, filter, find, get_or, All, Bool, true, false, cond, not, nat_lt, Option, Some}
+use Rattle.px_num.proofs.Basics.{None, refl, ap, sym, subst, ◌∙◌, arith, fun_ext, get_or-map, length-map, All-map}
+use Rattle.px_num.proofs.Basics.{fold-map, get_or-range_with_len, length-range_with_len, range_with_len, option_map}
 use Rattle.std.specs.Int.RustNames.{unsigned_abs}
-use Rattle.std.specs.List.{range_with_len}
-use Rattle.std.specs.Option.{option_map}
 use Rattle.px_num.specs.declared.linear.Linear.{Linear}
 use Rattle.px_num.specs.Forms.{IsWithin}
 use Rattle.px_model.specs.declared.pixels.Pixels.{Pixels}
@@ -29,22 +20,15 @@ IsSmall plane = is_past plane ≡ false
 
 -- a constant that is not past the limit
 within_limit : (z : ℤ) → nat_lt (2 ^ 33) (unsigned_abs z) ≡ false → IsWithin (2 ^ 33) z
-within_limit (pos n) small =
-    let few : n ≤ 2 ^ 33 = grind (arith, nat_tests) in
-    (omega (arith, ints), omega (arith, ints, few))
-within_limit (negsuc n) small =
-    let few : suc n ≤ 2 ^ 33 = grind (arith, nat_tests) in
-    (omega (arith, ints, few), omega (arith, ints))
+within_limit (pos n) small = grind arith
+within_limit (negsuc n) small = grind arith
 
 -- a face is among those of its number
 small_among : (faces : List Face) (k : ℕ) (d : Face) (number : ℕ) → k < length faces → (get_or faces k d).number
     ≡ number
     → find is_past (planes_among faces number) ≡ None → IsSmall (get_or faces k d).plane
 small_among [] k d number within is none = absurd (omega arith)
-small_among (f ∷ fs) zero d number within is none =
-    let here : (f.number == number) ≡ true = grind (arith, nat_tests) in
-    none_passes is_past (map (λ f. f.plane) (f ∷ filter (λ f. f.number == number) fs)) (rw here at none)
-    0 f.plane (omega arith)
+small_among (f ∷ fs) zero d number within is none = grind (arith, none_passes)
 small_among (f ∷ fs) (suc k) d number within is none =
     small_among fs k d number (omega arith) is (later (f.number == number) none)
   where
@@ -67,8 +51,7 @@ module _ (s : SolidView) (from : ℕ) (numbered : IsNumberedFrom from s) (none :
       get_or-range_with_len first count place 0 within ∙ (let back : first + place ≡ number = omega arith in back) in
       let each = none_in_each is_past (planes_numbered s) (range_with_len first count)
       (none_before is_past (face_planes s) s.sides none) in
-      subst (λ (n : ℕ). find is_past (planes_numbered s n) ≡ None) is
-      (each place 0 (omega (arith, within, length-range_with_len first count)))
+      grind (arith, find, length-range_with_len)
 
   small_fronts : All (λ f. s.near_number < f.number) s.fronts → All (λ f. IsSmall f.plane) s.fronts
   small_fronts above k d within =
@@ -167,18 +150,14 @@ module _ (pixels : Pixels) where
 
   pub all_lawful : (solids : List SolidView) → All IsLawfulSolid solids → AreNumberedFrom 1 solids
       → first_past (map (solid_over pixels) solids) ≡ None → AreLawfulOver pixels solids
-  all_lawful solids lawful numbered none =
-      solids_kept 1 solids lawful numbered (no_plane (λ plane. plane.c) _ none)
+  all_lawful solids lawful numbered none = solids_kept 1 solids lawful numbered (no_plane (λ plane. plane.c) _ none)
 
   names_kept : (solids : List SolidView) → names_of (map (solid_over pixels) solids) ≡ names_of solids
   names_kept [] = refl
   names_kept (s ∷ solids) = ap (λ names. s.name ∷ names) (names_kept solids)
 
   pub counts_kept : (solids : List SolidView) → faces_of (map (solid_over pixels) solids) ≡ faces_of solids
-  counts_kept solids =
-      let each = fun_ext (λ (a : ℕ). fun_ext (λ (s : SolidView). ap (λ n. a + n) (count_kept s))) in
-      fold-map (λ (a : ℕ) (s : SolidView). a + faces_in s) (solid_over pixels) 0 solids
-      ∙ ap (λ f. fold f 0 solids) each
+  counts_kept solids = grind (arith, fun_ext, count_kept, fold-map)
 
   all_numbered : (from : ℕ) (solids : List SolidView) → AreNumberedFrom from solids
       → AreNumberedFrom from (map (solid_over pixels) solids)
@@ -191,20 +170,4 @@ module _ (pixels : Pixels) where
 
   pub scene_kept : (width height : ℕ) (scene : SceneView) → IsLawfulScene scene → HasSceneOver pixels width height scene
       → IsLawfulScene (scene_over pixels width height scene)
-  scene_kept width height scene lawful over = record {
-    sizes = record {
-      some_width = over.some_width;
-      width_limit = over.width;
-      some_height = over.some_height;
-      height_limit = over.height;
-      some_depth = lawful.sizes.some_depth;
-      depth_limit = over.depth;
-      fraction_limit = over.fraction;
-    };
-    solids = let few = lawful.solids in rw (length-map scene.solids (solid_over pixels)) few;
-    names = rw (names_kept scene.solids) lawful.names;
-    different = rw (names_kept scene.solids) lawful.different;
-    numbers = all_numbered 1 scene.solids lawful.numbers;
-    faces = let few = lawful.faces in rw (counts_kept scene.solids) few;
-    shown = rw (length-map scene.solids (solid_over pixels)) lawful.shown;
-  }
+  scene_kept width height scene lawful over = grind (arith, length-map, names_kept, all_numbered, counts_kept)

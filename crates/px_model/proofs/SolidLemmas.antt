@@ -1,9 +1,6 @@
 -- One more plane at the end of a solid's list.
-use Prim.Native.Nat.{zero, suc}
-use Rattle.std.proofs.Common.{ℕ, ◌<◌, List, [], ◌∷◌, ◌++◌, length, arith, length-append}
-use Rattle.std.proofs.lemmas.List.Elements.{All-append}
-use Rattle.std.proofs.lemmas.List.Quantifiers.{all_pairs_push}
-use Rattle.std.specs.List.{All}
+use Rattle.px_num.proofs.Basics.{zero, suc, ℕ, ◌<◌, List, [], ◌∷◌, ◌++◌, length, arith, length-append, All-append}
+use Rattle.px_num.proofs.Basics.{all_pairs_push, All}
 use Rattle.px_model.specs.declared.solid.Face.{Face}
 use Rattle.px_model.specs.declared.limits.TheConstants.{MAX_PLANES_OF_A_KIND}
 use Rattle.px_model.specs.Scenes.{AreFaces, IsColour, IsPlane}
@@ -15,10 +12,9 @@ all_of_one P x holds (suc k) d lt = absurd (omega arith)
 pub All-push : {X : Type 0} (P : X → Type 0) (xs : List X) (x : X) → All P xs → P x → All P (xs ++ x ∷ [])
 All-push P xs x all holds = All-append P xs (x ∷ []) all (all_of_one P x holds)
 
-pub faces_pushed : (near : ℕ) (faces : List Face) (face : Face) → AreFaces near faces → length faces
-    < MAX_PLANES_OF_A_KIND
-    → IsPlane face.plane → IsColour face.colour → near < face.number → All (λ f. f.number < face.number) faces
-    → AreFaces near (faces ++ face ∷ [])
+pub faces_pushed : (near : ℕ) (faces : List Face) (face : Face) → AreFaces near faces
+    → length faces < MAX_PLANES_OF_A_KIND → IsPlane face.plane → IsColour face.colour → near < face.number
+    → All (λ f. f.number < face.number) faces → AreFaces near (faces ++ face ∷ [])
 faces_pushed near faces face are room plane colour above order = record {
   few = omega (arith, length-append faces (face ∷ []));
   planes = All-push (λ f. IsPlane f.plane) faces face are.planes plane;

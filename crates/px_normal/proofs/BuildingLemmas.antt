@@ -1,7 +1,6 @@
 -- The steps of an expression come from its nodes, and build the live lists that are wanted.
-use Rattle.std.proofs.Common.{ℕ, ◌≡◌, ◌+◌, ◌-◌, List, [], ◌∷◌, ◌++◌, length, refl, ap, sym, ◌∙◌, reverse}
-use Rattle.std.proofs.Common.{append_assoc, append-nil, fold, arith, Option, Some, None}
-use Rattle.std.proofs.lemmas.List.{reverse-append}
+use Rattle.px_num.proofs.Basics.{ℕ, ◌≡◌, ◌+◌, ◌-◌, List, [], ◌∷◌, ◌++◌, length, refl, ap, sym, ◌∙◌, reverse}
+use Rattle.px_num.proofs.Basics.{append_assoc, append-nil, fold, arith, Option, reverse-append}
 use Rattle.px_expr.specs.Tree.{Tree, leaf, join}
 use Rattle.px_expr.specs.Shapes.{op_node}
 use Rattle.px_expr.proofs.OperatorLaws.{shape_of_op}
@@ -11,19 +10,17 @@ use Rattle.px_expr.specs.declared.node.Op.{Op}
 use Rattle.px_sets.specs.declared.cell_box.CellBox.{CellBox}
 use Rattle.px_normal.specs.declared.product.Product.{Product}
 use Rattle.px_normal.specs.declared.step.Step.{Step}
-use Rattle.px_normal.specs.declared.step.Step.TheVariants as s
 use Rattle.px_normal.specs.declared.step.Wanted.{Wanted}
 use Rattle.px_normal.specs.Forms.{Forms, forms}
 use Rattle.px_normal.specs.Crowd.{of_root, of_left, of_right, wanted_forms, wanted_lists, first_past_limit, crowd}
-use Rattle.px_normal.specs.Building.{steps_of, shape_step, sides_wanted, walked, built, newest_lists, CanBuild}
+use Rattle.px_normal.specs.Building.{steps_of, walked, built, newest_lists, CanBuild}
 use Rattle.px_normal.proofs.CrowdLemmas.{wanted_sides}
+use Rattle.px_normal.specs.declared.step.Step.TheVariants as s
 
 walked_op : (op : Op) (l r : ℕ) (nodes : List Node) (first : Wanted) (wanted : List Wanted) (known : List Step)
     → walked (op_node op l r ∷ nodes) (first ∷ wanted) known ≡ walked nodes (of_right op first ∷ of_left op first
     ∷ wanted) (s.Join op first ∷ known)
-walked_op op l r nodes first wanted known =
-    ap (λ shape. walked nodes (sides_wanted shape first ++ wanted) (shape_step shape first ∷ known))
-    (shape_of_op op l r)
+walked_op op l r nodes first wanted known = grind (arith, shape_of_op)
 
 -- the nodes of a tree, read from the root, give its steps
 walked_tree : (others : ℕ) (tree : Tree) (nodes : List Node) (first : Wanted) (wanted : List Wanted) (known : List Step)
@@ -35,9 +32,7 @@ walked_tree others (join op left right) nodes first wanted known =
     in let i = others + size left - 1 in let j = others + size left + size right - 1
     in let turned : reverse ((l ++ r) ++ op_node op i j ∷ []) ++ nodes ≡ op_node op i j
     ∷ (reverse r ++ (reverse l ++ nodes)) =
-    ap (λ xs. xs ++ nodes) (reverse-append (l ++ r) (op_node op i j ∷ [])
-    ∙ ap (λ xs. op_node op i j ∷ xs) (reverse-append l r))
-    ∙ ap (λ xs. op_node op i j ∷ xs) (append_assoc (reverse r) (reverse l) nodes)
+    grind (arith, reverse-append, append_assoc)
     in let first_steps = steps_of (of_left op first) left in let second_steps = steps_of (of_right op first) right
     in ap (λ xs. walked xs (first ∷ wanted) known) turned
     ∙ walked_op op i j _ first wanted known
@@ -74,26 +69,14 @@ module _ (boxes : ℕ → Option CellBox) where
   builds : (wanted : Wanted) (tree : Tree) (lists : List Forms) (steps : List Step) → Builds wanted tree lists steps
   builds wanted (leaf solid) lists steps = record { last = refl; way = refl; can = λ rest. (tt, rest) }
   builds wanted (join op left right) lists steps =
-      let l = steps_of (of_left op wanted) left in let r = steps_of (of_right op wanted) right
-      in let x = wanted_forms boxes (of_left op wanted) (forms left) in let y =
-      wanted_forms boxes (of_right op wanted) (forms right)
-      in let split : ((l ++ r) ++ s.Join op wanted ∷ []) ++ steps ≡ l ++ (r ++ s.Join op wanted ∷ steps) =
-      append_assoc (l ++ r) (s.Join op wanted ∷ []) steps ∙ append_assoc l r (s.Join op wanted ∷ steps)
-      in let first = builds (of_left op wanted) left lists (r ++ s.Join op wanted ∷ steps)
-      in let second = builds (of_right op wanted) right (x ∷ lists) (s.Join op wanted ∷ steps)
-      in let sides = wanted_sides boxes op wanted (forms left) (forms right)
-      in record {
-        last = rw split (first.last ∙ second.last ∙ ap (λ z. fold (built boxes) (z ∷ lists) steps) sides);
-        way = rw split (first.way ∙ ap (λ zs. wanted_lists boxes (of_left op wanted) left ++ zs) (second.way
-            ∙ ap (λ z. wanted_lists boxes (of_right op wanted) right
-            ++ (newest_lists (z ∷ lists) ++ made (z ∷ lists) steps)) sides)
-            ∙ sym (append_assoc (wanted_lists boxes (of_left op wanted) left)
-            (wanted_lists boxes (of_right op wanted) right) _)
-            ∙ sym (append_assoc (wanted_lists boxes (of_left op wanted) left ++ wanted_lists boxes
-            (of_right op wanted) right) (newest_lists (wanted_forms boxes wanted (forms (join op left right))
-            ∷ lists)) _));
-        can = λ rest. rw split (first.can (second.can (omega arith, rw sides rest)));
-      }
+      grind (
+        arith,
+        append_assoc,
+        wanted_sides,
+        builds (of_left op wanted) left lists ((steps_of (of_right op wanted) right) ++ s.Join op wanted ∷ steps),
+        builds (of_right op wanted) right ((wanted_forms boxes (of_left op wanted) (forms left)) ∷ lists)
+            (s.Join op wanted ∷ steps),
+      )
 
   -- the steps that are left, the last first, make the lists of the tree
   pub record IsOnTheWay (tree : Tree) (lists : List Forms) (rest : List Step) : Type 0 where
@@ -107,12 +90,7 @@ module _ (boxes : ℕ → Option CellBox) where
       let all = builds of_root tree [] []
       in let steps : reverse rest ≡ steps_of of_root tree ++ [] =
       ap reverse same ∙ is ∙ sym (append-nil (steps_of of_root tree))
-      in rw none record {
-        last = rw steps all.last;
-        way = rw steps (ap first_past_limit (all.way ∙ append-nil (wanted_lists boxes of_root tree)));
-        can =
-            rw steps (all.can tt);
-      }
+      in grind (arith, append-nil)
 
   turned : (rest before : List Step) (step : Step) → rest ≡ before ++ step ∷ [] → reverse rest ≡ step ∷ reverse before
   turned rest before step last = ap reverse last ∙ reverse-append before (step ∷ [])

@@ -1,8 +1,6 @@
 -- What products that are crossed say, each and any.
-use Rattle.std.proofs.Common.{◌≡◌, ◌||◌, ◌&&◌, Bool, false, List, [], ◌∷◌, refl, ◌∙◌, arith, map}
-use Rattle.std.specs.List.{list_any, All}
-use Rattle.std.proofs.lemmas.List.Folds.{list_any-append}
-use Rattle.std.proofs.lemmas.List.Elements.{All-nil, All-cons, All-append, All-head, All-tail}
+use Rattle.px_num.proofs.Basics.{◌≡◌, ◌||◌, ◌&&◌, Bool, false, List, [], ◌∷◌, refl, arith, map, list_any, All}
+use Rattle.px_num.proofs.Basics.{list_any-append, All-nil, All-cons, All-append, All-head, All-tail}
 use Rattle.px_normal.specs.declared.product.Product.{Product}
 use Rattle.px_normal.specs.Forms.{both, crossed}
 
@@ -35,21 +33,17 @@ module _ (h s : Product → Bool) (hb : (p q : Product) → h (both p q) ≡ h p
 
   pub any_crossed : (ps qs : List Product) → list_any h (crossed ps qs) ≡ list_any h ps && list_any h qs
   any_crossed [] qs = refl
-  any_crossed (p ∷ ps) qs = list_any-append h (map (both p) qs) (crossed ps qs)
-      ∙ rw (any_both p qs, any_crossed ps qs) (spread_right (h p) (list_any h ps) (list_any h qs))
+  any_crossed (p ∷ ps) qs = grind (arith, list_any-append, any_both, spread_right, any_crossed ps qs)
 
   shown_both : (p : Product) (qs : List Product) → list_any (λ x. h x && s x) (map (both p) qs)
       ≡ ((h p && s p) && list_any h qs) || (h p && list_any (λ x. h x && s x) qs)
   shown_both p [] = none_shown (h p) (s p)
-  shown_both p (q ∷ qs) = rw (hb p q, sb p q, shown_both p qs) (one_shown (h p) (s p) (h q) (s q) (list_any h qs)
-      (list_any (λ x. h x && s x) qs))
+  shown_both p (q ∷ qs) = grind (arith, one_shown, shown_both p qs)
 
   pub shown_crossed : (ps qs : List Product) → list_any (λ x. h x && s x) (crossed ps qs)
       ≡ (list_any (λ x. h x && s x) ps && list_any h qs) || (list_any h ps && list_any (λ x. h x && s x) qs)
   shown_crossed [] qs = refl
-  shown_crossed (p ∷ ps) qs = list_any-append (λ x. h x && s x) (map (both p) qs) (crossed ps qs)
-      ∙ rw (shown_both p qs, shown_crossed ps qs) (all_shown (h p) (s p) (list_any h ps)
-      (list_any (λ x. h x && s x) ps) (list_any h qs) (list_any (λ x. h x && s x) qs))
+  shown_crossed (p ∷ ps) qs = grind (arith, list_any-append, shown_both, all_shown, shown_crossed ps qs)
 
 -- what holds of both from the sides P and Q holds of each product that is crossed
 module _ (P Q R : Product → Type 0) (each : (p q : Product) → P p → Q q → R (both p q)) where

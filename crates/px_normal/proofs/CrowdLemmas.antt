@@ -1,11 +1,8 @@
 -- What is wanted of a node is made of what is wanted of its sides, and the first list past the limit.
-use Rattle.std.proofs.Common.{ℕ, ◌≡◌, ◌||◌, Bool, true, false, List, [], ◌∷◌, ◌++◌, length, nat_lt, refl, ap}
-use Rattle.std.proofs.Common.{sym, ◌∙◌}
-use Rattle.std.proofs.Common.{Option, Some, None}
-use Rattle.std.specs.List.{filter}
+use Rattle.px_num.proofs.Basics.{arith, ℕ, ◌≡◌, ◌||◌, Bool, true, false, List, refl, ap, sym, ◌∙◌, Option}
 use Rattle.px_num.proofs.TruthLaws.{or_left, or_right}
 use Rattle.px_expr.specs.declared.node.Op.{Op}
-use Rattle.px_expr.specs.Cells.{combination_of, complement_of, opposite}
+use Rattle.px_expr.specs.Cells.{complement_of, opposite}
 use Rattle.px_expr.specs.declared.node.Sense.{Sense}
 use Rattle.px_expr.specs.declared.node.Sense.TheVariants.{Plain, Complement}
 use Rattle.px_expr.specs.declared.node.Combination.{Combination}
@@ -14,11 +11,10 @@ use Rattle.px_sets.specs.declared.cell_box.CellBox.{CellBox}
 use Rattle.px_normal.specs.declared.product.Product.{Product}
 use Rattle.px_normal.specs.declared.step.Wanted.{Wanted}
 use Rattle.px_normal.specs.Forms.{Forms, combined_forms, sum_in, sum_when}
-use Rattle.px_normal.specs.Live.{is_live, live}
+use Rattle.px_normal.specs.Live.{live}
 use Rattle.px_normal.specs.Crowd.{of_either, of_left, of_right, left_when, right_when, wanted_in, where_wanted}
-use Rattle.px_normal.specs.Crowd.{wanted_forms, first_past_limit}
+use Rattle.px_normal.specs.Crowd.{wanted_forms}
 use Rattle.px_normal.proofs.LiveLemmas.{live_sides}
-use Rattle.px_normal.specs.declared.product.TheConstants.{MAX_PRODUCTS}
 
 abbrev blank : Wanted → Forms → Forms
 blank wanted x = record {
@@ -39,8 +35,7 @@ other_in Plain wanted x e = rw e refl
 other_in Complement wanted x e = rw e refl
 
 -- where either is wanted, all of the sides is there
-either_is : (wanted : Wanted) (x : Forms) → wanted.products || wanted.complement ≡ true
-    → blank (of_either wanted) x ≡ x
+either_is : (wanted : Wanted) (x : Forms) → wanted.products || wanted.complement ≡ true → blank (of_either wanted) x ≡ x
 either_is wanted x e = rw e refl
 
 same_sides : (k : Combination) (x y more others : Forms) → x ≡ more → y ≡ others → sum_when k x y
@@ -51,18 +46,14 @@ products_kept : (k : Combination) (wanted : Wanted) (x y : Forms) → wanted.pro
     → sum_when k (blank (left_when k wanted) x) (blank (right_when k wanted) y) ≡ sum_when k x y
 products_kept (Both s t) wanted x y e = rw (own_in s wanted x e, own_in t wanted y e) refl
 products_kept (Either s t) wanted x y e = rw (own_in s wanted x e, own_in t wanted y e) refl
-products_kept (EitherWay s) wanted x y e =
-    let some = or_left wanted.products wanted.complement e
-    in same_sides (EitherWay s) _ _ _ _ (either_is wanted x some) (either_is wanted y some)
+products_kept (EitherWay s) wanted x y e = grind (arith, or_left, same_sides, either_is)
 
 complement_kept : (k : Combination) (wanted : Wanted) (x y : Forms) → wanted.complement ≡ true
     → sum_when (complement_of k) (blank (left_when k wanted) x) (blank (right_when k wanted) y)
     ≡ sum_when (complement_of k) x y
 complement_kept (Both s t) wanted x y e = rw (other_in s wanted x e, other_in t wanted y e) refl
 complement_kept (Either s t) wanted x y e = rw (other_in s wanted x e, other_in t wanted y e) refl
-complement_kept (EitherWay s) wanted x y e =
-    let some = or_right wanted.products wanted.complement e
-    in same_sides (EitherWay (opposite s)) _ _ _ _ (either_is wanted x some) (either_is wanted y some)
+complement_kept (EitherWay s) wanted x y e = grind (arith, or_right, same_sides, either_is)
 
 where_same : (wanted : Bool) (ps qs : List Product) → (wanted ≡ true → ps ≡ qs)
     → where_wanted wanted ps ≡ where_wanted wanted qs
@@ -78,11 +69,7 @@ module _ (boxes : ℕ → Option CellBox) where
   blank_sides : (op : Op) (wanted : Wanted) (x y : Forms)
       → blank wanted (live boxes (combined_forms op (blank (of_left op wanted) x) (blank (of_right op wanted) y)))
       ≡ blank wanted (live boxes (combined_forms op x y))
-  blank_sides op wanted x y =
-      let k = combination_of op in
-      forms_are _ _ _ _
-      (where_same wanted.products _ _ (λ e. ap (filter (is_live boxes)) (products_kept k wanted x y e)))
-      (where_same wanted.complement _ _ (λ e. ap (filter (is_live boxes)) (complement_kept k wanted x y e)))
+  blank_sides op wanted x y = grind (arith, forms_are, where_same, products_kept, complement_kept)
 
   pub wanted_sides : (op : Op) (wanted : Wanted) (x y : Forms)
       → wanted_forms boxes wanted (combined_forms op (wanted_forms boxes (of_left op wanted) x)

@@ -1,9 +1,7 @@
 -- What is kept of a list with one element more, and of what is crossed with it.
-use Rattle.std.proofs.Common.{ℕ, ◌≡◌, ◌<◌, ◌+◌, Bool, List, [], ◌∷◌, ◌++◌, append_assoc, ap, sym, ◌∙◌, get_or, length}
-use Rattle.std.proofs.Common.{map, take}
-use Rattle.std.specs.List.{filter}
-use Rattle.std.proofs.lemmas.List.{map-append, take_more}
-use Rattle.std.proofs.lemmas.List.Elements.{filter-append}
+use Rattle.px_num.proofs.Basics.{arith, ℕ, ◌≡◌, ◌<◌, ◌+◌, Bool, List, [], ◌∷◌, ◌++◌, append_assoc, ap, sym, ◌∙◌, get_or}
+use Rattle.px_num.proofs.Basics.{length, map, take, nat_tests, common_steps, filter, map-append, take_more}
+use Rattle.px_num.proofs.Basics.{filter-append}
 use Rattle.px_normal.specs.declared.product.Product.{Product}
 use Rattle.px_normal.specs.declared.live.Boxed.{Boxed}
 use Rattle.px_normal.specs.Forms.{both}
@@ -13,19 +11,12 @@ module _ (test : Product → Bool) where
   kept_more : (products : List Product) (i : ℕ) (product : Product) → i < length products
       → filter test (take (i + 1) products)
       ≡ filter test (take i products) ++ filter test (get_or products i product ∷ [])
-  kept_more products i product within =
-      ap (filter test) (take_more products i product within)
-      ∙ filter-append test (take i products) (get_or products i product ∷ [])
+  kept_more products i product within = grind (arith, nat_tests, common_steps, take_more, filter-append)
 
   kept_more_with : (p : Product) (list : List Boxed) (i : ℕ) (q : Boxed) → i < length list
       → filter test (map (both p) (products_in (take (i + 1) list)))
       ≡ filter test (map (both p) (products_in (take i list))) ++ filter test (both p (get_or list i q).product ∷ [])
-  kept_more_with p list i q within =
-      ap (λ boxed. filter test (map (both p) (products_in boxed))) (take_more list i q within)
-      ∙ ap (λ products. filter test (map (both p) products))
-      (map-append (λ b. b.product) (take i list) (get_or list i q ∷ []))
-      ∙ ap (filter test) (map-append (both p) (products_in (take i list)) ((get_or list i q).product ∷ []))
-      ∙ filter-append test (map (both p) (products_in (take i list))) (both p (get_or list i q).product ∷ [])
+  kept_more_with p list i q within = grind (arith, nat_tests, common_steps, take_more, map-append, filter-append)
 
   appended : (start before now kept one all : List Product) → now ≡ before ++ one → before ≡ start ++ kept
       → all ≡ kept ++ one → now ≡ start ++ all

@@ -1,7 +1,6 @@
 -- How long crossed lists are, and what a product of numbers is at least.
-use Rattle.std.proofs.Common.{ℕ, ◌≡◌, ◌≤◌, ◌*◌, List, [], ◌∷◌, length, arith, map, length-append}
-use Rattle.std.proofs.Math.Nat.{mul-le-mul}
-use Rattle.std.proofs.lemmas.List.{length-map}
+use Rattle.px_num.proofs.Basics.{ℕ, ◌≡◌, ◌≤◌, ◌*◌, List, [], ◌∷◌, length, arith, map, length-append, mul-le-mul}
+use Rattle.px_num.proofs.Basics.{length-map}
 use Rattle.px_normal.specs.declared.product.Product.{Product}
 use Rattle.px_normal.specs.Forms.{both, crossed}
 

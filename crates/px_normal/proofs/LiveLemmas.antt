@@ -1,11 +1,10 @@
 -- Live products: a product of both is live only where each is, and one that holds at a place is live.
-use Rattle.std.proofs.Common.{ℕ, ◌≡◌, ◌<◌, ◌&&◌, not, Bool, true, false, List, [], ◌∷◌, ◌++◌, refl, ap}
-use Rattle.std.proofs.Common.{sym, ◌∙◌, arith, map, fold, max, min, nat_le, Option, Some, None}
-use Rattle.std.specs.List.{list_all, list_any, filter}
-use Rattle.std.proofs.lemmas.List.Elements.{filter-append}
+use Rattle.px_num.proofs.Basics.{nat_tests, common_steps, ℕ, ◌≡◌, ◌<◌, ◌&&◌, not, Bool, true, false, List, [], ◌∷◌}
+use Rattle.px_num.proofs.Basics.{◌++◌, refl, ap, sym, ◌∙◌, arith, map, fold, max, min, nat_le, Option, Some, None}
+use Rattle.px_num.proofs.Basics.{list_all, list_any, filter, filter-append}
 use Rattle.std.proofs.lemmas.Map.Views.{any-filter_same}
 use Rattle.px_num.proofs.TruthLaws.{and_left, and_right, not_both, not_false, not_true, or_left, or_right}
-use Rattle.px_expr.specs.Cells.{Cell, combination_of, complement_of, opposite}
+use Rattle.px_expr.specs.Cells.{Cell, combination_of, complement_of}
 use Rattle.px_expr.specs.declared.node.Op.{Op}
 use Rattle.px_expr.specs.declared.node.Sense.{Sense}
 use Rattle.px_expr.specs.declared.node.Sense.TheVariants.{Plain, Complement}
@@ -43,14 +42,10 @@ most_other m n x e = grind arith
 -- cells of a common part
 module _ (x y z : ℕ) where
   in_first : (a b : CellBox) → lies_in (common_part a b) x y z ≡ true → lies_in a x y z ≡ true
-  in_first a b e =
-      and_mono (and_mono (and_mono (and_mono (and_mono (least_past a.x0 b.x0 x) (most_past a.x1 b.x1 x))
-      (least_past a.y0 b.y0 y)) (most_past a.y1 b.y1 y)) (least_past a.z0 b.z0 z)) (most_past a.z1 b.z1 z) e
+  in_first a b e = grind (arith, and_mono, least_past, most_past)
 
   in_second : (a b : CellBox) → lies_in (common_part a b) x y z ≡ true → lies_in b x y z ≡ true
-  in_second a b e =
-      and_mono (and_mono (and_mono (and_mono (and_mono (least_other a.x0 b.x0 x) (most_other a.x1 b.x1 x))
-      (least_other a.y0 b.y0 y)) (most_other a.y1 b.y1 y)) (least_other a.z0 b.z0 z)) (most_other a.z1 b.z1 z) e
+  in_second a b e = grind (arith, and_mono, least_other, most_other)
 
   of_narrowed : (a b : Option CellBox) → is_in_box (narrowed a b) x y z ≡ true → (is_in_box a x y z ≡ true)
       × (is_in_box b x y z ≡ true)
@@ -64,8 +59,7 @@ module _ (x y z : ℕ) where
 
   module _ (boxes : ℕ → Option CellBox) where
     in_all : (start : Option CellBox) (qs : List ℕ) → is_in_box start x y z ≡ true
-        → list_all (λ q. is_in_box (boxes q) x y z)
-        qs ≡ true
+        → list_all (λ q. is_in_box (boxes q) x y z) qs ≡ true
         → is_in_box (fold (λ part q. narrowed part (boxes q)) start qs) x y z ≡ true
     in_all start [] e f = e
     in_all start (q ∷ qs) e f =
@@ -74,9 +68,8 @@ module _ (x y z : ℕ) where
         (in_narrowed x y z start (boxes q) e (and_left (is_in_box (boxes q) x y z) rest f))
         (and_right (is_in_box (boxes q) x y z) rest f)
 
-    in_start : (start : Option CellBox) (qs : List ℕ) → is_in_box (fold (λ part q. narrowed part (boxes q)) start qs)
-        x y
-        z ≡ true → is_in_box start x y z ≡ true
+    in_start : (start : Option CellBox) (qs : List ℕ)
+        → is_in_box (fold (λ part q. narrowed part (boxes q)) start qs) x y z ≡ true → is_in_box start x y z ≡ true
     in_start start [] e = e
     in_start start (q ∷ qs) e = (of_narrowed start (boxes q) (in_start (narrowed start (boxes q)) qs e)).0
 
@@ -84,11 +77,7 @@ module _ (x y z : ℕ) where
         y z
         ≡ true → list_all (λ q. is_in_box (boxes q) x y z) qs ≡ true
     in_each start [] e = refl
-    in_each start (q ∷ qs) e =
-        rw (
-          (of_narrowed start (boxes q) (in_start (narrowed start (boxes q)) qs e)).1,
-          in_each (narrowed start (boxes q)) qs e,
-        ) refl
+    in_each start (q ∷ qs) e = grind (arith, of_narrowed, in_start, in_each (narrowed start (boxes q)) qs e)
 
 first_cell : (b : CellBox) → has_cell b ≡ true → lies_in b b.x0 b.y0 b.z0 ≡ true
 first_cell b some = grind arith
@@ -122,8 +111,7 @@ part_of_both boxes a b =
       same_test false false there back = refl
 
       at_first : (box : Option CellBox) → narrowed (box_of_all boxes (solids a)) (box_of_all boxes (solids b)) ≡ box
-          → has_some_cell box ≡ true
-          → has_some_cell (box_of_all boxes (solids (sets_joined a b))) ≡ true
+          → has_some_cell box ≡ true → has_some_cell (box_of_all boxes (solids (sets_joined a b))) ≡ true
       at_first None is some = absurd cc
       at_first (Some c) is some =
           let x = c.x0 in let y = c.y0 in let z = c.z0
@@ -167,19 +155,7 @@ live_by_parts boxes p q first second one other =
 apart_from : (plain barred more others : SolidSet) → ((q : ℕ) → q < 256 → has plain q ≡ true → has more q ≡ true)
     → ((q : ℕ) → q < 256 → has barred q ≡ true → has others q ≡ true)
     → list_any (has others) (solids more) ≡ false → list_any (has barred) (solids plain) ≡ false
-apart_from plain barred more others within beyond apart =
-    no_void plain (has barred)
-    ∙ ap not ((all-each (λ q. not (has barred q)) plain).1
-    (λ q lt there. kept (has barred q) (has others q) (beyond q lt) ((all-each (λ q. not (has others q)) more).0 all
-    q lt (within q lt there)))) where
-      all : list_all (λ q. not (has others q)) (solids more) ≡ true
-      all = not_false (list_all (λ q. not (has others q)) (solids more)) (sym (no_void more (has others)) ∙ apart)
-
-      kept : (a b : Bool) → (a ≡ true → b ≡ true) → not b ≡ true → not a ≡ true
-      kept true b more none = absurd (never b (more refl) none) where
-        never : (b : Bool) → b ≡ true → not b ≡ true → ⊥
-        never b e f = grind arith
-      kept false b more none = refl
+apart_from plain barred more others within beyond apart = grind (arith, no_void, all-each, not_false)
 
 module _ (boxes : ℕ → Option CellBox) where
   -- a product of some of the solids of a live one is live
@@ -210,8 +186,7 @@ module _ (boxes : ℕ → Option CellBox) where
 -- lists by what is kept of them
 module _ (L : Product → Bool) where
   kept_more : (p : Product) (ps qs : List Product) → filter L ps ≡ filter L qs → filter L (p ∷ ps) ≡ filter L (p ∷ qs)
-  kept_more p ps qs same = filter-append L (p ∷ []) ps ∙ ap (λ rest. filter L (p ∷ []) ++ rest) same
-      ∙ sym (filter-append L (p ∷ []) qs)
+  kept_more p ps qs same = grind (arith, filter-append)
 
   kept_both : (ps qs rs ts : List Product) → filter L ps ≡ filter L rs → filter L qs ≡ filter L ts
       → filter L (ps ++ qs) ≡ filter L (rs ++ ts)
@@ -219,11 +194,7 @@ module _ (L : Product → Bool) where
 
   kept_again : (ps : List Product) → filter L ps ≡ filter L (filter L ps)
   kept_again [] = refl
-  kept_again (p ∷ ps) = step (L p) refl (kept_again ps) where
-    step : (b : Bool) → L p ≡ b → filter L ps ≡ filter L (filter L ps) → filter L (p ∷ ps)
-        ≡ filter L (filter L (p ∷ ps))
-    step true e rest = rw (e, e) (ap (λ qs. p ∷ qs) rest)
-    step false e rest = rw e rest
+  kept_again (p ∷ ps) = grind (arith, kept_again ps)
 
   kept_appended : (ps qs : List Product) → filter L (ps ++ qs) ≡ filter L (filter L ps ++ filter L qs)
   kept_appended ps qs = kept_both ps qs (filter L ps) (filter L qs) (kept_again ps) (kept_again qs)
@@ -232,9 +203,7 @@ module _ (L : Product → Bool) where
   module _ (first : (p q : Product) → L (both p q) ≡ true → L p ≡ true) (second : (p q : Product) → L (both p q)
       ≡ true → L q ≡ true) where
     dropped : (a b : Bool) → (a ≡ true → b ≡ true) → b ≡ false → a ≡ false
-    dropped true b keeps none = absurd (never b (keeps refl) none) where
-      never : (b : Bool) → b ≡ true → b ≡ false → ⊥
-      never b e f = grind arith
+    dropped true b keeps none = grind arith
     dropped false b keeps none = refl
 
     none_with : (p : Product) → L p ≡ false → (qs : List Product) → filter L (map (both p) qs) ≡ []
@@ -243,22 +212,11 @@ module _ (L : Product → Bool) where
 
     kept_with : (p : Product) (qs : List Product) → filter L (map (both p) qs) ≡ filter L (map (both p) (filter L qs))
     kept_with p [] = refl
-    kept_with p (q ∷ qs) = step (L q) refl (kept_with p qs) where
-      step : (b : Bool) → L q ≡ b → filter L (map (both p) qs) ≡ filter L (map (both p) (filter L qs))
-          → filter L (map (both p) (q ∷ qs)) ≡ filter L (map (both p) (filter L (q ∷ qs)))
-      step true e rest = rw e (kept_more (both p q) (map (both p) qs) (map (both p) (filter L qs)) rest)
-      step false e rest = rw (e, dropped (L (both p q)) (L q) (second p q) e) rest
+    kept_with p (q ∷ qs) = grind (arith, kept_more, dropped, kept_with p qs)
 
     kept_crossed : (ps qs : List Product) → filter L (crossed ps qs) ≡ filter L (crossed (filter L ps) (filter L qs))
     kept_crossed [] qs = refl
-    kept_crossed (p ∷ ps) qs = step (L p) refl (kept_crossed ps qs) where
-      step : (b : Bool) → L p ≡ b → filter L (crossed ps qs) ≡ filter L (crossed (filter L ps) (filter L qs))
-          → filter L (map (both p) qs ++ crossed ps qs) ≡ filter L (crossed (filter L (p ∷ ps)) (filter L qs))
-      step true e rest =
-          rw e (kept_both (map (both p) qs) (crossed ps qs) (map (both p) (filter L qs))
-          (crossed (filter L ps) (filter L qs)) (kept_with p qs) rest)
-      step false e rest = rw e (kept_both (map (both p) qs) (crossed ps qs) [] (crossed (filter L ps) (filter L qs))
-          (none_with p e qs) rest)
+    kept_crossed (p ∷ ps) qs = grind (arith, nat_tests, common_steps, kept_with, none_with, kept_crossed ps qs)
 
 module _ (boxes : ℕ → Option CellBox) where
   of_either : (ps qs : List Product) → filter (is_live boxes) (ps ++ qs) ≡ filter (is_live boxes)
@@ -277,10 +235,7 @@ module _ (boxes : ℕ → Option CellBox) where
       ≡ filter (is_live boxes) (sum_when k (live boxes x) (live boxes y))
   kept_when (Both s t) x y = rw (kept_in s x, kept_in t y) (of_both (sum_in s x) (sum_in t y))
   kept_when (Either s t) x y = rw (kept_in s x, kept_in t y) (of_either (sum_in s x) (sum_in t y))
-  kept_when (EitherWay s) x y =
-      rw (kept_in s y, kept_in (opposite s) y)
-      (kept_both (is_live boxes) (crossed x.products (sum_in s y)) (crossed x.complement (sum_in (opposite s) y)) _ _
-      (of_both x.products (sum_in s y)) (of_both x.complement (sum_in (opposite s) y)))
+  kept_when (EitherWay s) x y = grind (arith, kept_in, kept_both, of_both)
 
   forms_are : (a b c d : List Product) → a ≡ c → b ≡ d → ◌≡◌ {A = Forms} (record { products = a; complement = b })
       (record { products = c; complement = d })

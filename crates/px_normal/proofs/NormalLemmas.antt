@@ -1,15 +1,12 @@
 -- Normal forms say what the expression says.
-use Rattle.std.proofs.Common.{ℕ, ◌≡◌, ◌<◌, ◌==◌, ◌||◌, ◌&&◌, not, if◌then◌else◌, Bool, true, false, List, [], ◌∷◌}
-use Rattle.std.proofs.Common.{◌++◌, length, refl, ap, sym, ◌∙◌, arith, inl, inr}
-use Rattle.std.specs.List.{list_any, All}
-use Rattle.std.proofs.lemmas.List.Folds.{list_any-append}
-use Rattle.std.proofs.lemmas.List.Elements.{All-nil, All-cons, All-append}
-use Rattle.std.proofs.lemmas.Bool.Decides.{nat_tests}
+use Rattle.px_num.proofs.Basics.{ℕ, ◌≡◌, ◌<◌, ◌==◌, ◌||◌, ◌&&◌, not, Bool, true, false, List, [], ◌∷◌, ◌++◌, length}
+use Rattle.px_num.proofs.Basics.{refl, sym, ◌∙◌, arith, inl, inr, list_any, All, list_any-append, All-nil, All-cons}
+use Rattle.px_num.proofs.Basics.{All-append}
 use Rattle.px_num.proofs.TruthLaws.{or_cases, or_true}
 use Rattle.px_expr.specs.Tree.{Tree, leaf, join, HasLeavesBelow}
-use Rattle.px_expr.specs.Cells.{Cell, cell, where_true, has_face, shown_in, shown_when, shown_where, own_faces}
-use Rattle.px_expr.specs.Cells.{combined as cells_combined}
-use Rattle.px_expr.specs.Cells.{combination_of, complement_of, opposite, truth_in, truth_when}
+use Rattle.px_expr.specs.Cells.{Cell, cell, where_true, has_face, shown_in, shown_when, own_faces}
+use Rattle.px_expr.specs.Cells.{combined as cells_combined, combination_of, complement_of, opposite, truth_in}
+use Rattle.px_expr.specs.Cells.{truth_when}
 use Rattle.px_expr.proofs.CombinationLaws.{truth_of_complement}
 use Rattle.px_expr.proofs.OperatorLaws.{none_of_none}
 use Rattle.px_expr.specs.declared.node.Op.{Op}
@@ -20,25 +17,18 @@ use Rattle.px_expr.specs.declared.node.Combination.TheVariants.{Both, Either, Ei
 use Rattle.px_sets.specs.declared.set.SolidSet.{SolidSet}
 use Rattle.px_normal.specs.declared.product.Product.{Product}
 use Rattle.px_sets.specs.Sets.{has, empty, one, sets_joined, solids, IsBelow}
-use Rattle.px_normal.specs.Forms.{Forms, forms, combined_forms, both, crossed, sum_in, sum_when}
-use Rattle.px_normal.specs.Forms.{sum_of_products, plain_one, barred_one, HasPlain, HasSolidsBelow}
+use Rattle.px_normal.specs.Forms.{Forms, forms, combined_forms, both, crossed, sum_in, sum_when, sum_of_products}
+use Rattle.px_normal.specs.Forms.{plain_one, barred_one, HasPlain, HasSolidsBelow}
 use Rattle.px_normal.specs.NormalLaw.{holds, shows, IsNormalForm}
 use Rattle.px_sets.proofs.BitsLaws.{has-joined, has-one, has-empty}
 use Rattle.px_normal.proofs.CrossedLemmas.{any_crossed, shown_crossed, each_crossed}
 use Rattle.px_sets.proofs.SolidsLaws.{all-joined, any-joined, all-empty, any-empty, all-one, any-one}
 
 holds_both : (at : ℕ → Cell) (p q : Product) → holds at (both p q) ≡ holds at p && holds at q
-holds_both at p q = rw (
-  all-joined (λ k. (at k).member) p.plain q.plain,
-  all-joined (λ k. not (at k).member) p.barred
-      q.barred,
-) (grind arith)
+holds_both at p q = grind (arith, all-joined)
 
 shows_both : (at : ℕ → Cell) (n : ℕ) (p q : Product) → shows at n (both p q) ≡ shows at n p || shows at n q
-shows_both at n p q = rw (
-  any-joined (λ k. has_face n (at k).shown) p.plain q.plain,
-  any-joined (λ k. has_face n (at k).hidden) p.barred q.barred,
-) (grind arith)
+shows_both at n p q = grind (arith, any-joined)
 
 face_append : (n : ℕ) (xs ys : List ℕ) → has_face n (xs ++ ys) ≡ has_face n xs || has_face n ys
 face_append n xs ys = list_any-append (λ m. m == n) xs ys
@@ -49,29 +39,10 @@ face_where n false xs = refl
 
 face_own : (n : ℕ) (c : Cell) → has_face n (own_faces c) ≡ (c.member && has_face n c.shown)
     || (not c.member && has_face n c.hidden)
-face_own n c = own c.member where
-  own : (b : Bool) → has_face n (if b then c.shown else c.hidden) ≡ (b && has_face n c.shown)
-      || (not b && has_face n c.hidden)
-  own true = grind arith
-  own false = grind arith
+face_own n c = grind arith
 
 is_of_leaf : (at : ℕ → Cell) (q : ℕ) → q < 256 → IsNormalForm at (forms (leaf q)) (at q)
-is_of_leaf at q lt = record {
-  members = rw (all-one (λ k. (at k).member) q lt, all-empty (λ k. not (at k).member)) (grind arith);
-  others = rw (all-empty (λ k. (at k).member), all-one (λ k. not (at k).member) q lt) (grind arith);
-  shown = λ n. rw (
-    all-one (λ k. (at k).member) q lt,
-    all-empty (λ k. not (at k).member),
-    any-one (λ k. has_face n (at k).shown) q lt,
-    any-empty (λ k. has_face n (at k).hidden),
-  ) (grind arith);
-  hidden = λ n. rw (
-    all-empty (λ k. (at k).member),
-    all-one (λ k. not (at k).member) q lt,
-    any-empty (λ k. has_face n (at k).shown),
-    any-one (λ k. has_face n (at k).hidden) q lt,
-  ) (grind arith);
-}
+is_of_leaf at q lt = grind (arith, all-one, all-empty, any-one, any-empty)
 
 -- what is said of a side is said of it in either sense
 module _ (at : ℕ → Cell) (f : Forms) (c : Cell) (is : IsNormalForm at f c) where
@@ -103,20 +74,10 @@ module _ (at : ℕ → Cell) (f g : Forms) (c d : Cell) (p : IsNormalForm at f c
 
   -- the products of a combination hold where it has the cell
   members_when : (k : Combination) → list_any (holds at) (sum_when k f g) ≡ truth_when k c.member d.member
-  members_when (Both s t) =
-      of_both (sum_in s f) (sum_in t g) ∙ rw (members_in at f c p s, members_in at g d q t) refl
+  members_when (Both s t) = of_both (sum_in s f) (sum_in t g) ∙ rw (members_in at f c p s, members_in at g d q t) refl
   members_when (Either s t) =
       list_any-append (holds at) (sum_in s f) (sum_in t g) ∙ rw (members_in at f c p s, members_in at g d q t) refl
-  members_when (EitherWay s) =
-      list_any-append (holds at) (crossed f.products (sum_in s g)) (crossed f.complement (sum_in (opposite s) g))
-      ∙ rw (
-        of_both f.products (sum_in s g),
-        of_both f.complement (sum_in (opposite s) g),
-        p.members,
-        p.others,
-        members_in at g d q s,
-        members_in at g d q (opposite s),
-      ) refl
+  members_when (EitherWay s) = grind (arith, list_any-append, of_both, members_in)
 
   -- and show the faces that it shows there
   shown_either_way : (s : Sense) (n : ℕ) → list_any (λ x. holds at x && shows at n x) (sum_when (EitherWay s) f g)
@@ -124,58 +85,19 @@ module _ (at : ℕ → Cell) (f g : Forms) (c d : Cell) (p : IsNormalForm at f c
       || (c.member && (truth_in s d.member && has_face n (shown_in s d))))
       || ((not c.member && has_face n c.hidden) && truth_in (opposite s) d.member
       || (not c.member && (truth_in (opposite s) d.member && has_face n (shown_in (opposite s) d))))
-  shown_either_way s n =
-      list_any-append (λ x. holds at x && shows at n x) (crossed f.products (sum_in s g))
-      (crossed f.complement (sum_in (opposite s) g))
-      ∙ rw (
-        shown_of_both n f.products (sum_in s g),
-        shown_of_both n f.complement (sum_in (opposite s) g),
-        p.shown n,
-        p.hidden n,
-        p.members,
-        p.others,
-        shows_in at g d q s n,
-        shows_in at g d q (opposite s) n,
-        members_in at g d q s,
-        members_in at g d q (opposite s),
-      ) refl
+  shown_either_way s n = grind (arith, list_any-append, shown_of_both, shows_in, members_in)
 
   shows_when : (k : Combination) (n : ℕ) → list_any (λ x. holds at x && shows at n x) (sum_when k f g)
       ≡ truth_when k c.member d.member && has_face n (shown_when k c d)
-  shows_when (Both s t) n =
-      shown_of_both n (sum_in s f) (sum_in t g)
-      ∙ rw (
-        shows_in at f c p s n,
-        shows_in at g d q t n,
-        members_in at f c p s,
-        members_in at g d q t,
-        face_append n (shown_in s c) (shown_in t d),
-      ) (both_show (truth_in s c.member) (truth_in t d.member) _ _)
-  shows_when (Either s t) n =
-      list_any-append (λ x. holds at x && shows at n x) (sum_in s f) (sum_in t g)
-      ∙ rw (
-        shows_in at f c p s n,
-        shows_in at g d q t n,
-        face_append n (shown_where s c) (shown_where t d),
-        face_where n (truth_in s c.member) (shown_in s c),
-        face_where n (truth_in t d.member) (shown_in t d),
-      ) (either_shows (truth_in s c.member) (truth_in t d.member) _ _)
+  shows_when (Both s t) n = grind (arith, shown_of_both, shows_in, members_in, face_append, both_show)
+  shows_when (Either s t) n = grind (arith, list_any-append, shows_in, face_append, face_where, either_shows)
   shows_when (EitherWay Plain) n =
       shown_either_way Plain n ∙ rw (face_append n, face_own n c, face_own n d) (grind arith)
   shows_when (EitherWay Complement) n =
       shown_either_way Complement n ∙ rw (face_append n, face_own n c, face_own n d) (grind arith)
 
   is_of_combined : (op : Op) → IsNormalForm at (combined_forms op f g) (cells_combined op c d)
-  is_of_combined op =
-      let k = combination_of op in
-      let other = truth_of_complement k c.member d.member in
-      record {
-        members = members_when k;
-        others = members_when (complement_of k) ∙ other;
-        shown = shows_when k;
-        hidden = λ n. shows_when (complement_of k) n
-            ∙ ap (λ test. test && has_face n (shown_when (complement_of k) c d)) other;
-      }
+  is_of_combined op = grind (arith, truth_of_complement, members_when, shows_when)
 
 pub is_normal_form : (at : ℕ → Cell) (tree : Tree) → HasLeavesBelow 256 tree
     → IsNormalForm at (forms tree) (cell at tree)
@@ -196,8 +118,7 @@ plain_both : (p q : Product) → HasPlain p → HasPlain (both p q)
 plain_both p q plain = some_any _ (rw (any-joined (λ _. true) p.plain q.plain, any_some (solids p.plain) plain) refl)
 
 plain_right : (p q : Product) → HasPlain q → HasPlain (both p q)
-plain_right p q plain = some_any _ (rw (any-joined (λ _. true) p.plain q.plain, any_some (solids q.plain) plain)
-    (or_true (list_any (λ _. true) (solids p.plain))))
+plain_right p q plain = grind (arith, some_any, any-joined, any_some, or_true)
 
 anything : (ps : List Product) → All (λ _. Unit {0}) ps
 anything ps = λ i any lt. tt
@@ -227,8 +148,7 @@ pub all_plain : (tree : Tree) → HasLeavesBelow 256 tree → All HasPlain (sum_
 all_plain (leaf solid) below =
     All-cons HasPlain (plain_one solid) [] (some_any _ (any-one (λ _. true) solid below)) (All-nil HasPlain)
 all_plain (join op left right) below =
-    plain_when (combination_of op) (forms left) (forms right) (none_of_none op) (all_plain left below.0)
-    (all_plain right below.1)
+    grind (arith, plain_when, none_of_none, all_plain left below.0, all_plain right below.1)
 
 -- each solid of a product is one of the leaves'
 below_joined : (count : ℕ) (a b : SolidSet) → IsBelow count a → IsBelow count b → IsBelow count (sets_joined a b)
@@ -239,14 +159,10 @@ below_joined count a b first second solid lt in_both =
     ]
 
 below_one : (count solid : ℕ) → solid < 256 → solid < count → IsBelow count (one solid)
-below_one count solid fits lt other small in_one = same other solid (sym (has-one solid other fits) ∙ in_one) lt where
-  same : (q s : ℕ) → (q == s) ≡ true → s < count → q < count
-  same q s e below = grind (arith, nat_tests)
+below_one count solid fits lt other small in_one = grind (arith, has-one)
 
 below_empty : (count : ℕ) → IsBelow count empty
-below_empty count solid lt in_empty = absurd (never (sym (has-empty solid) ∙ in_empty)) where
-  never : false ≡ true → ⊥
-  never e = cc
+below_empty count solid lt in_empty = grind (arith, has-empty)
 
 below_both : (count : ℕ) (p q : Product) → HasSolidsBelow count p → HasSolidsBelow count q
     → HasSolidsBelow count (both p q)

@@ -1,10 +1,7 @@
 -- Where no "^" stands, a wanted list is no longer than the list of the root that is made of it.
-use Rattle.std.proofs.Common.{ℕ, ◌≡◌, ◌≤◌, Bool, true, false, List, [], ◌∷◌, ◌++◌, length, length-append, nat_lt}
-use Rattle.std.proofs.Common.{refl, arith, Option, None}
-use Rattle.std.specs.List.{All, filter}
-use Rattle.std.proofs.lemmas.Bool.Decides.{nat_tests}
-use Rattle.std.proofs.lemmas.List.Elements.{All-nil, All-cons, All-append, All-head, All-tail}
-use Rattle.std.proofs.lemmas.List.Sums.{length-filter, count_by-le-length}
+use Rattle.px_num.proofs.Basics.{ℕ, ◌≡◌, ◌≤◌, Bool, true, false, List, [], ◌∷◌, ◌++◌, length, length-append, nat_lt}
+use Rattle.px_num.proofs.Basics.{refl, arith, Option, None, All, filter, nat_tests, All-nil, All-cons, All-append}
+use Rattle.px_num.proofs.Basics.{All-head, All-tail, length-filter, count_by-le-length}
 use Rattle.px_expr.specs.Tree.{Tree, leaf, join}
 use Rattle.px_expr.specs.Cells.{combination_of, complement_of, opposite}
 use Rattle.px_expr.proofs.OperatorLaws.{IsOneWay, one_way}
@@ -16,7 +13,6 @@ use Rattle.px_sets.specs.declared.cell_box.CellBox.{CellBox}
 use Rattle.px_normal.specs.declared.product.Product.{Product}
 use Rattle.px_normal.specs.declared.step.Wanted.{Wanted}
 use Rattle.px_normal.specs.Forms.{Forms, crossed, forms, sum_in, sum_when, sum_of_products}
-use Rattle.px_normal.specs.Live.{is_live}
 use Rattle.px_normal.specs.Crowd.{both_lists, crowd, first_past_limit, of_left, of_right, of_root, wanted_forms}
 use Rattle.px_normal.specs.Crowd.{left_when, right_when, wanted_in, wanted_lists, where_wanted}
 use Rattle.px_normal.specs.CrowdLaw.{HasNoDiffer}
@@ -59,12 +55,7 @@ some_when (EitherWay s) x y left right = some_appended _ _ (some_crossed _ _ lef
 
 some_forms : (tree : Tree) → HasSome (forms tree)
 some_forms (leaf solid) = record { products = omega arith; complement = omega arith }
-some_forms (join op left right) =
-    let x = some_forms left in let y = some_forms right
-    in record {
-      products = some_when (combination_of op) (forms left) (forms right) x y;
-      complement = some_when (complement_of (combination_of op)) (forms left) (forms right) x y;
-    }
+some_forms (join op left right) = grind (arith, some_when, some_forms left, some_forms right)
 
 -- the lists of a node that are wanted are within a limit
 record IsWithin (limit : ℕ) (wanted : Wanted) (x : Forms) : Type 0 where
@@ -120,9 +111,7 @@ module _ (boxes : ℕ → Option CellBox) (limit : ℕ) where
 
   own_within : (wanted : Wanted) (x : Forms) → IsWithin limit wanted x
       → All (IsShort limit) (both_lists (wanted_forms boxes wanted x))
-  own_within wanted x is = both_short _ _
-      (kept_within limit wanted.products (is_live boxes) x.products is.products)
-      (kept_within limit wanted.complement (is_live boxes) x.complement is.complement)
+  own_within wanted x is = grind (arith, both_short, kept_within)
 
   all_within : (wanted : Wanted) (tree : Tree) → HasNoDiffer tree → IsWithin limit wanted (forms tree)
       → All (IsShort limit) (wanted_lists boxes wanted tree)
@@ -147,9 +136,7 @@ none_past (list ∷ lists) all = rw (within (length list) (All-head (IsShort MAX
       within n few = grind (arith, nat_tests)
 
 root_within : (limit : ℕ) (tree : Tree) → length (sum_of_products tree) ≤ limit → IsWithin limit of_root (forms tree)
-root_within limit tree few = record { products = λ w. few; complement = λ w. absurd (never w) } where
-  never : false ≡ true → ⊥
-  never e = cc
+root_within limit tree few = grind arith
 
 pub all_shorter : (boxes : ℕ → Option CellBox) (tree : Tree) → HasNoDiffer tree
     → All (λ list. length list ≤ length (sum_of_products tree)) (wanted_lists boxes of_root tree)

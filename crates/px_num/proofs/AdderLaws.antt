@@ -1,12 +1,9 @@
 -- Laws of sums of integers, bit by bit from the lowest.
-use Rattle.std.proofs.Common.{◌≡◌, ℕ, zero, suc, ◌+◌, ◌-◌, ◌*◌, ◌/◌, ◌%◌, ◌^◌, ◌<◌, ◌==◌, ℤ, pos, negsuc, ◌+ℤ◌, Bool}
-use Rattle.std.proofs.Common.{true, false, nat_le, not, refl, ap, ◌∙◌, arith}
-use Rattle.std.proofs.lemmas.Int.{ints}
-use Rattle.std.proofs.lemmas.Bool.Decides.{nat_tests}
-use Rattle.std.proofs.lemmas.Nat.Bits.{bit_at-suc}
-use Rattle.std.proofs.lemmas.Nat.{mod-pow-add}
+use Rattle.px_num.proofs.Basics.{◌≡◌, ℕ, zero, suc, ◌+◌, ◌-◌, ◌*◌, ◌/◌, ◌%◌, ◌^◌, ◌<◌, ◌==◌, ℤ, pos, negsuc, ◌+ℤ◌, Bool}
+use Rattle.px_num.proofs.Basics.{true, false, nat_le, not, refl, ap, ◌∙◌, arith, ints, nat_tests, bit_at-suc}
+use Rattle.px_num.proofs.Basics.{mod-pow-add}
 use Rattle.px_num.proofs.BitLaws.{modulo_below}
-use Rattle.px_num.specs.Bits.{bit_of, carry_from, majority, modulo, nat_bit, xor}
+use Rattle.px_num.specs.Bits.{bit_of, carry_from, majority, modulo, xor}
 use Rattle.px_num.proofs.TruthLaws.{double_pow}
 
 -- a bit as a number
@@ -28,14 +25,8 @@ number_turned false = refl
 
 -- an integer by its half and its lowest bit
 pub whole : (z : ℤ) → z ≡ (half z +ℤ half z) +ℤ pos (number (bit_of z 0))
-whole (pos n) =
-    let all : n / 2 ^ 0 ≡ n = omega arith in
-    let low : number (n / 2 ^ 0 % 2 == 1) ≡ n / 2 ^ 0 % 2 = number_test (n / 2 ^ 0 % 2) (omega arith) in
-    omega (arith, ints, low, all)
-whole (negsuc n) =
-    let all : n / 2 ^ 0 ≡ n = omega arith in
-    let low : number (n / 2 ^ 0 % 2 == 1) ≡ n / 2 ^ 0 % 2 = number_test (n / 2 ^ 0 % 2) (omega arith) in
-    omega (arith, ints, low, all, number_turned (n / 2 ^ 0 % 2 == 1))
+whole (pos n) = grind (arith, number_test)
+whole (negsuc n) = grind (arith, number_test, number_turned)
 
 number_below : (b : Bool) → number b < 2
 number_below true = omega arith
@@ -48,9 +39,7 @@ same_bit true false e = absurd (omega arith)
 same_bit false true e = absurd (omega arith)
 
 lowest_number : (n : ℕ) → number (bit_of (pos n) 0) ≡ n % 2
-lowest_number n =
-    let all : n / 2 ^ 0 ≡ n = omega arith in
-    rw all (number_test (n % 2) (omega arith))
+lowest_number n = grind (arith, number_test)
 
 -- a rest by the rest of the half
 rest_half : (n width : ℕ) → n % 2 ^ suc width ≡ 2 * (n / 2 % 2 ^ width) + n % 2
@@ -99,8 +88,7 @@ bit_of-sum first u v z (suc t) e =
     let rest = (half u +ℤ half v) +ℤ pos (number carried) in
     let high = half_is z rest (xor (bit_of u 0) (xor (bit_of v 0) first))
     (omega (arith, ints, e, whole u, whole v, bits)) in
-    rw (bit_of-half z t, bit_of-half u t, bit_of-half v t, carry_from-half first u v t)
-    (bit_of-sum carried (half u) (half v) (half z) t high)
+    grind (arith, bit_of-half, carry_from-half, bit_of-sum carried (half u) (half v) (half z) t high)
 
 pub sum_bit : (u v : ℤ) (t : ℕ) → bit_of (u +ℤ v) t ≡ xor (bit_of u t) (xor (bit_of v t) (carry_from false u v t))
 sum_bit u v t = bit_of-sum false u v (u +ℤ v) t (omega (arith, ints))
@@ -119,11 +107,7 @@ flipped (negsuc n) = pos n
 
 pub flipped_bit : (z : ℤ) (t : ℕ) → bit_of (flipped z) t ≡ not (bit_of z t)
 flipped_bit (pos n) t = refl
-flipped_bit (negsuc n) t = twice (nat_bit n t)
-  where
-    twice : (b : Bool) → b ≡ not (not b)
-    twice true = refl
-    twice false = refl
+flipped_bit (negsuc n) t = grind arith
 
 pub modulo-flipped : (z : ℤ) (width : ℕ) → modulo (flipped z) width ≡ 2 ^ width - 1 - modulo z width
 modulo-flipped (pos n) width = refl
@@ -131,9 +115,7 @@ modulo-flipped (negsuc n) width = omega (arith, modulo_below (pos n) width)
 
 -- an integer modulo 2^width by its half and its lowest bit
 modulo-half : (z : ℤ) (width : ℕ) → modulo z (suc width) ≡ 2 * modulo (half z) width + number (bit_of z 0)
-modulo-half (pos n) width =
-    let low : number (bit_of (pos n) 0) ≡ n % 2 = lowest_number n in
-    rest_half n width ∙ omega (arith, low)
+modulo-half (pos n) width = grind (arith, lowest_number, rest_half)
 modulo-half (negsuc n) width =
     let low : number (bit_of (pos n) 0) ≡ n % 2 = lowest_number n in
     omega (

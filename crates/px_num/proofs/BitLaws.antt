@@ -1,13 +1,7 @@
 -- Laws of single bits.
-use Rattle.std.specs.Prelude.{◌≡◌, ℕ, zero, suc, ◌+◌, ◌-◌, ◌*◌, ◌/◌, ◌%◌, ◌^◌, ◌<◌, ◌≤◌, ◌==◌, ℤ, pos, negsuc, ◌≤ℤ◌}
-use Rattle.std.specs.Prelude.{◌<ℤ◌, neg_ℤ, false, not}
-use Rattle.std.specs.Int.{is_negative}
-use Rattle.std.proofs.Common.{sym, ap, ◌∙◌, arith}
-use Rattle.std.proofs.Math.Nat.{one-le-pow}
-use Rattle.std.proofs.lemmas.Int.{ints}
-use Rattle.std.proofs.lemmas.Bool.Decides.{nat_tests}
-use Rattle.std.proofs.lemmas.Nat.{pow-add, shr_split, mod_below}
-use Rattle.std.proofs.lemmas.Nat.Bits.{bit_at_above, bit_at_cat_low, bit_at-suc}
+use Rattle.px_num.proofs.Basics.{◌≡◌, ℕ, zero, suc, ◌+◌, ◌-◌, ◌*◌, ◌/◌, ◌%◌, ◌^◌, ◌<◌, ◌≤◌, ◌==◌, ℤ, pos, negsuc, ◌≤ℤ◌}
+use Rattle.px_num.proofs.Basics.{◌<ℤ◌, neg_ℤ, false, not, is_negative, sym, ap, ◌∙◌, arith, one-le-pow, nat_tests}
+use Rattle.px_num.proofs.Basics.{pow-add, shr_split, mod_below, bit_at_above, bit_at_cat_low, bit_at-suc}
 use Rattle.px_num.specs.Bits.{bit_of, modulo, nat_bit}
 
 pub pow_above : (e : ℕ) → 0 < 2 ^ e
@@ -19,13 +13,8 @@ nat_bit_above n width t within past = ap (λ b. b == 1) (bit_at_above n width t 
 
 -- from its width on, each bit of an integer is its sign
 pub sign_bit : (v : ℤ) (t : ℕ) → neg_ℤ (pos (2 ^ t)) ≤ℤ v → v <ℤ pos (2 ^ t) → bit_of v t ≡ is_negative v
-sign_bit (pos n) t low high =
-    let within : n < 2 ^ t = omega (arith, ints) in
-    let not_below : is_negative (pos n) ≡ false = grind (arith, nat_tests) in
-    nat_bit_above n t t within (omega arith) ∙ sym not_below
-sign_bit (negsuc n) t low high =
-    let within : n < 2 ^ t = omega (arith, ints) in
-    ap not (nat_bit_above n t t within (omega arith))
+sign_bit (pos n) t low high = grind (arith, nat_bit_above)
+sign_bit (negsuc n) t low high = grind (arith, nat_bit_above)
 
 -- the low bits of a number are those of its rest
 nat_bit_rest : (n width t : ℕ) → t < width → nat_bit n t ≡ nat_bit (n % 2 ^ width) t
@@ -39,16 +28,11 @@ turned p q below_p below_q sum = grind (arith, nat_tests)
 -- two numbers whose sum has all the bits below `width` have none in common there
 nat_bit_turned : (width n m t : ℕ) → t < width → n + m + 1 ≡ 2 ^ width → not (nat_bit n t) ≡ nat_bit m t
 nat_bit_turned zero n m t low sum = absurd (omega arith)
-nat_bit_turned (suc width) n m zero low sum =
-    let double : 2 ^ suc width ≡ 2 * 2 ^ width = ap (λ e. 2 ^ e) (omega arith) ∙ pow-add 2 1 width in
-    let all_n : n / 2 ^ 0 ≡ n = omega arith in
-    let all_m : m / 2 ^ 0 ≡ m = omega arith in
-    rw (all_n, all_m) (turned (n % 2) (m % 2) (omega arith) (omega arith) (omega (arith, double)))
+nat_bit_turned (suc width) n m zero low sum = grind (arith, pow-add, turned)
 nat_bit_turned (suc width) n m (suc t) low sum =
     let double : 2 ^ suc width ≡ 2 * 2 ^ width = ap (λ e. 2 ^ e) (omega arith) ∙ pow-add 2 1 width in
     let halves : n / 2 + m / 2 + 1 ≡ 2 ^ width = omega (arith, double) in
-    ap (λ b. not (b == 1)) (bit_at-suc n t)
-    ∙ (nat_bit_turned width (n / 2) (m / 2) t (omega arith) halves ∙ ap (λ b. b == 1) (sym (bit_at-suc m t)))
+    grind (arith, bit_at-suc, nat_bit_turned width (n / 2) (m / 2) t (omega arith) halves)
 
 -- the bits of an integer below `width` are those of the integer modulo 2^width
 pub modulo_bit : (v : ℤ) (width t : ℕ) → t < width → bit_of v t ≡ nat_bit (modulo v width) t

@@ -1,9 +1,6 @@
 -- Laws of the values of linear forms.
-use Rattle.std.specs.Prelude.{◌≡◌, ℕ, zero, suc, ◌+◌, ◌-◌, ◌*◌, ◌^◌, ◌≤◌, ℤ, pos, negsuc, ◌+ℤ◌, ◌-ℤ◌, ◌*ℤ◌}
-use Rattle.std.proofs.Common.{arith}
-use Rattle.std.proofs.Math.IntN.{*ℤ-zero}
-use Rattle.std.proofs.Math.Nat.{mul-le-mul}
-use Rattle.std.proofs.lemmas.Int.{ints}
+use Rattle.px_num.proofs.Basics.{nat_tests, common_steps, ◌≡◌, ℕ, zero, suc, ◌+◌, ◌-◌, ◌*◌, ◌^◌, ◌≤◌, ℤ, pos, negsuc}
+use Rattle.px_num.proofs.Basics.{◌+ℤ◌, ◌-ℤ◌, ◌*ℤ◌, arith, *ℤ-zero, mul-le-mul, ints}
 use Rattle.px_num.specs.declared.linear.Linear.{Linear}
 use Rattle.px_num.specs.Forms.{IsInHalfRange, IsInTreeRange, IsWithin, less_one, minus, plus, value_at}
 
@@ -28,11 +25,7 @@ pub value_at-minus : (p q : Linear) (x y : ℕ) → value_at (minus p q) x y ≡
 value_at-minus p q x y = omega (arith, ints, -ℤ-times p.a q.a x, -ℤ-times p.b q.b y)
 
 pub IsInTreeRange-minus : (p q : Linear) → IsInHalfRange p → IsInHalfRange q → IsInTreeRange (minus p q)
-IsInTreeRange-minus p q half_p half_q = record {
-  a = (omega (arith, ints, half_p.a.0, half_q.a.1), omega (arith, ints, half_p.a.1, half_q.a.0));
-  b = (omega (arith, ints, half_p.b.0, half_q.b.1), omega (arith, ints, half_p.b.1, half_q.b.0));
-  c = (omega (arith, ints, half_p.c.0, half_q.c.1), omega (arith, ints, half_p.c.1, half_q.c.0));
-}
+IsInTreeRange-minus p q half_p half_q = grind (arith, nat_tests, common_steps)
 
 pub value_at-less_one : (p : Linear) (x y : ℕ) → value_at (less_one p) x y ≡ value_at p x y -ℤ pos 1
 value_at-less_one p x y = omega (arith, ints)
@@ -41,14 +34,8 @@ pub value_at-plus : (p : Linear) (n x y : ℕ) → value_at (plus p n) x y ≡ v
 value_at-plus p n x y = omega (arith, ints)
 
 times_within : (a : ℤ) (x m k : ℕ) → IsWithin m a → x ≤ k → IsWithin (m * k) (a *ℤ pos x)
-times_within (pos n) x m k within below =
-    let fits : n ≤ m = omega (arith, ints, within.1) in
-    let product : n * x ≤ m * k = mul-le-mul fits below in
-    (omega (arith, ints), omega (arith, ints, product))
-times_within (negsuc n) x m k within below =
-    let fits : suc n ≤ m = omega (arith, ints, within.0) in
-    let product : suc n * x ≤ m * k = mul-le-mul fits below in
-    (omega (arith, ints, product), omega (arith, ints))
+times_within (pos n) x m k within below = grind (arith, mul-le-mul)
+times_within (negsuc n) x m k within below = grind (arith, mul-le-mul)
 
 -- the values on a screen
 pub value_within : (form : Linear) (x y : ℕ) → IsInTreeRange form → x ≤ 511 → y ≤ 511

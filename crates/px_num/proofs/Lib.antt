@@ -1,4 +1,5 @@
 pub mod AdderLaws
+pub mod Basics
 pub mod BitLaws
 pub mod FormLaws
 pub mod ListLaws

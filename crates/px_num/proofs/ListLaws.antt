@@ -1,8 +1,6 @@
 -- Laws of lists that are known place by place.
-use Rattle.std.specs.Prelude.{◌≡◌, ℕ, ◌<◌, List, length, get_or}
-use Rattle.std.proofs.Common.{sym, ◌∙◌, arith}
-use Rattle.std.proofs.lemmas.List.{same_lists, get_or_default}
-use Rattle.std.proofs.lemmas.List.FromFn.{get_or-map-range_with_len, length-map-range_with_len}
+use Rattle.px_num.proofs.Basics.{◌≡◌, ℕ, ◌<◌, List, length, get_or, arith, same_lists, get_or_default}
+use Rattle.px_num.proofs.Basics.{get_or-map-range_with_len, length-map-range_with_len}
 use Rattle.px_num.specs.Lists.{tabulate}
 
 pub length-tabulate : {A : Type 0} (n : ℕ) (f : ℕ → A) → length (tabulate n f) ≡ n
@@ -14,7 +12,4 @@ get_or-tabulate n f k d within = get_or-map-range_with_len f 0 n k k d within (o
 -- a list whose elements are those of a function is that function's
 pub is_tabulate : {A : Type 0} (xs : List A) (n : ℕ) (f : ℕ → A) (e : A) → length xs ≡ n
     → ((k : ℕ) → k < n → get_or xs k e ≡ f k) → xs ≡ tabulate n f
-is_tabulate xs n f e len each =
-    same_lists xs (tabulate n f) (len ∙ sym (length-tabulate n f)) (λ k d in_list.
-    let within : k < n = omega arith in
-    get_or_default xs k d e in_list ∙ each k within ∙ sym (get_or-tabulate n f k d within))
+is_tabulate xs n f e len each = grind (arith, same_lists, length-tabulate, get_or_default, get_or-tabulate)

@@ -1,9 +1,6 @@
 -- The greatest and the least of whole numbers, by tests of each of them.
-use Rattle.std.proofs.Common.{ℤ, ◌≡◌, ◌&&◌, Bool, List, [], ◌∷◌, ap, sym, ◌∙◌, arith, map, fold}
-use Rattle.std.proofs.Math.Path.{fun_ext}
-use Rattle.std.specs.Int.{int_max, int_min}
-use Rattle.std.specs.List.{list_all}
-use Rattle.std.proofs.lemmas.Int.{ints}
+use Rattle.px_num.proofs.Basics.{ℤ, ◌≡◌, ◌&&◌, Bool, List, [], ◌∷◌, ap, sym, arith, map, fold, fun_ext, int_max}
+use Rattle.px_num.proofs.Basics.{int_min, list_all, ints}
 use Rattle.px_num.proofs.TruthLaws.{and_both, and_true}
 use lib.Signed.{lt_z, le_z}
 
@@ -19,11 +16,9 @@ and_min a b z = grind (arith, ints)
 pub all_max : {X : Type 0} (v : X → ℤ) (xs : List X) (m z : ℤ) → le_z (fold int_max m (map v xs)) z
     ≡ (le_z m z && list_all (λ x. le_z (v x) z) xs)
 all_max v [] m z = sym (and_true (le_z m z))
-all_max v (x ∷ xs) m z = all_max v xs (int_max m (v x)) z ∙ ap (λ b. b && list_all (λ x'. le_z (v x') z) xs)
-    (and_max m (v x) z) ∙ and_both (le_z m z) (le_z (v x) z) (list_all (λ x'. le_z (v x') z) xs)
+all_max v (x ∷ xs) m z = grind (arith, and_max, and_both, all_max v xs (int_max m (v x)) z)
 
 pub all_min : {X : Type 0} (v : X → ℤ) (xs : List X) (m z : ℤ) → lt_z z (fold int_min m (map v xs))
     ≡ (lt_z z m && list_all (λ x. lt_z z (v x)) xs)
 all_min v [] m z = sym (and_true (lt_z z m))
-all_min v (x ∷ xs) m z = all_min v xs (int_min m (v x)) z ∙ ap (λ b. b && list_all (λ x'. lt_z z (v x')) xs)
-    (and_min m (v x) z) ∙ and_both (lt_z z m) (lt_z z (v x)) (list_all (λ x'. lt_z z (v x')) xs)
+all_min v (x ∷ xs) m z = grind (arith, and_min, and_both, all_min v xs (int_min m (v x)) z)

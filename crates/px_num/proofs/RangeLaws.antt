@@ -1,14 +1,10 @@
 -- Laws of numbers in a row, and of what is made of them.
-use Rattle.std.proofs.Common.{◌≡◌, ℕ, zero, suc, ◌+◌, ◌<◌, ◌≤◌, List, [], ◌∷◌, ◌++◌, refl, ap, ◌∙◌, arith}
-use Rattle.std.proofs.lemmas.List.Elements.{All-cons, All-nil}
-use Rattle.std.specs.List.{All, flat_map, range_with_len}
+use Rattle.px_num.proofs.Basics.{◌≡◌, ℕ, zero, suc, ◌+◌, ◌<◌, ◌≤◌, List, [], ◌∷◌, ◌++◌, refl, ap, ◌∙◌, arith, All-cons}
+use Rattle.px_num.proofs.Basics.{All-nil, All, flat_map, range_with_len}
 
 -- some numbers, and so many more
 pub range_cut : (a n m : ℕ) → range_with_len a (n + m) ≡ range_with_len a n ++ range_with_len (a + n) m
-range_cut a zero m =
-    let here : a + 0 ≡ a = omega arith in
-    let all : 0 + m ≡ m = omega arith in
-    rw (here, all) refl
+range_cut a zero m = grind arith
 range_cut a (suc n) m =
     let next : a + 1 + n ≡ a + suc n = omega arith in
     let all : suc n + m ≡ suc (n + m) = omega arith in

@@ -1,16 +1,8 @@
 -- Truths that are joined, tests of numbers, parts that may be absent, and powers of two.
-use Rattle.std.proofs.Common.{ℕ, suc, ℤ, pos, ◌≡◌, ◌≢◌, ◌<◌, ◌≤◌, ◌*◌, ◌^◌, ◌==◌, ◌&&◌, ◌||◌, ◌⊎◌, min, nat_lt}
-use Rattle.std.proofs.Common.{nat_le, eqb}
-use Rattle.std.proofs.Common.{Bool, true, false, not, if◌then◌else◌, List, [], ◌∷◌, length, Option, Some, None}
-use Rattle.std.proofs.Common.{refl, ap, ◌∙◌, arith, inl, inr}
-use Rattle.std.specs.Bool.{beq}
-use Rattle.std.specs.List.{filter_map}
-use Rattle.std.specs.Option.{option_or}
-use Rattle.std.specs.Ordering.{int_eq}
-use Rattle.std.proofs.Math.Nat.{pow-le-pow_right}
-use Rattle.std.proofs.lemmas.Bool.Decides.{nat_tests}
-use Rattle.std.proofs.lemmas.Int.{ints}
-use Rattle.std.proofs.lemmas.Nat.{pow-add}
+use Rattle.px_num.proofs.Basics.{ℕ, suc, ℤ, pos, ◌≡◌, ◌≢◌, ◌<◌, ◌≤◌, ◌*◌, ◌^◌, ◌==◌, ◌&&◌, ◌||◌, ◌⊎◌, min, nat_lt}
+use Rattle.px_num.proofs.Basics.{nat_le, eqb, Bool, true, false, not, if◌then◌else◌, List, [], ◌∷◌, length, Option}
+use Rattle.px_num.proofs.Basics.{Some, None, refl, ap, ◌∙◌, arith, inl, inr, beq, filter_map, option_or, int_eq}
+use Rattle.px_num.proofs.Basics.{pow-le-pow_right, nat_tests, ints, pow-add}
 use lib.Signed.{lt_z, le_z}
 
 pub and_true : (a : Bool) → a && true ≡ a
@@ -163,11 +155,7 @@ none_second (Some x) y e = cc
 
 pub filtered_few : {A B : Type 0} (f : A → Option B) (xs : List A) → length (filter_map f xs) ≤ length xs
 filtered_few f [] = omega arith
-filtered_few {B = B} f (x ∷ xs) = step (f x) refl (filtered_few f xs) where
-  step : (o : Option B) → f x ≡ o → length (filter_map f xs) ≤ length xs
-      → length (filter_map f (x ∷ xs)) ≤ suc (length xs)
-  step None is rest = rw is (omega arith)
-  step (Some y) is rest = rw is (omega arith)
+filtered_few {B = B} f (x ∷ xs) = grind (arith, filtered_few f xs)
 
 pub double_pow : (e : ℕ) → 2 ^ suc e ≡ 2 * 2 ^ e
 double_pow e = ap (λ n. 2 ^ n) (omega arith) ∙ pow-add 2 1 e

@@ -1,6 +1,5 @@
 -- A text is past its limit exactly where it fills what is read of it.
-use Rattle.std.proofs.Common.{ℕ, ◌≡◌, ◌<◌, ◌≤◌, true, false, nat_lt, arith, List, length}
-use Rattle.std.proofs.lemmas.Bool.Decides.{nat_tests}
+use Rattle.px_num.proofs.Basics.{ℕ, ◌≡◌, ◌<◌, ◌≤◌, true, false, nat_lt, arith, List, length, nat_tests}
 use Rattle.px_text.specs.declared.text.TheConstants.{MAX_TEXT_BYTES}
 use Rattle.px_outcome.specs.declared.refusal.TheConstants.{READ_LIMIT}
 use Rattle.px_outcome.specs.Refusals.{is_long}

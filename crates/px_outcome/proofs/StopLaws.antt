@@ -1,40 +1,50 @@
--- What a stop says of the ends, and of a text that was not read.
-use Rattle.std.proofs.Common.{ℕ, ◌≡◌, ◌≢◌, List, Result, Err, refl}
-use Rattle.px_num.specs.Want.{want}
-use Rattle.px_io.specs.Told.{SinkState}
-use Rattle.px_outcome.specs.declared.stop.Stop.{Stop}
-use Rattle.px_outcome.specs.declared.stop.Stop.TheVariants as s
-use Rattle.px_outcome.specs.Results.{HasCauses, Wrote}
-use Rattle.px_outcome.specs.Stops.{IsSceneStop, IsReadStop, read_stop}
-use Rattle.px_io.proofs.ToldLaws.{stays}
-use Rattle.px_io.specs.Counts.{Rose}
+-- What a stop says of an outcome and of the ends.
+use Rattle.px_num.proofs.Basics.{arith, ℕ, List, Err, inl, refl}
+use Rattle.px_io.specs.Told.{SinkState, TakesNone}
 use Rattle.px_io.specs.declared.reading.ReadError.{ReadError}
+use Rattle.px_io.proofs.ToldLaws.{stays}
+use Rattle.px_array.specs.Slots.{ArrayView}
+use Rattle.px_scene.specs.Scenes.{SceneView}
+use Rattle.px_outcome.specs.declared.stop.SceneStop.{SceneStop}
+use Rattle.px_outcome.specs.Arrays.{Draws}
+use Rattle.px_outcome.specs.Outcomes.{Outcome}
+use Rattle.px_outcome.specs.Results.{HasCauses, Meets, Wrote, status_of}
+use Rattle.px_outcome.specs.Stops.{DoesWork, IsReadCause, StopsAt, read_stop, stopped}
 use Rattle.px_io.specs.declared.reading.ReadError.TheVariants as read
+use Rattle.px_outcome.specs.declared.refusal.Refusal.TheVariants as r
+use Rattle.px_outcome.specs.declared.stop.SceneStop.TheVariants as halted
 
-pub read_stops : (fault : ReadError) (old new : ℕ) → (fault ≡ read.Failed → Rose old new)
-    → (fault ≡ read.Memory want → new ≡ old) → IsReadStop (read_stop fault) old new
-read_stops read.Failed old new failed memory = failed refl
-read_stops (read.Memory _) old new failed memory = memory refl
+-- an input that was not read is one for all outcomes
+pub read_meets : (fault : ReadError) (o : Outcome) → Meets (Err (read_stop fault)) o
+read_meets read.Failed o = tt
+read_meets (read.Memory _) o = tt
 
--- a stop that neither a write nor a read fault made
-pub stop_causes : (stop : Stop) (k m : ℕ) → IsSceneStop stop → HasCauses (Err stop) k k m m
-stop_causes (s.Refused reason) k m is = record { read = λ e. cc; write = λ e. cc; input = λ e. refl; out = λ e. refl }
-stop_causes (s.Memory _) k m is = record { read = λ e. cc; write = λ e. cc; input = λ e. refl; out = λ e. refl }
-stop_causes other k m is = absurd is
+pub read_writes : (fault : ReadError) (bytes : List ℕ) (a b : SinkState) → TakesNone a b
+    → Wrote (Err (read_stop fault)) bytes a b
+read_writes read.Failed bytes a b none = none
+read_writes (read.Memory _) bytes a b none = none
 
-pub stop_writes : (stop : Stop) (text : List ℕ) (a : SinkState) → IsSceneStop stop → Wrote (Err stop) text a a
-stop_writes (s.Refused reason) text a is = stays a
-stop_writes (s.Memory _) text a is = stays a
-stop_writes other text a is = absurd is
+pub read_causes : (fault : ReadError) (old new out : ℕ) → IsReadCause fault old new
+    → HasCauses (Err (read_stop fault)) old new out out
+read_causes read.Failed old new out rose =
+    record { read = λ e. rose; write = λ e. cc; input = λ other. absurd (other refl); out = λ e. refl }
+read_causes (read.Memory _) old new out same =
+    record { read = λ e. cc; write = λ e. cc; input = λ e. same; out = λ e. refl }
 
-pub not_usage : (result : Result (Unit {0}) Stop) (stop : Stop) → result ≡ Err stop → IsSceneStop stop
-    → result ≢ Err s.Usage
-not_usage result (s.Refused reason) at is = λ e. cc
-not_usage result (s.Memory _) at is = λ e. cc
-not_usage result other at is = absurd is
+-- and an array that is as before is what it leaves
+pub read_draws : (fault : ReadError) (bits : ℕ) (scene : SceneView) (array : ArrayView)
+    → Draws (status_of (read_stop fault)) bits scene array array
+read_draws read.Failed bits scene array = refl
+read_draws (read.Memory _) bits scene array = inl refl
 
-pub not_read : (result : Result (Unit {0}) Stop) (stop : Stop) → result ≡ Err stop → IsSceneStop stop
-    → result ≢ Err s.ReadFault
-not_read result (s.Refused reason) at is = λ e. cc
-not_read result (s.Memory _) at is = λ e. cc
-not_read result other at is = absurd is
+-- a scene that is not served is the work of its limits
+pub stop_serves : (stop : SceneStop) (limits : Outcome → Outcome) (o : Outcome) (a : SinkState) → StopsAt limits stop
+    → DoesWork (Err (stopped stop)) (limits o) a a
+stop_serves (halted.Refused reason) limits o a stops = grind (arith, stays)
+stop_serves (halted.Memory _) limits o a stops = grind (arith, stays)
+
+pub stop_draws : (stop : SceneStop) (bits : ℕ) (scene : SceneView) (array : ArrayView)
+    → Draws (status_of (stopped stop)) bits scene array array
+stop_draws (halted.Refused (r.Malformed line cause)) bits scene array = refl
+stop_draws (halted.Refused (r.Limit line kind found)) bits scene array = refl
+stop_draws (halted.Memory _) bits scene array = inl refl

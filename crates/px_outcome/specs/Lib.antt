@@ -8,3 +8,4 @@ pub mod Refusals
 pub mod Results
 pub mod Statuses
 pub mod Stops
+pub mod Words

@@ -4,7 +4,7 @@ use Rattle.std.specs.Fmt.{signed_decimal}
 use Rattle.px_io.specs.Counts.{Still}
 use Rattle.px_io.specs.Told.{FinishesWith, SinkState, TakesFront, TakesNone}
 use Rattle.px_show.specs.declared.fault.Cause.{Cause}
-use Rattle.px_words.specs.Words.{cause_word, list_word, scene_word}
+use Rattle.px_outcome.specs.Words.{cause_word, list_word, scene_word}
 use Rattle.px_outcome.specs.declared.refusal.Kind.{Kind}
 use Rattle.px_outcome.specs.declared.refusal.Kind.TheVariants as kinds
 use Rattle.px_outcome.specs.declared.refusal.Refusal.{Refusal}

@@ -4,11 +4,11 @@ ghost use Rattle.px_outcome.specs.Notes.{IsTold, kind_word, limit_line, malforme
 
 use crate::refusal::{Kind, Refusal};
 use crate::stop::Stop;
+use crate::words::{cause_word, list_word, scene_word};
 use arrayvec::ArrayString;
 use itoa::Buffer;
 use px_io::{Sink, write_whole};
 use px_scene::Cause;
-use px_words::{cause_word, list_word, scene_word};
 
 /// Writes a line and finishes, whatever comes of it.
 pub fn tell<E: Sink>(line: &[u8], notes: &mut E)

@@ -1,4 +1,4 @@
-//! The steps that commands share: each gives what it finds, or ends in the stop of its fault.
+//! The steps that commands share: each gives what it finds, or its own fault.
 ghost use Rattle.std.specs.Prelude.{◌≡◌, ◌≤◌, IfErr, IfOk, OnErr, OnOk, Err, None, drop, length, true};
 ghost use Rattle.std.specs.Io.KnownBytes.{Appends, Consumes};
 ghost use Rattle.px_io.specs.Counts.{HasCause};
@@ -9,19 +9,18 @@ ghost use Rattle.px_scene.specs.Text.{worded};
 ghost use Rattle.px_prune.specs.Kept.{crowd_of, plan_of};
 ghost use Rattle.px_sched.specs.Layouts.{layout_of};
 ghost use Rattle.px_control.specs.Program.{IsAt};
-ghost use Rattle.px_outcome.specs.declared.stop.Stop.{Stop};
 ghost use Rattle.px_outcome.specs.Arrays.{Draws};
-ghost use Rattle.px_outcome.specs.Outcomes.{Outcome, drawable, within_products};
+ghost use Rattle.px_outcome.specs.Outcomes.{Outcome, drawable, unless_refused, within_products};
 ghost use Rattle.px_outcome.specs.Refusals.{text_refusal};
 ghost use Rattle.px_outcome.specs.Results.{status_of};
 ghost use Rattle.px_outcome.specs.Inputs.{IsRestBehind};
-ghost use Rattle.px_outcome.specs.Stops.{IsReadStop, IsTextStop, StopsAt};
+ghost use Rattle.px_outcome.specs.Stops.{IsReadCause, StopsAt, stopped};
 
 use crate::refusal::READ_LIMIT;
-use crate::stop::{Stop, job_stop, products_stop};
+use crate::stop::{SceneStop, job_stop, products_stop};
 use px_array::Array;
 use px_control::Job;
-use px_io::{Failed, Sink, Source, read_whole, write_whole};
+use px_io::{Failed, ReadError, Sink, Source, read_whole, write_whole};
 use px_normal::MAX_PRODUCTS;
 use px_prune::{Plan, plan_of};
 use px_scene::{Scene, read_scene};
@@ -29,30 +28,27 @@ use px_sched::Layout;
 use std::alloc::Global;
 
 /// The input to its end, or to one byte past the limit of a text.
-pub fn read_text<S: Source>(alloc: Global, input: &mut S) -> Result<Vec<u8>, Stop>
+pub fn read_text<S: Source>(alloc: Global, input: &mut S) -> Result<Vec<u8>, ReadError>
     ensures front { IfOk result (λ v. IsFrontOf (S.rest input.old) READ_LIMIT v.items) }
     ensures taken { IfOk result (λ v. Consumes (S.rest input.old) (S.rest input.new) v.items) }
     ensures rest { OnOk result (IsRestBehind (S.rest input.old) (S.rest input.new)) }
     ensures most { ConsumesAtMost (S.rest input.old) (S.rest input.new) READ_LIMIT }
     ensures calm { OnOk result (S.faults input.new ≡ S.faults input.old) }
-    ensures err { IfErr result (λ stop.
-        IsReadStop stop (S.faults input.old) (S.faults input.new)) }
+    ensures err { IfErr result (λ fault.
+        IsReadCause fault (S.faults input.old) (S.faults input.new)) }
 {
-    match read_whole(alloc, input, READ_LIMIT) {
-        Ok(text) => Ok(text),
-        Err(fault) => Err(Stop::from(fault)),
-    }
+    read_whole(alloc, input, READ_LIMIT)
 }
 
 /// The scene that a text writes.
-pub fn scene_in(alloc: Global, text: &[u8]) -> Result<Scene, Stop>
+pub fn scene_in(alloc: Global, text: &[u8]) -> Result<Scene, SceneStop>
     ensures ok { IfOk result (λ scene.
         (text_refusal text.now ≡ None) × (scene ≡ scene_of (worded text.now))) }
-    ensures err { IfErr result (λ stop. IsTextStop stop text.now) }
+    ensures err { IfErr result (λ stop. StopsAt (unless_refused (text_refusal text.now)) stop) }
 {
     match read_scene(alloc, text) {
         Ok(scene) => Ok(scene),
-        Err(fault) => Err(Stop::from(fault)),
+        Err(fault) => Err(SceneStop::from(fault)),
     }
 }
 
@@ -61,7 +57,7 @@ pub fn open_job<'s, A: Array>(
     alloc: Global,
     scene: &'s Scene,
     array: &mut A,
-) -> Result<Job<'s>, Stop>
+) -> Result<Job<'s>, SceneStop>
     ensures job { IfOk result (λ job. (job.scene ≡ scene.now) × (job.place.clock ≡ 0)) }
     ensures at { OnOk result (IsAt A.BITS scene.now 0 (A.device array.new)) }
     ensures work { OnOk result (A.work array.new ≡ 0) }
@@ -69,7 +65,7 @@ pub fn open_job<'s, A: Array>(
         (array_view (A.device array.new) (A.slots array.new) (A.work array.new))) }
     ensures fits { OnOk result ((o : Outcome) → drawable A.BITS scene.now o ≡ o) }
     ensures err { IfErr result (λ stop. StopsAt (drawable A.BITS scene.now) stop) }
-    ensures array { IfErr result (λ stop. Draws (status_of stop) A.BITS scene.now
+    ensures array { IfErr result (λ stop. Draws (status_of (stopped stop)) A.BITS scene.now
         (array_view (A.device array.old) (A.slots array.old) (A.work array.old))
         (array_view (A.device array.new) (A.slots array.new) (A.work array.new))) }
 {
@@ -81,7 +77,7 @@ pub fn open_job<'s, A: Array>(
 
 /// Where the passes of a scene keep their numbers, and the products that they draw, where pixels of
 /// so many bits can hold them.
-pub fn drawing_of(alloc: Global, scene: &Scene, bits: u32) -> Result<(Layout, Plan), Stop>
+pub fn drawing_of(alloc: Global, scene: &Scene, bits: u32) -> Result<(Layout, Plan), SceneStop>
     ensures layout { IfOk result (λ found. found.0 ≡ layout_of scene.now) }
     ensures kept { IfOk result (λ found. found.1.products.items ≡ plan_of scene.now) }
     ensures few { OnOk result (length (plan_of scene.now) ≤ MAX_PRODUCTS) }
@@ -95,7 +91,7 @@ pub fn drawing_of(alloc: Global, scene: &Scene, bits: u32) -> Result<(Layout, Pl
 }
 
 /// The products that can show anything, where no wanted list is past the limit.
-pub fn kept_of(alloc: Global, scene: &Scene) -> Result<Plan, Stop>
+pub fn kept_of(alloc: Global, scene: &Scene) -> Result<Plan, SceneStop>
     ensures kept { IfOk result (λ plan. plan.products.items ≡ plan_of scene.now) }
     ensures few { IfOk result (λ plan. length plan.products.items ≤ MAX_PRODUCTS) }
     ensures fits { OnOk result (crowd_of scene.now ≡ None) }

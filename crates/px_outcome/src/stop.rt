@@ -2,7 +2,7 @@
 ghost use Rattle.std.specs.Prelude.{◌≡◌, ◌≤◌, ◌^◌, ℕ};
 ghost use Rattle.px_control.specs.declared.fault.JobFault.{JobFault};
 ghost use Rattle.px_normal.specs.declared.fault.NormalFault.{NormalFault};
-ghost use Rattle.px_outcome.specs.declared.stop.Stop.{Stop};
+ghost use Rattle.px_outcome.specs.declared.stop.SceneStop.{SceneStop};
 ghost use Rattle.px_outcome.specs.Refusals.{scene_limit};
 ghost use Rattle.px_outcome.specs.Results.{status_of};
 ghost use Rattle.px_outcome.specs.JobStops.{job_stop, products_stop};
@@ -24,6 +24,13 @@ pub enum Stop {
     Refused(Refusal),
     ReadFault,
     WriteFault,
+    Memory(Memory),
+}
+
+/// Why a scene was not served: by what it is, or for want of memory.
+#[derive(Debug, Drop)]
+pub enum SceneStop {
+    Refused(Refusal),
     Memory(Memory),
 }
 
@@ -57,67 +64,84 @@ impl From<ReadError> for Stop {
     }
 }
 
-impl From<SceneFault> for Stop {
+impl From<SceneStop> for Stop {
     ghost use Rattle.std.specs.Prelude.{◌≡◌};
-    ghost use Rattle.px_outcome.specs.Stops.{scene_stop};
+    ghost use Rattle.px_outcome.specs.Stops.{stopped};
 
-    ghost from_gives = { λ fault stop. stop ≡ scene_stop fault };
+    ghost from_gives = { λ found stop. stop ≡ stopped found };
+
+    fn from(found: SceneStop) -> Self {
+        match found {
+            SceneStop::Refused(reason) => Stop::Refused(reason),
+            SceneStop::Memory(lack) => Stop::Memory(lack),
+        }
+    }
+}
+
+impl From<SceneFault> for SceneStop {
+    ghost use Rattle.std.specs.Prelude.{◌≡◌};
+    ghost use Rattle.px_outcome.specs.Refusals.{refusal_in};
+    ghost use Rattle.px_outcome.specs.Stops.{stop_at};
+
+    ghost from_gives = { λ fault stop. stop ≡ stop_at (refusal_in fault) };
 
     fn from(fault: SceneFault) -> Self {
         match fault {
             SceneFault::Malformed { line, cause } => {
-                Stop::Refused(Refusal::Malformed { line, cause })
+                SceneStop::Refused(Refusal::Malformed { line, cause })
             }
             SceneFault::Limit { line, kind, found } => {
                 let kind = Kind::Scene(kind);
-                Stop::Refused(Refusal::Limit { line, kind, found })
+                SceneStop::Refused(Refusal::Limit { line, kind, found })
             }
-            SceneFault::Memory(lack) => Stop::Memory(lack),
+            SceneFault::Memory(lack) => SceneStop::Memory(lack),
         }
     }
 }
 
-impl From<ListFault> for Stop {
+impl From<ListFault> for SceneStop {
     ghost use Rattle.std.specs.Prelude.{◌≡◌};
-    ghost use Rattle.px_outcome.specs.Stops.{list_stop};
+    ghost use Rattle.px_outcome.specs.Refusals.{list_refusal_in};
+    ghost use Rattle.px_outcome.specs.Stops.{stop_at};
 
-    ghost from_gives = { λ fault stop. stop ≡ list_stop fault };
+    ghost from_gives = { λ fault stop. stop ≡ stop_at (list_refusal_in fault) };
 
     fn from(fault: ListFault) -> Self {
         match fault {
             ListFault::Malformed { line, cause } => {
-                Stop::Refused(Refusal::Malformed { line, cause })
+                SceneStop::Refused(Refusal::Malformed { line, cause })
             }
             ListFault::Limit { line, kind, found } => {
                 let kind = Kind::List(kind);
-                Stop::Refused(Refusal::Limit { line, kind, found })
+                SceneStop::Refused(Refusal::Limit { line, kind, found })
             }
-            ListFault::Memory(lack) => Stop::Memory(lack),
+            ListFault::Memory(lack) => SceneStop::Memory(lack),
         }
     }
 }
 
-impl From<FineFault> for Stop {
+impl From<FineFault> for SceneStop {
     ghost use Rattle.std.specs.Prelude.{◌≡◌};
-    ghost use Rattle.px_outcome.specs.Stops.{fine_stop};
+    ghost use Rattle.px_outcome.specs.Refusals.{fault_refusal};
+    ghost use Rattle.px_outcome.specs.Stops.{stop_at};
 
-    ghost from_gives = { λ fault stop. stop ≡ fine_stop fault };
+    ghost from_gives = { λ fault stop. stop ≡ stop_at (fault_refusal fault) };
 
     fn from(fault: FineFault) -> Self {
         match fault {
             FineFault::Fraction { found } => past_limit(LimitKind::Fraction, i64::from(found)),
             FineFault::Picture { found } => past_limit(LimitKind::Picture, i64::from(found)),
             FineFault::Coefficient { found } => past_limit(LimitKind::Coefficient, found),
-            FineFault::Memory(lack) => Stop::Memory(lack),
+            FineFault::Memory(lack) => SceneStop::Memory(lack),
         }
     }
 }
 
 /// The finer scene is past a limit.
-fn past_limit(kind: LimitKind, found: i64) -> Stop
-    ensures { result ≡ Stop.Refused (scene_limit kind found) }
+fn past_limit(kind: LimitKind, found: i64) -> SceneStop
+    ensures { result ≡ SceneStop.Refused (scene_limit kind found) }
 {
-    Stop::Refused(Refusal::Limit {
+    SceneStop::Refused(Refusal::Limit {
         line: 0,
         kind: Kind::Scene(kind),
         found,
@@ -125,24 +149,24 @@ fn past_limit(kind: LimitKind, found: i64) -> Stop
 }
 
 /// Why a job was not opened.
-pub(crate) fn job_stop(fault: JobFault) -> Stop
+pub(crate) fn job_stop(fault: JobFault) -> SceneStop
     requires { (count : ℕ) → fault ≡ JobFault.Products count → count ≤ 2 ^ 21 }
     ensures { result ≡ job_stop fault }
 {
     match fault {
-        JobFault::PixelMemory { need } => Stop::Refused(short_of_bits(need)),
-        JobFault::Products { count } => Stop::Refused(too_many(count)),
-        JobFault::Memory(lack) => Stop::Memory(lack),
+        JobFault::PixelMemory { need } => SceneStop::Refused(short_of_bits(need)),
+        JobFault::Products { count } => SceneStop::Refused(too_many(count)),
+        JobFault::Memory(lack) => SceneStop::Memory(lack),
     }
 }
 
 /// Why a scene has no plan.
-pub(crate) fn products_stop(fault: NormalFault) -> Stop
+pub(crate) fn products_stop(fault: NormalFault) -> SceneStop
     requires { (count : ℕ) → fault ≡ NormalFault.TooMany count → count ≤ 2 ^ 21 }
     ensures { result ≡ products_stop fault }
 {
     match fault {
-        NormalFault::TooMany { count } => Stop::Refused(too_many(count)),
-        NormalFault::Memory(lack) => Stop::Memory(lack),
+        NormalFault::TooMany { count } => SceneStop::Refused(too_many(count)),
+        NormalFault::Memory(lack) => SceneStop::Memory(lack),
     }
 }

@@ -1,7 +1,8 @@
 -- A heap of which every word was fed.
-use Rattle.std.proofs.Common.{◌≡◌, ℕ, zero, suc, ◌+◌, ◌*◌, ◌/◌, ◌%◌, ◌<◌, ◌≤◌, Bool, true, false, cond, ◌&&◌, eqb}
-use Rattle.std.proofs.Common.{nat_lt, List, length, get_or, refl, sym, ap, ◌∙◌, arith, inl, inr}
-use Rattle.std.proofs.lemmas.Bool.{cases_lt, le-ltb, lt-ltb, ne_eqb}
+use Rattle.px_num.proofs.Basics.{nat_tests, common_steps, ◌≡◌, ℕ, zero, suc, ◌+◌, ◌*◌, ◌/◌, ◌%◌, ◌<◌, ◌≤◌, Bool, true}
+use Rattle.px_num.proofs.Basics.{false, cond, ◌&&◌, eqb, nat_lt, List, length, get_or, refl, sym, ap, ◌∙◌, arith, inl}
+use Rattle.px_num.proofs.Basics.{inr, cases_lt, le-ltb, lt-ltb}
+use Rattle.std.proofs.lemmas.Bool.{ne_eqb}
 use Rattle.px_num.specs.Bits.{nat_bit}
 use Rattle.px_num.proofs.TruthLaws.{and_false, and_true}
 use Rattle.px_tree.specs.declared.node.Node.{Node}
@@ -41,8 +42,7 @@ same_line line f c outputs carries new_outputs new_carries w l e r = record {
 
 -- the same lines and parents
 pub same_word : (f g p q : ℕ → Bool) (w old output carry : ℕ) → ((j : ℕ) → j < 64 → f j ≡ g j)
-    → ((i : ℕ) → i < 64 → p i ≡ q i)
-    → IsFedWord f p w old output carry → IsFedWord g q w old output carry
+    → ((i : ℕ) → i < 64 → p i ≡ q i) → IsFedWord f p w old output carry → IsFedWord g q w old output carry
 same_word f g p q w old output carry lines parents fed = record {
   output_bit = λ j h. fed.output_bit j h ∙ rw (lines j h, parents (32 * (w % 2) + j / 2) (omega arith)) refl;
   carry_bit = λ j h. fed.carry_bit j h ∙ rw (lines j h, parents (32 * (w % 2) + j / 2) (omega arith)) refl;
@@ -76,28 +76,17 @@ module _ (a b c : Bool) (first_b : ℕ) (outputs carries new_outputs new_carries
       rw (← odd, ← word, ← place) (both (f.output_bit (p % 64) (omega arith)) (f.carry_bit (p % 64) (omega arith)))
     where
       both : {x y : Bool} {n : Node} → x ≡ n.output → y ≡ n.carry → record { output = x; carry = y } ≡ n
-      both {x} {y} {n} h k = ap (λ (o : Bool). record { output = o; carry = y }) h
-          ∙ ap (λ (q : Bool). record { output = n.output; carry = q }) k
+      both {x} {y} {n} h k = grind arith
 
   low_bits : (p : ℕ) → p < 2 → node_of outputs carries p ≡ record { output = false; carry = false }
   low_bits zero h = ap (λ (x : Bool). record { output = x; carry = row_bit carries 0 }) heap.zero_output
       ∙ ap (λ (x : Bool). record { output = false; carry = x }) (heap.odd.each 0 0 (omega arith) (let r = heap.room in
       omega arith) (omega arith) refl)
-  low_bits (suc zero) h = ap (λ (x : Bool). record { output = x; carry = row_bit carries 1 }) heap.one_output
-      ∙ ap (λ (x : Bool). record { output = false; carry = x }) heap.one_carry
+  low_bits (suc zero) h = grind arith
   low_bits (suc (suc p)) h = absurd (omega arith)
 
   low_law : (p : ℕ) → p < 2 → node_of new_outputs new_carries p ≡ node_of outputs carries p
-  low_law p h =
-      let room = heap.room in
-      let zero_word : p / 2 / 64 ≡ 0 = omega arith in
-      let zero_place : p / 2 % 64 ≡ 0 = omega arith in
-      let word : p / 64 ≡ 0 = omega arith in
-      let place : 64 * 0 + p % 64 ≡ p = omega arith in
-      let parent : parent_bit c outputs (p / 2 / 64) (p / 2 % 64) ≡ false = rw (zero_word, zero_place) (and_false c) in
-      let line : place_line a b first_b (p / 64) (p % 64) ≡ false = rw (word, place, lt-ltb p 2 h) refl in
-      let carry : row_bit carries p ≡ false = ap (λ (n : Node). n.carry) (low_bits p h) in
-      raw p (omega arith) ∙ (rw (parent, line, carry) (none_next (eqb (p % 2) 1)) ∙ sym (low_bits p h))
+  low_law p h = grind (arith, nat_tests, common_steps, and_false, lt-ltb, low_bits, raw, none_next)
 
   parent_law : (p : ℕ) → 2 ≤ p → parent_bit c outputs (p / 2 / 64) (p / 2 % 64) ≡ cond (nat_lt p 4) c
       (row_bit outputs (p / 2))
@@ -144,10 +133,7 @@ module _ (a b c : Bool) (first_b : ℕ) (outputs carries new_outputs new_carries
     same = lk ∙ (heap.same ∙ sym lo);
     room = let r = heap.room in omega arith;
     fours = rw lo heap.fours;
-    odd = record {
-      each = λ w j low high h even. (fed w (omega arith)).carry_bit j h
-          ∙ rw (ne_eqb (j % 2) 1 (λ e. omega arith)) refl;
-    };
+    odd = grind (arith, ne_eqb);
     zero_output = ap (λ (n : Node). n.output) (low_law 0 (omega arith) ∙ low_bits 0 (omega arith));
     one_output = ap (λ (n : Node). n.output) (low_law 1 (omega arith) ∙ low_bits 1 (omega arith));
     one_carry = ap (λ (n : Node). n.carry) (low_law 1 (omega arith) ∙ low_bits 1 (omega arith));

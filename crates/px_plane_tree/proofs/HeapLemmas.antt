@@ -1,7 +1,7 @@
 -- Words of a heap that are fed two at a time.
-use Rattle.std.proofs.Common.{◌≡◌, ℕ, ◌+◌, ◌-◌, ◌*◌, ◌/◌, ◌%◌, ◌<◌, ◌≤◌, Bool, true, false, cond, ◌&&◌, ◌||◌, eqb}
-use Rattle.std.proofs.Common.{nat_lt, List, get_or, refl, sym, ap, subst, ◌∙◌, arith, inl, inr, bit_and, bit_or}
-use Rattle.std.proofs.lemmas.Bool.{cases_lt, agree_below_at}
+use Rattle.px_num.proofs.Basics.{◌≡◌, ℕ, ◌+◌, ◌-◌, ◌*◌, ◌/◌, ◌%◌, ◌<◌, ◌≤◌, Bool, true, false, cond, ◌&&◌, eqb, nat_lt}
+use Rattle.px_num.proofs.Basics.{List, get_or, refl, sym, ap, subst, ◌∙◌, arith, inl, inr, bit_and, bit_or, cases_lt}
+use Rattle.px_num.proofs.Basics.{agree_below_at}
 use Rattle.px_num.specs.Bits.{nat_bit}
 use Rattle.px_tree.specs.Nodes.{next_node}
 use Rattle.px_rows.proofs.BitLaws.{bit-and, bit-or}
@@ -10,9 +10,7 @@ use Rattle.px_plane_tree.specs.Heap.{IsFedWord, IsSameBut, IsFedTwo, IsFed, IsFe
 
 pub moved : (line parent : ℕ → Bool) (w a b c x y z : ℕ) → a ≡ x → b ≡ y → c ≡ z → IsFedWord line parent w a b c
     → IsFedWord line parent w x y z
-moved line parent w a b c x y z ea eb ec f =
-    subst (λ n. IsFedWord line parent w n y z) ea (subst (λ n. IsFedWord line parent w a n z) eb
-    (subst (λ n. IsFedWord line parent w a b n) ec f))
+moved line parent w a b c x y z ea eb ec f = grind arith
 
 module _ (line : ℕ → ℕ → Bool) (at : ℕ) (both outputs carries new_outputs new_carries : List ℕ)
     (t : IsFedTwo line at both (rows outputs carries) (rows new_outputs new_carries)) where
@@ -47,10 +45,7 @@ module _ (line : ℕ → ℕ → Bool) (at : ℕ) (both outputs carries new_outp
 -- two times two words
 pub same_twice : (from middle to : ℕ) (a b c : List ℕ) → from ≤ middle → middle ≤ to → IsSameBut from middle a b
     → IsSameBut middle to b c → IsSameBut from to a c
-same_twice from middle to a b c h k p q = record {
-  below = λ x l. q.below x (omega arith) ∙ p.below x l;
-  above = λ x l. q.above x l ∙ p.above x (omega arith);
-}
+same_twice from middle to a b c h k p q = grind arith
 
 pub pair_law : (line : Bool) (h : ℕ) (outputs carries parents first second o k new_outputs new_carries : List ℕ)
     → IsPart h outputs parents → IsDoubled (get_or parents 0 0) first → IsDoubled (get_or parents 1 0) second
@@ -87,8 +82,7 @@ pair_law line h outputs carries parents first second o k new_outputs new_carries
 
 -- the words from `middle` on, and then those below
 pub span_law : (line : Bool) (g h to : ℕ) (outputs carries o k new_outputs new_carries : List ℕ) → 2 ≤ g → h ≡ g + 2
-    → h ≤ to → g % 2 ≡ 0
-    → IsFed line (2 * h) (2 * to) (rows outputs carries) (rows o k)
+    → h ≤ to → g % 2 ≡ 0 → IsFed line (2 * h) (2 * to) (rows outputs carries) (rows o k)
     → IsFed line (2 * g) (2 * g + 4) (rows o k) (rows new_outputs new_carries)
     → IsFed line (2 * g) (2 * to) (rows outputs carries) (rows new_outputs new_carries)
 span_law line g h to outputs carries o k new_outputs new_carries two e le even a b = record {
@@ -128,30 +122,11 @@ one_is_low i h = agree_below_at (λ k. eqb k 1) (λ k. nat_lt k 2 && eqb k 1) 64
 
 pub rooted_on : (word i : ℕ) → i < 64 → nat_bit (bit_or (bit_and word 0xffff_ffff_ffff_fffc) 2) i
     ≡ cond (nat_lt i 2) (true && eqb i 1) (nat_bit word i)
-rooted_on word i h =
-    bit-or (bit_and word 0xffff_ffff_ffff_fffc) 2 i
-    ∙ (rw (bit-and word 0xffff_ffff_ffff_fffc i, from_two i h, bit_one i h, one_is_low i h)
-    (joined (nat_lt i 2) (eqb i 1) (nat_bit word i)))
-  where
-    joined : (low one w : Bool) → ((w && cond low false true) || (low && one)) ≡ cond low (true && (low && one)) w
-    joined true true true = refl
-    joined true true false = refl
-    joined true false true = refl
-    joined true false false = refl
-    joined false true true = refl
-    joined false true false = refl
-    joined false false true = refl
-    joined false false false = refl
+rooted_on word i h = grind (arith, bit-or, bit_and, bit-and, from_two, bit_one, one_is_low, cond)
 
 pub rooted_off : (word i : ℕ) → i < 64 → nat_bit (bit_and word 0xffff_ffff_ffff_fffc) i
     ≡ cond (nat_lt i 2) (false && eqb i 1) (nat_bit word i)
-rooted_off word i h = bit-and word 0xffff_ffff_ffff_fffc i ∙ rw (from_two i h) (joined (nat_lt i 2) (nat_bit word i))
-  where
-    joined : (low w : Bool) → (w && cond low false true) ≡ cond low false w
-    joined true true = refl
-    joined true false = refl
-    joined false true = refl
-    joined false false = refl
+rooted_off word i h = grind (arith, bit-and, from_two, cond)
 
 pub first_law : (lines : List ℕ) (c : Bool) (outputs carries first second part part2 o k new_outputs
     new_carries : List ℕ) (root : ℕ)

@@ -1,16 +1,13 @@
 -- A heap that is fed level by level, from the leaves upwards.
-use Rattle.std.proofs.Common.{◌≡◌, ◌≢◌, ℕ, suc, ◌+◌, ◌-◌, ◌*◌, ◌/◌, ◌^◌, ◌<◌, ◌≤◌, Bool, true, false, List, length}
-use Rattle.std.proofs.Common.{length-set, get_or, set, zero, refl, sym, ap, subst, ◌∙◌, arith, inl, inr}
-use Rattle.std.proofs.Common.{get_or-set_same, get_or-set_other}
-use Rattle.std.proofs.lemmas.Bool.{cases_eq, cases_lt, le-ltb, lt-ltb}
-use Rattle.std.proofs.lemmas.Nat.{pow-add}
-use Rattle.std.proofs.Math.Nat.{one-le-pow}
+use Rattle.px_num.proofs.Basics.{◌≡◌, ◌≢◌, ℕ, suc, ◌+◌, ◌-◌, ◌*◌, ◌/◌, ◌^◌, ◌<◌, ◌≤◌, Bool, true, false, List, length}
+use Rattle.px_num.proofs.Basics.{length-set, get_or, set, zero, refl, sym, ap, subst, ◌∙◌, arith, inl, inr}
+use Rattle.px_num.proofs.Basics.{get_or-set_same, get_or-set_other, cases_eq, cases_lt, le-ltb, lt-ltb, pow-add}
+use Rattle.px_num.proofs.Basics.{one-le-pow}
 use Rattle.px_num.specs.Bits.{nat_bit}
 use Rattle.px_num.proofs.TruthLaws.{double_pow, power_grows}
 use Rattle.px_tree.specs.declared.lines.Lines.{Lines}
-use Rattle.px_plane_tree.specs.Heap.{AreStill, HasLines, HasOdd, IsAtRest, IsFed, IsFedFirst, IsFedHeap}
-use Rattle.px_plane_tree.specs.Heap.{IsFedWord, rows}
-use Rattle.px_plane_tree.specs.Heap.{IsHeap, level_line, parent_bit}
+use Rattle.px_plane_tree.specs.Heap.{AreStill, HasLines, HasOdd, IsAtRest, IsFed, IsFedFirst, IsFedHeap, IsFedWord}
+use Rattle.px_plane_tree.specs.Heap.{rows, IsHeap, level_line, parent_bit}
 use Rattle.px_plane_tree.proofs.FedWordLemmas.{WordFed, node_law, place_line, same_line, same_parent, same_word}
 use Rattle.px_plane_tree.proofs.FedWordLemmas.{still_heap}
 use Rattle.px_plane_tree.proofs.HeapLemmas.{moved}
@@ -39,21 +36,16 @@ pub record IsFedDown (nx : ℕ) (now : Lines) (u : ℕ) (old new : Levels) : Typ
   pub outputs_rest : (w : ℕ) → w < 2 ^ (u + 1) → get_or new.outputs w 0 ≡ get_or old.outputs w 0
   pub carries_rest : (w : ℕ) → w < 2 ^ (u + 1) → get_or new.carries w 0 ≡ get_or old.carries w 0
   pub outputs_stay : (v : ℕ) → u ≤ v → v < length old.still → get_or new.still v false ≡ true → (w : ℕ)
-      → 2 ^ (v + 1) ≤ w
-      → w < 2 ^ (v + 2) → get_or new.outputs w 0 ≡ get_or old.outputs w 0
+      → 2 ^ (v + 1) ≤ w → w < 2 ^ (v + 2) → get_or new.outputs w 0 ≡ get_or old.outputs w 0
   pub carries_stay : (v : ℕ) → u ≤ v → v < length old.still → get_or new.still v false ≡ true → (w : ℕ)
-      → 2 ^ (v + 1) ≤ w
-      → w < 2 ^ (v + 2) → get_or new.carries w 0 ≡ get_or old.carries w 0
+      → 2 ^ (v + 1) ≤ w → w < 2 ^ (v + 2) → get_or new.carries w 0 ≡ get_or old.carries w 0
   pub still_rest : (v : ℕ) → v < u → get_or new.still v false ≡ get_or old.still v false
 
 -- the place from which levels were fed, as one more than that of the level that comes next
 pub at_next : (nx : ℕ) (now : Lines) (u : ℕ) (outputs carries : List ℕ) (still : List Bool) (o k : List ℕ)
-    (s : List Bool)
-    → 1 ≤ u → IsFedDown nx now u (levels outputs carries still) (levels o k s)
+    (s : List Bool) → 1 ≤ u → IsFedDown nx now u (levels outputs carries still) (levels o k s)
     → IsFedDown nx now (u - 1 + 1) (levels outputs carries still) (levels o k s)
-at_next nx now u outputs carries still o k s some before =
-    let e : u ≡ u - 1 + 1 = omega arith in
-    subst (λ n. IsFedDown nx now n (levels outputs carries still) (levels o k s)) e before
+at_next nx now u outputs carries still o k s some before = grind arith
 
 -- the line of a word is that of its level
 pub level_place_line : (nx : ℕ) (lines : Lines) (u w j : ℕ) → 4 ≤ w → 2 ^ (u + 1) ≤ w → w < 2 ^ (u + 2) → j < 64
@@ -93,8 +85,7 @@ set_there still u v b other = get_or-set_other still u v b false other
 
 -- one more level
 pub fed_more : (nx : ℕ) (now : Lines) (u : ℕ) (outputs carries : List ℕ) (still : List Bool) (o k : List ℕ)
-    (s : List Bool) (new_outputs new_carries : List ℕ) (r : Bool)
-    → 1 ≤ u → u < length still → length s ≡ length still
+    (s : List Bool) (new_outputs new_carries : List ℕ) (r : Bool) → 1 ≤ u → u < length still → length s ≡ length still
     → IsFedDown nx now (u + 1) (levels outputs carries still) (levels o k s)
     → IsFed (level_line nx now u) (2 * 2 ^ u) (4 * 2 ^ u) (rows o k) (rows new_outputs new_carries)
     → (r ≡ true → new_outputs ≡ o) → (r ≡ true → new_carries ≡ k)
@@ -150,36 +141,12 @@ fed_more nx now u outputs carries still o k s new_outputs new_carries r some wit
 
 -- the level that comes next is at rest, where it and its parents were still and its line is the same
 pub next_rest : (nx : ℕ) (last now : Lines) (u : ℕ) (outputs carries : List ℕ) (still : List Bool) (o k : List ℕ)
-    (s : List Bool)
-    → 1 ≤ u → u < length still → IsFedDown nx now (u + 1) (levels outputs carries still) (levels o k s)
-    → AreStill nx last still outputs carries
-    → level_line nx now u ≡ level_line nx last u → get_or s (u - 1) false ≡ true → get_or s u false ≡ true
+    (s : List Bool) → 1 ≤ u → u < length still → IsFedDown nx now (u + 1) (levels outputs carries still) (levels o k s)
+    → AreStill nx last still outputs carries → level_line nx now u ≡ level_line nx last u
+    → get_or s (u - 1) false ≡ true → get_or s u false ≡ true
     → IsAtRest (level_line nx now u) (2 * 2 ^ u) (4 * 2 ^ u) o k
 next_rest nx last now u outputs carries still o k s some within before rest line above here =
-    let one : u - 1 + 1 ≡ u = omega arith in
-    let low : 2 ^ (u - 1 + 2) ≡ 2 * 2 ^ u = power_of (u - 1 + 2) u (omega arith) in
-    let high : 2 ^ (u - 1 + 3) ≡ 4 * 2 ^ u = ap (λ n. 2 ^ n) (omega arith) ∙ pow-add 2 2 u in
-    let top : 2 ^ (u + 1 + 1) ≡ 4 * 2 ^ u = ap (λ n. 2 ^ n) (omega arith) ∙ pow-add 2 2 u in
-    let was = rest.rest (u - 1) (omega arith) (ap (λ n. get_or still n false) one
-    ∙ (sym (before.still_rest u (omega arith)) ∙ here)) (sym (before.still_rest (u - 1) (omega arith)) ∙ above) in
-    rest_moved (level_line nx now u) (2 * 2 ^ u) (4 * 2 ^ u) outputs carries o k
-    (λ w from to. before.outputs_rest w (omega arith)) (λ w from to. before.carries_rest w (omega arith))
-    (subst (λ d. IsAtRest d (2 * 2 ^ u) (4 * 2 ^ u) outputs carries) (ap (level_line nx last) one ∙ sym line)
-    (subst (λ m. IsAtRest (level_line nx last (u - 1 + 1)) m (4 * 2 ^ u) outputs carries) low
-    (subst (λ m. IsAtRest (level_line nx last (u - 1 + 1)) (2 ^ (u - 1 + 2)) m outputs carries) high was)))
-
--- the rest of what a level asks
-pub next_odd : (nx : ℕ) (now : Lines) (u : ℕ) (outputs carries : List ℕ) (still : List Bool) (o k : List ℕ)
-    (s : List Bool) → u < length still → length outputs ≡ 2 ^ (length still + 1)
-    → IsHeap outputs carries → IsFedDown nx now (u + 1) (levels outputs carries still) (levels o k s)
-    → HasOdd (2 * 2 ^ u) (4 * 2 ^ u) k
-next_odd nx now u outputs carries still o k s within levels heap before = record {
-  each = λ w j low high in_word even.
-      let top : 2 ^ (u + 1 + 1) ≡ 4 * 2 ^ u = ap (λ n. 2 ^ n) (omega arith) ∙ pow-add 2 2 u in
-      let all : 2 ^ (u + 1 + 1) ≤ 2 ^ (length still + 1) = power_grows (u + 1 + 1) (length still + 1) (omega arith) in
-      ap (λ n. nat_bit n j) (before.carries_rest w (omega arith))
-      ∙ heap.odd.each w j (omega arith) (omega (arith, levels)) in_word even;
-}
+    grind (arith, power_of, pow-add, rest_moved)
 
 pub next_fits : (u n m : ℕ) → u < n → m ≡ 2 ^ (n + 1) → 4 * 2 ^ u ≤ m
 next_fits u n m within levels =

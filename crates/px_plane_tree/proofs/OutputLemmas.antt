@@ -1,9 +1,7 @@
 -- The rows of outputs that are lent.
-use Rattle.std.proofs.Common.{◌≡◌, ℕ, ◌+◌, ◌-◌, ◌*◌, ◌/◌, ◌%◌, ◌^◌, ◌<◌, ◌≤◌, false, cond, nat_lt, List, length}
-use Rattle.std.proofs.Common.{get_or, refl, sym, ap, ◌∙◌, arith, inl, inr}
-use Rattle.std.proofs.lemmas.Bool.{cases_lt, le-ltb, lt-ltb}
-use Rattle.std.proofs.lemmas.Nat.{pow-add}
-use Rattle.std.proofs.Math.Nat.{one-le-pow, pow-le-pow_right}
+use Rattle.px_num.proofs.Basics.{◌≡◌, ℕ, ◌+◌, ◌-◌, ◌*◌, ◌/◌, ◌%◌, ◌^◌, ◌<◌, ◌≤◌, false, cond, nat_lt, List, length}
+use Rattle.px_num.proofs.Basics.{get_or, refl, sym, ap, ◌∙◌, arith, inl, inr, cases_lt, le-ltb, lt-ltb, pow-add}
+use Rattle.px_num.proofs.Basics.{one-le-pow, pow-le-pow_right}
 use Rattle.px_num.specs.Bits.{nat_bit}
 use Rattle.px_tree.specs.Nodes.{node_at}
 use Rattle.px_rows.specs.Rows.{row_bit}
@@ -14,9 +12,7 @@ power_at : (level : ℕ) → 6 ≤ level → 2 ^ level ≡ 64 * 2 ^ (level - 6)
 power_at level h = let e : 6 + (level - 6) ≡ level = omega arith in ap (λ m. 2 ^ m) (sym e) ∙ pow-add 2 6 (level - 6)
 
 power_below : (level levels : ℕ) → level ≤ levels → 2 * 2 ^ level ≤ 2 ^ (levels + 1)
-power_below level levels h =
-    let le : level + 1 ≤ levels + 1 = omega arith in
-    omega (arith, pow-add 2 level 1, pow-le-pow_right {n = 2} (omega arith) le)
+power_below level levels h = grind (arith, pow-add, pow-le-pow_right)
 
 pub large_fits : (level nx ny at n : ℕ) → 6 ≤ level → level ≤ nx + ny → at ≡ 2 ^ (level - 6) → 2 ^ (nx + ny + 1) ≤ 64
     * n → 2 * at ≤ n
@@ -34,8 +30,7 @@ large_bits level nx ny at outputs carries part h le e long bits p lt =
     let w : 2 ^ level ≡ 64 * at = omega (arith, power_at level h) in
     let here : p < 2 ^ level = omega arith in
     let place : 64 * at + p ≡ 2 ^ level + p = omega arith in
-    rw (lt-ltb p (2 ^ level) here) (bits p (omega arith) ∙ bit_seen (2 ^ (nx + ny + 1)) outputs carries (64 * at + p)
-    (2 ^ level + p) place (omega (arith, power_below level (nx + ny) le)))
+    grind (arith, lt-ltb, bit_seen, power_below)
 
 pub small_words : (level : ℕ) → level < 6 → level + 1 - level ≡ (2 ^ level + 63) / 64
 small_words level h = omega (arith, small_power level h, one-le-pow level 2 (omega arith))

@@ -1,6 +1,6 @@
 -- A bit that is set.
-use Rattle.std.proofs.Common.{◌≡◌, ◌≢◌, ℕ, ◌*◌, ◌%◌, ◌^◌, ◌<◌, true, eqb, ap, w64, bit_or}
-use Rattle.std.proofs.lemmas.Nat.Bits.{bit_at_set_same, bit_at_set_other}
+use Rattle.px_num.proofs.Basics.{◌≡◌, ◌≢◌, ℕ, ◌*◌, ◌%◌, ◌^◌, ◌<◌, true, eqb, ap, w64, bit_or, bit_at_set_same}
+use Rattle.px_num.proofs.Basics.{bit_at_set_other}
 use Rattle.px_num.specs.Bits.{nat_bit}
 
 pub set_same : (n k : ℕ) → k < 64 → nat_bit (bit_or n (1 * 2 ^ k % 2 ^ 64)) k ≡ true

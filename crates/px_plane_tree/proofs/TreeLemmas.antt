@@ -1,13 +1,9 @@
 -- Trees of rows: their levels of less than a word, and what a clear and a feed make of them.
-use Rattle.std.proofs.Common.{◌≡◌, ℕ, ◌+◌, ◌-◌, ◌*◌, ◌/◌, ◌%◌, ◌^◌, ◌==◌, ◌<◌, ◌≤◌, Bool, true, false, cond, eqb}
-use Rattle.std.proofs.Common.{nat_lt, List, length, get_or, replicate, refl, sym, ap, subst, ◌∙◌, arith, inl, inr}
-use Rattle.std.proofs.Common.{bit_and}
-use Rattle.std.proofs.lemmas.Bool.{cases_lt, le-ltb, lt-ltb}
-use Rattle.std.proofs.lemmas.Nat.{and_mask, mod_below, pow-add}
-use Rattle.std.proofs.lemmas.Nat.Bits.{bit_at_above, bit_at-zero}
-use Rattle.std.proofs.Math.Nat.{one-le-pow, pow-le-pow_right}
+use Rattle.px_num.proofs.Basics.{nat_tests, common_steps, ◌≡◌, ℕ, ◌+◌, ◌-◌, ◌*◌, ◌/◌, ◌^◌, ◌<◌, ◌≤◌, Bool, true, false}
+use Rattle.px_num.proofs.Basics.{cond, nat_lt, List, length, get_or, replicate, refl, sym, ap, subst, ◌∙◌, arith, inl}
+use Rattle.px_num.proofs.Basics.{inr, bit_and, cases_lt, le-ltb, lt-ltb, and_mask, mod_below, pow-add, bit_at_above}
+use Rattle.px_num.proofs.Basics.{bit_at-zero, one-le-pow, pow-le-pow_right, get_or_past}
 use Rattle.std.proofs.lemmas.Simd.{get_or-replicate, length-replicate}
-use Rattle.std.proofs.lemmas.List.{get_or_past}
 use Rattle.px_num.specs.Bits.{nat_bit}
 use Rattle.px_num.proofs.ListLaws.{length-tabulate, get_or-tabulate, is_tabulate}
 use Rattle.px_num.specs.Lists.{tabulate}
@@ -25,9 +21,7 @@ pub level_law : (word m j : ℕ) → nat_bit (bit_and (word / 2 ^ m) (2 ^ m - 1)
 level_law word m j = ap (λ n. nat_bit n j) (and_mask (word / 2 ^ m) m) ∙ elim (cases_lt j m) [
   | inl l ↦ rw (lt-ltb j m l) (bit_of_low (word / 2 ^ m) m j l ∙ bit_down word m j)
   | inr g ↦
-      let p : 0 < 2 ^ m = omega (arith, one-le-pow m 2 (omega arith)) in
-      rw (le-ltb j m g)
-      (ap (λ b. eqb b 1) (bit_at_above (word / 2 ^ m % 2 ^ m) m j (mod_below (word / 2 ^ m) (2 ^ m) p) g))
+      grind (arith, one-le-pow, le-ltb, bit_at_above, mod_below)
 ]
 
 pub small_power : (k : ℕ) → k < 6 → 2 ^ k ≤ 32
@@ -56,14 +50,7 @@ pub node_seen : (n : ℕ) (outputs carries : List ℕ) (p : ℕ) → p < n → g
 node_seen n outputs carries p h = get_or-tabulate n (node_of outputs carries) p zero_node h
 
 pub zero_bit : (n p : ℕ) → row_bit (replicate n 0) p ≡ false
-zero_bit n p = elim (cases_lt (p / 64) n) [
-  | inl l ↦ ap (λ w. nat_bit w (p % 64)) (get_or-replicate n (p / 64) 0 0 l) ∙ none
-  | inr g ↦ ap (λ w. nat_bit w (p % 64))
-      (get_or_past (replicate n 0) (p / 64) 0 (omega (arith, length-replicate {A = ℕ} n 0))) ∙ none
-]
-  where
-    none : nat_bit 0 (p % 64) ≡ false
-    none = ap (λ b. eqb b 1) (bit_at-zero (p % 64))
+zero_bit n p = grind (arith, cases_lt, get_or-replicate, get_or_past, length-replicate, bit_at-zero)
 
 pub cleared_law : (m k n : ℕ) → tabulate m (node_of (replicate k 0) (replicate n 0)) ≡ replicate m zero_node
 cleared_law m k n =
@@ -82,83 +69,33 @@ pub record IsTall (levels n : ℕ) : Type 0 where
   pub exact : 8 ≤ levels → 2 ^ (levels + 1) ≡ 64 * 2 ^ (n + 1)
 
 pub is_tall : (levels n : ℕ) → n ≡ heights levels → IsTall levels n
-is_tall levels n e = elim (cases_lt levels 8) [
-  | inl l ↦
-      let one : n ≡ 1 = e ∙ rw (lt-ltb levels 8 l) refl in
-      let room : 2 ^ (levels + 1) ≤ 256 = power_grows (levels + 1) 8 (omega arith) in
-      record {
-        some = omega arith;
-        few = λ h. omega arith;
-        enough = rw one room;
-        exact = λ h. absurd (omega arith);
-      }
-  | inr g ↦
-      let rest : n ≡ levels - 6 = e ∙ rw (le-ltb levels 8 g) refl in
-      let place : levels + 1 ≡ 6 + (n + 1) = omega arith in
-      let power : 2 ^ (levels + 1) ≡ 64 * 2 ^ (n + 1) = ap (λ m. 2 ^ m) place ∙ pow-add 2 6 (n + 1) in
-      record {
-        some = omega arith;
-        few = λ h. omega arith;
-        enough = omega arith;
-        exact = λ h. power;
-      }
-]
+is_tall levels n e = grind (arith, cases_lt, lt-ltb, power_grows, le-ltb, pow-add)
 
 zero_word_bit : (n k j : ℕ) → nat_bit (get_or (replicate n 0) k 0) j ≡ false
-zero_word_bit n k j = elim (cases_lt k n) [
-  | inl l ↦ ap (λ w. nat_bit w j) (get_or-replicate n k 0 0 l) ∙ none
-  | inr g ↦ ap (λ w. nat_bit w j) (get_or_past (replicate n 0) k 0 (omega (arith, length-replicate {A = ℕ} n 0))) ∙ none
-]
-  where
-    none : nat_bit 0 j ≡ false
-    none = ap (λ b. eqb b 1) (bit_at-zero j)
+zero_word_bit n k j = grind (arith, cases_lt, get_or-replicate, get_or_past, length-replicate, bit_at-zero)
 
 both_false : (b : Bool) → false ≡ cond b false false
 both_false true = refl
 both_false false = refl
 
 zero_small : (w : ℕ) → AreSmallLevels (replicate w 0) (replicate 6 0)
-zero_small w = record {
-  long = refl;
-  each = λ k j l h i. zero_word_bit 6 k j ∙ (both_false (nat_lt j (2 ^ k))
-      ∙ ap (λ x. cond (nat_lt j (2 ^ k)) x false) (sym (zero_word_bit w 0 (2 ^ k + j))));
-}
+zero_small w = grind (arith, zero_word_bit, both_false, cond)
 
 none_next : (odd : Bool) → next_node odd false false false ≡ zero_node
 none_next true = refl
 none_next false = refl
 
 no_line : (nx u : ℕ) → level_line nx (record { a = false; b = false; c = false }) u ≡ false
-no_line nx u = both (nat_lt nx (u + 7))
-  where
-    both : (b : Bool) → cond b false false ≡ false
-    both true = refl
-    both false = refl
+no_line nx u = grind (arith, cond)
 
 -- a tree whose latches are all 0 is at rest where its lines are 0
 pub zero_still : (nx m n : ℕ) (still : List Bool) → AreStill nx (record { a = false; b = false; c = false }) still
     (replicate m 0) (replicate n 0)
-zero_still nx m n still = record {
-  rest = λ u within here above. record {
-    fed = λ w low high. record {
-      output_bit = λ j in_word. zero_word_bit m w j ∙ ap (λ (k : Node). k.output) (sym (node u w j));
-      carry_bit = λ j in_word. zero_word_bit n w j ∙ ap (λ (k : Node). k.carry) (sym (node u w j));
-    };
-    outputs_rest = record { below = λ k low. refl; above = λ k high. refl };
-    carries_rest = record { below = λ k low. refl; above = λ k high. refl };
-  };
-}
-  where
-    node : (u w j : ℕ) → next_node (j % 2 == 1) (nat_bit (get_or (replicate m 0) (w / 2) 0) (32 * (w % 2) + j / 2))
-        (level_line nx (record { a = false; b = false; c = false }) (u + 1)) (nat_bit (get_or (replicate n 0) w 0) j)
-        ≡ zero_node
-    node u w j = rw (zero_word_bit m (w / 2) (32 * (w % 2) + j / 2), no_line nx (u + 1), zero_word_bit n w j)
-        (none_next (j % 2 == 1))
+zero_still nx m n still = grind (arith, zero_word_bit, no_line, none_next)
 
 pub zero_tree : (nx ny w : ℕ) (still : List Bool) → IsGrid nx ny → length still ≡ heights (nx + ny)
-    → w ≡ 2 ^ (length still + 1)
-    → IsTree nx ny (rows (replicate w 0) (replicate w 0)) (replicate 6 0) still
-    (record { a = false; b = false; c = false })
+    → w ≡ 2 ^ (length still + 1) → IsTree nx ny (rows (replicate w 0) (replicate w 0))
+    (replicate 6 0) still (record { a = false; b = false; c = false })
 zero_tree nx ny w still grid tall words =
     let size = is_tall (nx + ny) (length still) tall in
     let four : 4 ≤ 2 ^ (length still + 1) = power_grows 2 (length still + 1) (let some = size.some in omega arith) in
@@ -186,9 +123,7 @@ pub cleared_tree : (nx ny : ℕ) (outputs carries small : List ℕ) (still new_s
     → IsTree nx ny (rows outputs carries) small still last → length new_still ≡ length still
     → IsTree nx ny (rows (replicate (length outputs) 0) (replicate (length carries) 0)) (replicate (length small) 0)
     new_still (record { a = false; b = false; c = false })
-cleared_tree nx ny outputs carries small still new_still last t long =
-    rw (t.heap.same, t.low.long) (zero_tree nx ny (length outputs) new_still t.grid (long ∙ t.tall) (t.words
-    ∙ ap (λ n. 2 ^ (n + 1)) (sym long)))
+cleared_tree nx ny outputs carries small still new_still last t long = grind (arith, nat_tests, common_steps, zero_tree)
 
 pub fed_tree : (nx ny : ℕ) (last now : Lines) (outputs carries small : List ℕ) (still : List Bool)
     (new_outputs new_carries new_small : List ℕ) (new_still : List Bool) (word : ℕ)
@@ -217,11 +152,10 @@ fed_tree nx ny last now outputs carries small still new_outputs new_carries new_
 
 -- ---- whole trees
 
-pub fed_seen : (nx ny : ℕ) (a b c : Bool) (outputs carries new_outputs new_carries : List ℕ) → 2 ^ (nx + ny + 1) ≤ 64
-    * length outputs
+pub fed_seen : (nx ny : ℕ) (a b c : Bool) (outputs carries new_outputs new_carries : List ℕ)
+    → 2 ^ (nx + ny + 1) ≤ 64 * length outputs
     → IsFedHeap a b c (2 ^ (nx + 1)) (rows outputs carries) (rows new_outputs new_carries)
-    → seen_tree nx ny new_outputs new_carries
-    ≡ after_feed a b c (seen_tree nx ny outputs carries)
+    → seen_tree nx ny new_outputs new_carries ≡ after_feed a b c (seen_tree nx ny outputs carries)
 fed_seen nx ny a b c outputs carries new_outputs new_carries enough f =
     ap (λ (nodes : List Node). record { nx = nx; ny = ny; nodes = nodes })
     (fed_law a b c (2 ^ (nx + 1)) (2 ^ (nx + ny + 1)) outputs carries new_outputs new_carries enough f)

@@ -1,16 +1,17 @@
 -- Bytes and words, lane by lane and bit by bit.
-use Rattle.std.proofs.Common.{◌≡◌, ℕ, zero, suc, ◌+◌, ◌-◌, ◌*◌, ◌/◌, ◌%◌, ◌^◌, ◌<◌, ◌≤◌, true, eqb, nat_lt}
-use Rattle.std.proofs.Common.{List, [], ◌∷◌, ◌++◌, length, get_or, replicate, refl, sym, ap, ◌∙◌, arith, inl, inr}
-use Rattle.std.proofs.Common.{◌⊎◌, w8, w64, Fits, bit_and, subst}
-use Rattle.std.proofs.lemmas.Bool.{cases_lt, agree_below, agree_below_at, eqb-true, ltb-true}
-use Rattle.std.proofs.lemmas.Nat.{and_mask, mod_below, pow-add}
-use Rattle.std.proofs.lemmas.Nat.Bits.{bit_at_cat_low, bit_at_cat_high}
-use Rattle.std.proofs.lemmas.List.{get_or_append_left, get_or-append-add, get_or-map, length-map}
-use Rattle.std.proofs.lemmas.Simd.{Each1-get_or, Each1-from_get_or, below_from_Fits, length-zip2, get_or-zip2}
+use Rattle.px_num.proofs.Basics.{◌≡◌, ℕ, zero, suc, ◌+◌, ◌-◌, ◌*◌, ◌/◌, ◌%◌, ◌^◌, ◌<◌, ◌≤◌, true, eqb, nat_lt, List, []}
+use Rattle.px_num.proofs.Basics.{◌∷◌, ◌++◌, length, get_or, replicate, refl, sym, ap, ◌∙◌, arith, inl, inr, ◌⊎◌, w64}
+use Rattle.px_num.proofs.Basics.{bit_and, subst, cases_lt, agree_below_at, and_mask, mod_below, pow-add, bit_at_cat_low}
+use Rattle.px_num.proofs.Basics.{bit_at_cat_high, get_or_append_left, get_or-append-add, get_or-map, length-map}
+use Rattle.px_num.proofs.Basics.{length-zip2, get_or-zip2, get_or-chunk, zip2}
+use Rattle.std.proofs.Common.{w8}
+use Rattle.std.proofs.Common.{Fits}
+use Rattle.std.proofs.lemmas.Bool.{agree_below, eqb-true, ltb-true}
+use Rattle.std.proofs.lemmas.Simd.{Each1-get_or, Each1-from_get_or, below_from_Fits}
 use Rattle.std.proofs.lemmas.Simd.{get_or-replicate, swz_l, SwzOk, SwzOk-from_below, length-swz_l, get_or-swz_l_below}
-use Rattle.std.proofs.lemmas.Simd.{get_or_wider, get_or_narrower, get_or-chunk, Each1-chunk}
+use Rattle.std.proofs.lemmas.Simd.{get_or_wider, get_or_narrower, Each1-chunk}
 use Rattle.std.proofs.Math.Nat.{pow-suc}
-use Rattle.std.specs.Simd.Lanes.{zip2, Each1, chunk, number_l, digits_l, pick_l}
+use Rattle.std.specs.Simd.Lanes.{Each1, chunk, number_l, digits_l, pick_l}
 use Rattle.px_num.specs.Bits.{nat_bit}
 use Rattle.px_rows.proofs.BitLaws.{bit_down, bit_of_low, bit_of_zero}
 use Rattle.px_plane_tree.specs.Lanes.{IsTwice, HasBytes, IsDoubled}
@@ -158,8 +159,7 @@ woven lows highs ks = pick_l 0 (lows ++ highs) ks
 
 -- two rows of doubled half bytes, woven from byte `from` on
 pub woven_law : (at from : ℕ) (words bytes lows highs ks : List ℕ) → from ≡ 8 * at → at < 2 → HasBytes words bytes
-    → IsTwice 0 bytes lows → IsTwice 4 bytes highs
-    → length ks ≡ 16 → ((k : ℕ) → k < 8 → get_or ks (2 * k) 0 ≡ from + k)
+    → IsTwice 0 bytes lows → IsTwice 4 bytes highs → length ks ≡ 16 → ((k : ℕ) → k < 8 → get_or ks (2 * k) 0 ≡ from + k)
     → ((k : ℕ) → k < 8 → get_or ks (2 * k + 1) 0 ≡ 16 + (from + k))
     → IsDoubled (get_or words at 0) (digits_l (2 ^ 64) 2 (number_l 256 (pick_l 0 (lows ++ highs) ks)))
 woven_law at from words bytes lows highs ks e two b lo hi long evens odds = record {

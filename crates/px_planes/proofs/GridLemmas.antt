@@ -1,10 +1,7 @@
 -- Grids of rows: their pixels after an act, and their padding.
-use Rattle.std.proofs.Common.{◌≡◌, ℕ, zero, suc, ◌+◌, ◌-◌, ◌*◌, ◌%◌, ◌^◌, ◌<◌, ◌≤◌, ◌&&◌, ◌||◌, Bool, true}
-use Rattle.std.proofs.Common.{false, cond, nat_lt, List, [], ◌∷◌, length, get_or, map, replicate, refl, sym, ap, ◌∙◌}
-use Rattle.std.proofs.Common.{arith, inl, inr}
-use Rattle.std.proofs.lemmas.Bool.{cases_lt, le-ltb, lt-ltb}
-use Rattle.std.proofs.lemmas.List.{get_or_past}
-use Rattle.std.proofs.lemmas.Nat.{pow-add}
+use Rattle.px_num.proofs.Basics.{◌≡◌, ℕ, zero, suc, ◌+◌, ◌-◌, ◌*◌, ◌%◌, ◌^◌, ◌<◌, ◌≤◌, Bool, true, false, cond, nat_lt}
+use Rattle.px_num.proofs.Basics.{List, [], length, get_or, map, replicate, refl, sym, ap, ◌∙◌, arith, inl, inr}
+use Rattle.px_num.proofs.Basics.{cases_lt, le-ltb, lt-ltb, get_or_past, pow-add}
 use Rattle.std.proofs.lemmas.Simd.{get_or-replicate, length-replicate}
 use Rattle.px_array.specs.Arrays.{no_pixel, registers_of}
 use Rattle.px_array.specs.Clocks.{acted}
@@ -15,12 +12,9 @@ use Rattle.px_num.proofs.TruthLaws.{and_false, and_true, power_grows}
 use Rattle.px_pixel.specs.Acts.{after_act}
 use Rattle.px_pixel.specs.Pixels.{PixelState, zero_pixel}
 use Rattle.px_pixel.specs.declared.act.Act.{Act}
-use Rattle.px_pixel.specs.declared.act.Act.TheVariants.{SetCarry}
-use Rattle.px_pixel.specs.declared.act.Act.TheVariants.{Fetch, CarryTree}
-use Rattle.px_pixel.specs.declared.act.Act.TheVariants.{CarryLatch, AddTree}
+use Rattle.px_pixel.specs.declared.act.Act.TheVariants.{SetCarry, Fetch, CarryTree, CarryLatch, AddTree}
 use Rattle.px_planes.specs.Pixels.{HasPixels, IsActed, IsZero, acted_at, pixel_in, pixels_in}
-use Rattle.px_rows.specs.Rows.{words_for}
-use Rattle.px_rows.specs.Rows.{row_bit}
+use Rattle.px_rows.specs.Rows.{words_for, row_bit}
 use Rattle.px_planes.specs.declared.planes.Planes.{Planes}
 use Rattle.px_tree.specs.Nodes.{TreeState, leaf_output}
 use Rattle.px_planes.proofs.StoredLemmas.{bit_of_rows}
@@ -32,24 +26,15 @@ acted_inside (SetCarry v) t p = ap (λ (b : Bool). record p { carry = b }) (and_
 acted_inside act t p = refl
 
 no_bit : (bits at : ℕ) → get_or (replicate bits false) at false ≡ false
-no_bit bits at = elim (cases_lt at bits) [
-  | inl l ↦ get_or-replicate bits at false false l
-  | inr g ↦ get_or_past (replicate bits false) at false (omega (arith, length-replicate {A = Bool} bits false))
-]
+no_bit bits at = grind (arith, cases_lt, get_or-replicate, get_or_past, length-replicate)
 
 -- and in the padding nothing is set
 pub acted_outside : (bits : ℕ) (act : Act) → acted_at false act false (zero_pixel bits) ≡ zero_pixel bits
 acted_outside bits (SetCarry v) = ap (λ (b : Bool). record (zero_pixel bits) { carry = b }) (and_false v)
 acted_outside bits (Fetch at) = ap (λ (b : Bool). record (zero_pixel bits) { latch = b }) (no_bit bits at)
-acted_outside bits (CarryTree at) =
-    ap (λ (b : Bool). record (zero_pixel bits) { carry = (true && b) || ((true && false) || (b && false)) })
-    (no_bit bits at)
-acted_outside bits (CarryLatch at) =
-    ap (λ (b : Bool). record (zero_pixel bits) { carry = (true && b) || ((true && false) || (b && false)) })
-    (no_bit bits at)
-acted_outside bits (AddTree at) =
-    ap (λ (b : Bool). record (zero_pixel bits) { carry = (false && b) || ((false && false) || (b && false)) })
-    (no_bit bits at)
+acted_outside bits (CarryTree at) = grind (arith, no_bit)
+acted_outside bits (CarryLatch at) = grind (arith, no_bit)
+acted_outside bits (AddTree at) = grind (arith, no_bit)
 acted_outside bits act = refl
 
 module _ (bits : ℕ) (act : Act) (tree : TreeState) (leaves : List ℕ) (old new : Planes) (long : length leaves
@@ -77,26 +62,14 @@ module _ (bits : ℕ) (act : Act) (tree : TreeState) (leaves : List ℕ) (old ne
       ∙ ap (after_act act (leaf_output tree p)) (sym before))))))
 
   pub still_pixels : HasPixels bits (2 ^ (tree.nx + tree.ny)) new
-  still_pixels = record {
-    words = rw (← long) done.words;
-    memory = done.memory ∙ pixels.memory;
-    full = λ p within. ap (λ n. nat_bit n (p % 64)) done.full ∙ pixels.full p within;
-    padding = λ p past within.
-        let outside : nat_bit old.full (p % 64) ≡ false =
-        pixels.full p within ∙ le-ltb p (2 ^ (tree.nx + tree.ny)) past in
-        let bit : row_bit leaves p ≡ false =
-        leaf p (omega (arith, long)) ∙ rw (le-ltb p (2 ^ (tree.nx + tree.ny)) past) refl in
-        done.each p (omega (arith, long)) ∙ rw (outside, bit, pixels.padding p past within) (acted_outside bits act);
-  }
+  still_pixels = grind (arith, le-ltb, acted_outside)
 
 -- ---- rows of 0
 
 zero_memory : (bits words p : ℕ) → map (λ (row : List ℕ). row_bit row p) (replicate bits (replicate words 0))
     ≡ replicate bits false
 zero_memory zero words p = refl
-zero_memory (suc bits) words p =
-    ap (λ (b : Bool). b ∷ map (λ (row : List ℕ). row_bit row p) (replicate bits (replicate words 0))) (zero_bit words p)
-    ∙ ap (λ (bs : List Bool). false ∷ bs) (zero_memory bits words p)
+zero_memory (suc bits) words p = grind (arith, zero_bit, zero_memory bits words p)
 
 zero_pixel_in : (bits words mask : ℕ) (planes : Planes) (p : ℕ) → IsZero bits words mask planes → pixel_in planes p
     ≡ zero_pixel bits
@@ -111,36 +84,14 @@ zero_law bits words mask n planes z =
 
 pub zero_pixels : (bits words mask n : ℕ) (planes : Planes) → 1 ≤ n → words ≡ words_for n → (64 < n → n % 64 ≡ 0)
     → ((i : ℕ) → i < 64 → nat_bit mask i ≡ nat_lt i n) → IsZero bits words mask planes → HasPixels bits n planes
-zero_pixels bits words mask n planes some enough whole full z = record {
-  words = rw (← enough) (record {
-    memory = λ at within. ap (λ (rows : List (List ℕ)). length (get_or rows at [])) z.memory
-        ∙ (ap length (get_or-replicate bits at (replicate words 0) [] (omega (
-          arith,
-          ap length z.memory,
-          length-replicate {A = List ℕ} bits (replicate words 0),
-        ))) ∙ length-replicate words 0);
-    enable = ap length z.enable ∙ length-replicate words 0;
-    carry = ap length z.carry ∙ length-replicate words 0;
-    latch = ap length z.latch ∙ length-replicate words 0;
-  });
-  memory = ap length z.memory ∙ length-replicate bits (replicate words 0);
-  full = λ p within. ap (λ m. nat_bit m (p % 64)) z.full ∙ (full (p % 64) (omega arith) ∙ same p within);
-  padding = λ p past within. zero_pixel_in bits words mask planes p z;
-}
-  where
-    same : (p : ℕ) → p < 64 * words_for n → nat_lt (p % 64) n ≡ nat_lt p n
-    same p within = elim (cases_lt 64 n) [
-      | inl large ↦ let w = whole large in lt-ltb (p % 64) n (omega arith) ∙ sym (lt-ltb p n (omega arith))
-      | inr small ↦ let e : p % 64 ≡ p = omega arith in rw e refl
-    ]
+zero_pixels bits words mask n planes some enough whole full z =
+    grind (arith, get_or-replicate, length-replicate, zero_pixel_in)
 
 -- ---- single bits
 
 pub bit_law : (bits n : ℕ) (planes : Planes) (at p : ℕ) → HasPixels bits n planes → at < bits → p < n
     → row_bit (get_or planes.memory.items at []) p ≡ bit_at (get_or (pixels_in n planes) p no_pixel).memory at
-bit_law bits n planes at p pixels place within =
-    sym (bit_of_rows planes.memory.items at p (omega (arith, pixels.memory)))
-    ∙ ap (λ (x : PixelState). bit_at x.memory at) (sym (get_or-tabulate n (pixel_in planes) p no_pixel within))
+bit_law bits n planes at p pixels place within = grind (arith, bit_of_rows, get_or-tabulate)
 
 pub row_law : (bits n : ℕ) (planes : Planes) (at p : ℕ) → HasPixels bits n planes → at < bits → p < 64 * words_for n
     → row_bit (get_or planes.memory.items at []) p

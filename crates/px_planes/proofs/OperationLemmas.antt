@@ -1,9 +1,7 @@
 -- Operations made at once in one word.
-use Rattle.std.proofs.Common.{◌≡◌, ℕ, zero, suc, ◌+◌, ◌*◌, ◌/◌, ◌^◌, ◌<◌, ◌≤◌, ◌%◌, ℤ, pos, Bool, true, false}
-use Rattle.std.proofs.Common.{not, cond}
-use Rattle.std.proofs.Common.{List, [], length, get_or, refl, sym, ap, ◌∙◌, arith}
-use Rattle.std.specs.Vec.{with_item}
-use Rattle.std.proofs.lemmas.List.{length-map}
+use Rattle.px_num.proofs.Basics.{◌≡◌, ℕ, zero, suc, ◌+◌, ◌*◌, ◌/◌, ◌^◌, ◌<◌, ◌≤◌, ◌%◌, ℤ, pos, Bool, true, false, not}
+use Rattle.px_num.proofs.Basics.{cond, List, [], length, get_or, refl, sym, ap, ◌∙◌, arith, ◌&&◌, ◌+ℤ◌, ◌≤ℤ◌, ◌<ℤ◌}
+use Rattle.px_num.proofs.Basics.{with_item, length-map, is_negative}
 use Rattle.px_asm.proofs.ActingLemmas.{after_acts}
 use Rattle.px_asm.proofs.StoringLemmas.{put_by_stores}
 use Rattle.px_asm.specs.Microprograms.{bits_of}
@@ -13,12 +11,9 @@ use Rattle.px_macro.specs.declared.operation.Macro.{Macro}
 use Rattle.px_num.specs.Bits.{bit_at, nat_bit}
 use Rattle.px_num.specs.Forms.{value_at}
 use Rattle.px_num.specs.declared.linear.Linear.{Linear}
-use Rattle.std.specs.Int.{is_negative}
 use Rattle.px_pixel.specs.Acts.{kept, stored}
 use Rattle.px_pixel.specs.Pixels.{PixelState}
 use Rattle.px_pixel.specs.declared.act.Act.TheVariants.{StoreConst}
-use Rattle.std.proofs.Common.{◌&&◌, ◌+ℤ◌, ◌≤ℤ◌, ◌<ℤ◌}
-use Rattle.std.proofs.lemmas.Int.{ints}
 use Rattle.px_lanes.specs.Lanes.{offset}
 use Rattle.px_macro.specs.declared.operation.Macro.TheVariants.{KeepSign}
 use Rattle.px_num.proofs.TruthLaws.{and_true}
@@ -35,11 +30,7 @@ pub done_by_work : (op : Macro) (ny w n : ℕ) (f : ℕ → PixelState → Pixel
     → ((p : ℕ) → p < 64 * n → p / 64 ≡ w → bits_of (f p (pixel_in old p))
     ≡ after_macro op (p / 2 ^ ny) (p % 2 ^ ny) (bits_of (pixel_in old p)))
     → IsWordDone op ny w n old new
-done_by_work op ny w n f old new work means = record {
-  each = λ p within here. ap bits_of (work.each p within here) ∙ means p within here;
-  others = work.others;
-  like = work.like;
-}
+done_by_work op ny w n f old new work means = grind arith
 
 pub bit_of_word : (planes : Planes) (at w p : ℕ) → at < length planes.memory.items → p / 64 ≡ w
     → nat_bit (get_or (get_or planes.memory.items at []) w 0) (p % 64) ≡ bit_at (pixel_in planes p).memory at
@@ -66,23 +57,15 @@ place_in_word p w here = omega arith
 
 -- a word that lies on one side of an edge whole
 is_positive_value : (v o base low : ℤ) → v ≡ o +ℤ base → low ≤ℤ o → pos 0 ≤ℤ (base +ℤ low) → is_negative v ≡ false
-is_positive_value v o base low is least test = sign_of v (omega (arith, ints))
-  where
-    sign_of : (v : ℤ) → pos 0 ≤ℤ v → is_negative v ≡ false
-    sign_of v h = grind (arith, ints)
+is_positive_value v o base low is least test = grind arith
 
 is_negative_value : (v o base high : ℤ) → v ≡ o +ℤ base → o ≤ℤ high → (base +ℤ high) <ℤ pos 0 → is_negative v ≡ true
-is_negative_value v o base high is most test = sign_of v (omega (arith, ints))
-  where
-    sign_of : (v : ℤ) → v <ℤ pos 0 → is_negative v ≡ true
-    sign_of v h = grind (arith, ints)
+is_negative_value v o base high is most test = grind arith
 
 pub value_here : (form : Linear) (ny w p : ℕ) (base : ℤ)
     → ((j : ℕ) → j < 64 → value_at form ((64 * w + j) / 2 ^ ny) ((64 * w + j) % 2 ^ ny) ≡ offset form ny j +ℤ base)
     → p / 64 ≡ w → value_at form (p / 2 ^ ny) (p % 2 ^ ny) ≡ offset form ny (p % 64) +ℤ base
-value_here form ny w p base values here =
-    let small : p % 64 < 64 = omega arith in
-    rw (place_in_word p w here) at (values (p % 64) small)
+value_here form ny w p base values here = grind (arith, place_in_word)
 
 pub kept_whole : (form : Linear) (ny w n : ℕ) (base low : ℤ) (planes : Planes) → HasWords n planes
     → ((j : ℕ) → j < 64 → value_at form ((64 * w + j) / 2 ^ ny) ((64 * w + j) % 2 ^ ny) ≡ offset form ny j +ℤ base)
@@ -124,10 +107,4 @@ pub stored_in_rows : (op : Macro) (ny : ℕ) (old : Planes) (at : ℕ) (row : Li
     → ((p : ℕ) → bits_of (stored at (v p) (pixel_in old p)) ≡ after_macro op (p / 2 ^ ny) (p % 2 ^ ny)
     (bits_of (pixel_in old p)))
     → IsDone op ny (length old.enable) old (record old { memory = with_item old.memory at row })
-stored_in_rows op ny old at row v words place long each means = record {
-  each = λ p within.
-      ap (λ (memory : List Bool). record { memory = memory; enable = row_bit old.enable p })
-      (stored_row old.memory.items at p row (row_bit old.enable p) (v p) place (each p (omega (arith, long))))
-      ∙ means p;
-  like = like_stored old at row words place long;
-}
+stored_in_rows op ny old at row v words place long each means = grind (arith, stored_row, like_stored)

@@ -1,57 +1,31 @@
 -- Rows on a shelf.
-use Rattle.std.proofs.Common.{◌≡◌, ℕ, ◌+◌, ◌*◌, ◌/◌, ◌%◌, ◌<◌, ◌≤◌, nat_lt, Bool, true, false, cond, None, Some}
-use Rattle.std.proofs.Common.{IsSome, List, [], ◌++◌, length, get_or, map, refl, sym, ap, ◌∙◌, arith, inl, inr}
-use Rattle.std.proofs.lemmas.Bool.{cases_lt}
-use Rattle.std.proofs.lemmas.List.{get_or-append-add, get_or-map, get_or_append_left, length-append, length-map}
-use Rattle.std.proofs.Math.Nat.{mul-le-mul}
+use Rattle.px_num.proofs.Basics.{◌≡◌, ℕ, ◌+◌, ◌*◌, ◌%◌, ◌<◌, ◌≤◌, nat_lt, Bool, true, false, cond, None, Some, IsSome}
+use Rattle.px_num.proofs.Basics.{List, [], ◌++◌, length, get_or, map, refl, sym, ap, ◌∙◌, arith, get_or-append-add}
+use Rattle.px_num.proofs.Basics.{get_or-map, get_or_append_left, length-map, mul-le-mul}
 use Rattle.px_num.specs.Bits.{nat_bit}
 use Rattle.px_num.proofs.ListLaws.{get_or-tabulate, is_tabulate, length-tabulate}
 use Rattle.px_num.specs.Lists.{tabulate}
 use Rattle.px_array.specs.Arrays.{Device, no_pixel}
 use Rattle.px_planes.specs.Pixels.{HasPixels, HasWords, pixel_in, pixels_in}
-use Rattle.px_rows.specs.Rows.{words_for}
-use Rattle.px_rows.specs.Rows.{row_bit}
-use Rattle.px_planes.specs.Shelves.{AreShelved, IsFilled, IsShelved, pixel_on}
+use Rattle.px_rows.specs.Rows.{words_for, row_bit}
+use Rattle.px_planes.specs.Shelves.{IsFilled, IsShelved, pixel_on}
 use Rattle.px_planes.specs.declared.planes.Planes.{Planes}
 
--- the words of a row stand before those of the next
-pub in_rows : (k count n j : ℕ) → k < count → j < n → k * n + j < count * n
-in_rows k count n j below within =
-    let more : k + 1 ≤ count = omega arith in
-    let same : n ≤ n = omega arith in
-    let next : (k + 1) * n ≤ count * n = mul-le-mul more same in
-    omega arith
-
 pub rows_fit : (k count n : ℕ) → k < count → k * n + n ≤ count * n
-rows_fit k count n below =
-    let more : k + 1 ≤ count = omega arith in
-    let same : n ≤ n = omega arith in
-    let next : (k + 1) * n ≤ count * n = mul-le-mul more same in
-    omega arith
+rows_fit k count n below = grind (arith, mul-le-mul)
 
 -- one row more
 pub pushed_row : (n at : ℕ) (words row : List ℕ) (rows : List (List ℕ)) → length words ≡ at * n
     → row ≡ get_or rows at []
     → ((k j : ℕ) → k < at → j < n → get_or words (k * n + j) 0 ≡ get_or (get_or rows k []) j 0)
     → (k j : ℕ) → k < at + 1 → j < n → get_or (words ++ row) (k * n + j) 0 ≡ get_or (get_or rows k []) j 0
-pushed_row n at words row rows long is before k j below within = elim (cases_lt k at) [
-  | inl l ↦ get_or_append_left words row 0 (k * n + j) (omega (arith, long, in_rows k at n j l within))
-      ∙ before k j l within
-  | inr g ↦
-      let e : k ≡ at = omega arith in
-      let place : k * n + j ≡ length words + j = ap (λ m. m * n + j) e ∙ omega (arith, long) in
-      ap (λ m. get_or (words ++ row) m 0) place ∙ (get_or-append-add words row j 0
-      ∙ (ap (λ r. get_or r j 0) is ∙ ap (λ m. get_or (get_or rows m []) j 0) (sym e)))
-]
+pushed_row n at words row rows long is before k j below within = grind (arith, get_or_append_left, get_or-append-add)
 
 -- ---- the pixels of what is kept
 
 shelf_bit : (row words : List ℕ) (from n p : ℕ) → ((j : ℕ) → j < n → get_or words (from + j) 0 ≡ get_or row j 0)
     → p < 64 * n → row_bit words (64 * from + p) ≡ row_bit row p
-shelf_bit row words from n p same within =
-    let word : (64 * from + p) / 64 ≡ from + p / 64 = omega arith in
-    let place : (64 * from + p) % 64 ≡ p % 64 = omega arith in
-    rw (word, place) (ap (λ w. nat_bit w (p % 64)) (same (p / 64) (omega arith)))
+shelf_bit row words from n p same within = grind arith
 
 module _ (bits n : ℕ) (planes : Planes) (words : List ℕ) (memory : length planes.memory.items ≡ bits)
     (kept : IsShelved bits n planes words) where

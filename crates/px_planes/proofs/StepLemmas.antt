@@ -1,6 +1,6 @@
 -- Values that grow by a step from block to block, bit by bit.
-use Rattle.std.proofs.Common.{◌≡◌, ℕ, zero, suc, ℤ, false, ◌+ℤ◌, ◌+◌, ◌*◌, ◌/◌, ◌%◌, ◌^◌, ◌<◌, ◌≤◌, List}
-use Rattle.std.proofs.Common.{get_or, sym, arith}
+use Rattle.px_num.proofs.Basics.{◌≡◌, ℕ, zero, suc, ℤ, false, ◌+ℤ◌, ◌+◌, ◌*◌, ◌/◌, ◌%◌, ◌^◌, ◌<◌, ◌≤◌, List, get_or}
+use Rattle.px_num.proofs.Basics.{arith}
 use Rattle.px_lanes.specs.Lanes.{offset}
 use Rattle.px_lanes.proofs.BlockLaws.{value_behind}
 use Rattle.px_num.specs.Bits.{bit_of, carry_from, nat_bit}
@@ -17,12 +17,7 @@ stepped_bit : (a carry : List ℕ) (step : ℤ) (t n : ℕ) (v : ℕ → ℕ →
     → (b i : ℕ) → b ≤ n → i < 512 → value_in a (bit_of step t) carry b i ≡ bit_of (v b i) t
 stepped_bit a carry step t n v first carried next zero i within small = first i small
 stepped_bit a carry step t n v first carried next (suc b) i within small =
-    rw (
-      stepped_bit a carry step t n v first carried next b i (omega arith) small,
-      carried b i (omega arith) small,
-      next b i,
-    )
-    (sym (sum_bit (v b i) step t))
+    grind (arith, sum_bit, stepped_bit a carry step t n v first carried next b i (omega arith) small)
 
 -- the values in the blocks of a strip, and in the block behind it
 pub value_in_strip : (form : Linear) (ny strip t : ℕ) (a carry : List ℕ) → ny ≤ 9

@@ -1,11 +1,9 @@
 -- Acts on rows, as what they do to the pixels.
-use Rattle.std.proofs.Common.{◌≡◌, ◌≢◌, ℕ, ◌*◌, ◌/◌, ◌<◌, ◌%◌, Bool, true, false, cond, List, [], length, length-set}
-use Rattle.std.proofs.Common.{get_or, get_or-set_other, get_or-set_same, set, map, replicate, refl, sym, ap, ◌∙◌}
-use Rattle.std.proofs.Common.{arith, inl, inr}
-use Rattle.std.proofs.lemmas.Bool.{cases_eq}
-use Rattle.std.proofs.lemmas.List.{map-set, set-get_or, get_or-map, length-replicate}
+use Rattle.px_num.proofs.Basics.{◌≡◌, ℕ, ◌*◌, ◌/◌, ◌<◌, ◌%◌, Bool, true, false, cond, List, [], length, length-set}
+use Rattle.px_num.proofs.Basics.{get_or, get_or-set_other, get_or-set_same, set, map, replicate, sym, ap, ◌∙◌, arith}
+use Rattle.px_num.proofs.Basics.{cases_eq, get_or-map, length-replicate, with_item}
+use Rattle.std.proofs.lemmas.List.{map-set, set-get_or}
 use Rattle.std.proofs.lemmas.Simd.{get_or-replicate}
-use Rattle.std.specs.Vec.{with_item}
 use Rattle.px_num.specs.Bits.{majority, nat_bit, xor}
 use Rattle.px_pixel.specs.Acts.{stored}
 use Rattle.px_pixel.specs.declared.act.Act.{Act}
@@ -16,9 +14,8 @@ use Rattle.px_planes.specs.declared.planes.Planes.{Planes}
 
 -- a row that is written is one bit of each pixel
 pub stored_row : (rows : List (List ℕ)) (at p : ℕ) (new : List ℕ) (e v : Bool) → at < length rows
-    → row_bit new p ≡ cond e v (row_bit (get_or rows at []) p)
-    → map (λ row. row_bit row p) (set rows at new) ≡ cond e (set (map (λ row. row_bit row p) rows) at v)
-    (map (λ row. row_bit row p) rows)
+    → row_bit new p ≡ cond e v (row_bit (get_or rows at []) p) → map (λ row. row_bit row p)
+    (set rows at new) ≡ cond e (set (map (λ row. row_bit row p) rows) at v) (map (λ row. row_bit row p) rows)
 stored_row rows at p new true v h s =
     map-set (λ row. row_bit row p) rows at new ∙ ap (set (map (λ row. row_bit row p) rows) at) s
 stored_row rows at p new false v h s =
@@ -38,11 +35,7 @@ module _ (leaves : List ℕ) (old : Planes) (at : ℕ) (row : List ℕ) (place :
     (words : HasWords (length leaves) old) (long : length row ≡ length leaves) where
   pub words_stored : (k : ℕ) → k < length (set old.memory.items at row)
       → length (get_or (set old.memory.items at row) k []) ≡ length leaves
-  words_stored k within = elim (cases_eq k at) [
-    | inl e ↦ rw e (ap length (get_or-set_same old.memory.items at row [] place) ∙ long)
-    | inr n ↦ let other : k ≢ at = n in ap length (get_or-set_other old.memory.items at k row [] other)
-        ∙ words.memory k (omega (arith, within, length-set old.memory.items at row))
-  ]
+  words_stored k within = grind (arith, cases_eq, get_or-set_same, get_or-set_other, length-set)
 
   -- an act that stores a bit where the pixels are enabled
   pub store_law : (act : Act) (v : ℕ → Bool)
@@ -51,15 +44,7 @@ module _ (leaves : List ℕ) (old : Planes) (at : ℕ) (row : List ℕ) (place :
       → ((p : ℕ) → stored at (v p) (pixel_in old p) ≡ acted_at (nat_bit old.full (p % 64)) act (row_bit leaves p)
       (pixel_in old p))
       → IsActed act leaves old (record old { memory = with_item old.memory at row })
-  store_law act v each act_is = record {
-    each = λ p within.
-        ap (λ (memory : List Bool). record (pixel_in old p) { memory = memory })
-        (stored_row old.memory.items at p row (row_bit old.enable p) (v p) place (each p (omega (arith, long))))
-        ∙ act_is p;
-    words = record { memory = words_stored; enable = words.enable; carry = words.carry; latch = words.latch };
-    memory = length-set old.memory.items at row;
-    full = refl;
-  }
+  store_law act v each act_is = grind (arith, stored_row, words_stored, length-set)
 
   -- an act that adds
   pub add_law : (carry : List ℕ) → length carry ≡ length leaves
@@ -69,18 +54,7 @@ module _ (leaves : List ℕ) (old : Planes) (at : ℕ) (row : List ℕ) (place :
       → ((p : ℕ) → p < 64 * length carry → row_bit carry p ≡ majority (row_bit leaves p)
       (row_bit (get_or old.memory.items at []) p) (row_bit old.carry p))
       → IsActed (AddTree at) leaves old (record old { memory = with_item old.memory at row; carry = carry })
-  add_law carry long_carry each each_carry = record {
-    each = λ p within.
-        let bit = bit_of_rows old.memory.items at p place in
-        let added = stored_row old.memory.items at p row (row_bit old.enable p)
-        (xor (row_bit leaves p) (xor (row_bit (get_or old.memory.items at []) p) (row_bit old.carry p))) place
-        (each p (omega (arith, long))) in
-        let carried = each_carry p (omega (arith, long_carry)) in
-        rw (bit, added, carried) refl;
-    words = record { memory = words_stored; enable = words.enable; carry = long_carry; latch = words.latch };
-    memory = length-set old.memory.items at row;
-    full = refl;
-  }
+  add_law carry long_carry each each_carry = grind (arith, bit_of_rows, stored_row, words_stored, length-set)
 
 -- a row that is filled
 pub record IsFilled (new : List ℕ) (n word : ℕ) : Type 0 where
@@ -88,7 +62,4 @@ pub record IsFilled (new : List ℕ) (n word : ℕ) : Type 0 where
   pub bits : (p : ℕ) → p < 64 * n → row_bit new p ≡ nat_bit word (p % 64)
 
 pub filled : (old new : List ℕ) (n word : ℕ) → length old ≡ n → new ≡ replicate (length old) word → IsFilled new n word
-filled old new n word long is = record {
-  long = ap length is ∙ (length-replicate (length old) word ∙ long);
-  bits = λ p within. ap (λ row. row_bit row p) is ∙ filled_bit (length old) word p (omega (arith, long));
-}
+filled old new n word long is = grind (arith, length-replicate, filled_bit)

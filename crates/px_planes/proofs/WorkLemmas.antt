@@ -1,8 +1,7 @@
 -- What is done to the pixels of one word.
-use Rattle.std.proofs.Common.{◌≡◌, ◌≢◌, ℕ, zero, suc, ◌+◌, ◌*◌, ◌/◌, ◌<◌, ◌%◌, ◌≤◌, Bool, false, cond, List, []}
-use Rattle.std.proofs.Common.{length, length-set}
-use Rattle.std.proofs.Common.{get_or, get_or-set_other, get_or-set_same, set, refl, sym, ap, ◌∙◌, arith, bit_and}
-use Rattle.std.specs.Vec.{with_item}
+use Rattle.px_num.proofs.Basics.{◌≡◌, ◌≢◌, ℕ, zero, suc, ◌+◌, ◌*◌, ◌/◌, ◌<◌, ◌%◌, ◌≤◌, Bool, false, cond, List, []}
+use Rattle.px_num.proofs.Basics.{length, length-set, get_or, get_or-set_other, get_or-set_same, set, refl, sym, ap, ◌∙◌}
+use Rattle.px_num.proofs.Basics.{arith, bit_and, with_item}
 use Rattle.px_num.specs.Bits.{bit_at, nat_bit}
 use Rattle.px_asm.proofs.WrittenLemmas.{other_bit}
 use Rattle.px_pixel.specs.Acts.{kept, stored}
@@ -29,18 +28,7 @@ like_self n planes words = record { words = words; memory = refl; carry = refl; 
 pub like_stored : (old : Planes) (at : ℕ) (row : List ℕ) → HasWords (length old.enable) old
     → at < length old.memory.items → length row ≡ length old.enable
     → IsLike (length old.enable) old (record old { memory = with_item old.memory at row })
-like_stored old at row words place long = record {
-  words = record {
-    memory = words_stored old.enable old at row place words long;
-    enable = words.enable;
-    carry = words.carry;
-    latch = words.latch;
-  };
-  memory = length-set old.memory.items at row;
-  carry = refl;
-  latch = refl;
-  full = refl;
-}
+like_stored old at row words place long = grind (arith, words_stored, length-set)
 
 -- a row of which a part is stored where the pixels are enabled
 pub put_row_law : (size w at : ℕ) (old : Planes) (row : List ℕ) (v : ℕ → Bool) → HasWords (length old.enable) old
@@ -52,9 +40,7 @@ pub put_row_law : (size w at : ℕ) (old : Planes) (row : List ℕ) (v : ℕ →
     (record old { memory = with_item old.memory at row })
 put_row_law size w at old row v words place long here beside =
     record {
-      each = λ p within is.
-          ap (λ (memory : List Bool). record (pixel_in old p) { memory = memory })
-          (stored_row old.memory.items at p row (row_bit old.enable p) (v p) place (here p within is));
+      each = grind (arith, stored_row);
       others = λ p within other.
           ap (λ (memory : List Bool). record (pixel_in old p) { memory = memory })
           (stored_row old.memory.items at p row false false place (beside p within other));
@@ -80,52 +66,17 @@ put_law old at w value word words place inside bits =
 pub keep_law : (old : Planes) (w mask : ℕ) → HasWords (length old.enable) old → w < length old.enable
     → IsWorked w (length old.enable) (λ p x. kept (nat_bit mask (p % 64)) x) old
     (record old { enable = set old.enable w (bit_and (get_or old.enable w 0) mask) })
-keep_law old w mask words inside =
-    let word = bit_and (get_or old.enable w 0) mask in
-    record {
-      each = λ p within here.
-          ap (λ (e : Bool). record (pixel_in old p) { enable = e })
-          (bit_set old.enable w word p inside here
-          ∙ (bit-and (get_or old.enable w 0) mask (p % 64) ∙ rw (← here) refl));
-      others = λ p within other.
-          ap (λ (e : Bool). record (pixel_in old p) { enable = e }) (bit_beside old.enable w word p other);
-      like = record {
-        words = record {
-          memory = words.memory;
-          enable = length-set old.enable w word ∙ words.enable;
-          carry = words.carry;
-          latch = words.latch;
-        };
-        memory = refl;
-        carry = refl;
-        latch = refl;
-        full = refl;
-      };
-    }
+keep_law old w mask words inside = grind (arith, bit_and, bit_set, bit-and, bit_beside, length-set)
 
 pub like_then : (n : ℕ) (a b c : Planes) → IsLike n a b → IsLike n b c → IsLike n a c
-like_then n a b c first second = record {
-  words = second.words;
-  memory = second.memory ∙ first.memory;
-  carry = second.carry ∙ first.carry;
-  latch = second.latch ∙ first.latch;
-  full = second.full ∙ first.full;
-}
+like_then n a b c first second = grind arith
 
 pub worked_then : (size w n : ℕ) (f g : ℕ → PixelState → PixelState) (a b c : Planes) → IsWorkedIn size w n f a b
     → IsWorkedIn size w n g b c → IsWorkedIn size w n (λ p x. g p (f p x)) a c
-worked_then size w n f g a b c first second = record {
-  each = λ p within here. second.each p within here ∙ ap (g p) (first.each p within here);
-  others = λ p within other. second.others p within other ∙ first.others p within other;
-  like = like_then n a b c first.like second.like;
-}
+worked_then size w n f g a b c first second = grind (arith, like_then)
 
 pub none_worked : (size w n : ℕ) (planes : Planes) → HasWords n planes → IsWorkedIn size w n (λ p x. x) planes planes
-none_worked size w n planes words = record {
-  each = λ p within here. refl;
-  others = λ p within other. refl;
-  like = like_self n planes words;
-}
+none_worked size w n planes words = grind (arith, like_self)
 
 stored_beside : (at k : ℕ) (b : Bool) (x : PixelState) → at ≢ k → bit_at (stored at b x).memory k ≡ bit_at x.memory k
 stored_beside at k b x other = other_bit x.enable b x.memory at k (λ e. other (sym e))
@@ -141,15 +92,6 @@ bit_above at v (suc n) k x above =
 -- one bit more is stored
 pub stored_more : (size w n at t : ℕ) (v : ℕ → ℕ → Bool) (e : ℕ → Bool) (a b c : Planes)
     → IsWorkedIn size w n (λ p x. stored_bits at (v p) t x) a b
-    → IsWorkedIn size w n (λ p x. stored (at + t) (e p) x) b c
-    → ((p : ℕ) → p < 64 * n → p / size ≡ w → e p ≡ v p t)
+    → IsWorkedIn size w n (λ p x. stored (at + t) (e p) x) b c → ((p : ℕ) → p < 64 * n → p / size ≡ w → e p ≡ v p t)
     → IsWorkedIn size w n (λ p x. stored_bits at (v p) (suc t) x) a c
-stored_more size w n at t v e a b c first second bit =
-    let both = worked_then size w n _ _ a b c first second in
-    record {
-      each = λ p within here.
-          both.each p within here
-          ∙ ap (λ (b : Bool). stored (at + t) b (stored_bits at (v p) t (pixel_in a p))) (bit p within here);
-      others = both.others;
-      like = both.like;
-    }
+stored_more size w n at t v e a b c first second bit = grind (arith, worked_then)

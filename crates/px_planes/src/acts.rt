@@ -35,6 +35,7 @@ pub fn act_planes(planes: &mut Planes, leaves: &[u64], act: Act)
     }
 }
 
+#[tactic(auto, using(crate::proofs::StoredLemmas::filled))]
 fn enable_all(planes: &mut Planes, leaves: &[u64])
     requires words { HasWords (length leaves.now) planes.old }
     ensures { IsActed EnableAll leaves.now planes.old planes.new }

@@ -51,6 +51,7 @@ pub(crate) fn store_words(planes: &mut Planes, at: u32, w: usize, values: &[u64]
 
 /// The bits of a word's pixels at a place of the memory.
 #[inline(always)]
+#[tactic(auto, using(std::proofs::lemmas::List::get_or_default, crate::proofs::OperationLemmas::bit_of_word))]
 pub(crate) fn memory_word(planes: &Planes, at: usize, w: usize) -> u64
     requires words { HasWords (length planes.now.enable) planes.now }
     requires place { at < length planes.now.memory.items }

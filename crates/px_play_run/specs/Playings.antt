@@ -1,17 +1,10 @@
 -- What was played, where the bytes of a listing were read. Only proofs and private functions stand on it.
-use Rattle.std.specs.Prelude.{ℕ, ◌≡◌, List, ⊤, Some, Result}
+use Rattle.std.specs.Prelude.{ℕ, List, Result}
 use Rattle.px_outcome.specs.declared.stop.Stop.{Stop}
-use Rattle.px_outcome.specs.declared.stop.Stop.TheVariants as s
-use Rattle.px_play_run.specs.Listings.{Plays, list_refusal, listing_written, played_out}
+use Rattle.px_play_run.specs.Listings.{Plays, listing_written, played_out}
 use Rattle.px_outcome.specs.Ends.{Ends}
 use Rattle.px_outcome.specs.Outcomes.{output}
 use Rattle.px_outcome.specs.Results.{Meets, Wrote, status_in}
-
--- why a text is no listing
-abbrev pub IsListStop : Stop → (bits : ℕ) → List ℕ → Type 0
-IsListStop (s.Refused reason) bits text = list_refusal bits text ≡ Some reason
-IsListStop (s.Memory _) bits text = ⊤
-IsListStop stop bits text = ⊥
 
 -- a listing is played, where these bytes were read
 pub record PlaysOn (result : Result (Unit {0}) Stop) (bytes : List ℕ) (bits : ℕ) (before after : Ends) : Type 0 where

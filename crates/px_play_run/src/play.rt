@@ -9,18 +9,17 @@ ghost use Rattle.px_macro.specs.Macros.{IsLawful};
 ghost use Rattle.px_playing.specs.Memories.{memory_text, played_text};
 ghost use Rattle.px_outcome.specs.declared.stop.Stop.{Stop};
 ghost use Rattle.px_play_run.specs.Listings.{PerformsPlay, Plays, list_refusal, listing_written};
-ghost use Rattle.px_outcome.specs.Outcomes.{done};
+ghost use Rattle.px_outcome.specs.Outcomes.{done, unless_refused};
 ghost use Rattle.px_outcome.specs.Ends.{ends};
 ghost use Rattle.px_outcome.specs.Results.{HasCauses, status_in};
 ghost use Rattle.px_outcome.specs.Inputs.{TookText};
-ghost use Rattle.px_outcome.specs.Stops.{DoesWork};
-ghost use Rattle.px_play_run.specs.Playings.{IsListStop};
+ghost use Rattle.px_outcome.specs.Stops.{DoesWork, StopsAt};
 
 use px_array::Array;
 use px_asm::Operating;
 use px_io::{Failed, Sink, Source};
 use px_listing::{Listing, read_listing};
-use px_outcome::{READ_LIMIT, Stop, read_text, too_long};
+use px_outcome::{READ_LIMIT, SceneStop, Stop, read_text, too_long};
 use px_playing::{laws_of_playing, play, write_memory};
 use std::alloc::Global;
 
@@ -51,19 +50,19 @@ pub fn play_input<S: Source, O: Sink, A: Operating>(
 
 /// The listing that a text writes, for pixels of so many memory bits.
 #[tactic(auto, unfolding(crate::specs::Listings::list_refusal, crate::specs::Listings::listing_written))]
-fn listing_in(alloc: Global, text: &[u8], bits: u32) -> Result<Listing, Stop>
+fn listing_in(alloc: Global, text: &[u8], bits: u32) -> Result<Listing, SceneStop>
     requires bits { bits ≤ 256 }
     ensures ok { IfOk result (λ listing.
         (list_refusal bits text.now ≡ None) × (listing ≡ listing_written text.now)) }
     ensures lawful { IfOk result (λ listing. All (λ m. IsLawful m bits) listing.macros) }
-    ensures err { IfErr result (λ stop. IsListStop stop bits text.now) }
+    ensures err { IfErr result (λ stop. StopsAt (unless_refused (list_refusal bits text.now)) stop) }
 {
     if text.len() >= READ_LIMIT {
-        return Err(Stop::Refused(too_long()));
+        return Err(SceneStop::Refused(too_long()));
     }
     match read_listing(alloc, text, bits) {
         Ok(listing) => Ok(listing),
-        Err(fault) => Err(Stop::from(fault)),
+        Err(fault) => Err(SceneStop::from(fault)),
     }
 }
 

@@ -1,13 +1,9 @@
 -- Operations that few memory bits can carry out, on a longer memory: its first bits come out alike, and the
 -- others stay.
-use Rattle.std.proofs.Common.{◌≡◌, ℕ, suc, ◌+◌, ◌-◌, ◌<◌, ◌≤◌, All, Bool, false, true, if◌then◌else◌, List, [], ◌∷◌}
-use Rattle.std.proofs.Common.{◌++◌}
-use Rattle.std.proofs.Common.{length, replicate, slice_set, get_or, inl, inr, refl, ap, sym, subst, ◌∙◌, arith}
-use Rattle.std.proofs.Common.{length-append}
-use Rattle.std.proofs.lemmas.Bool.{cases_lt}
-use Rattle.std.proofs.lemmas.Bool.Decides.{nat_tests}
-use Rattle.std.proofs.lemmas.List.{get_or-append_right, get_or-replicate, get_or_append_left, get_or_past}
-use Rattle.std.proofs.lemmas.List.{length-replicate}
+use Rattle.px_num.proofs.Basics.{◌≡◌, ℕ, suc, ◌+◌, ◌-◌, ◌<◌, ◌≤◌, All, Bool, false, true, if◌then◌else◌, List, [], ◌∷◌}
+use Rattle.px_num.proofs.Basics.{◌++◌, length, replicate, slice_set, inl, inr, refl, ap, sym, subst, ◌∙◌, arith}
+use Rattle.px_num.proofs.Basics.{length-append, cases_lt, nat_tests, get_or-append_right, get_or-replicate}
+use Rattle.px_num.proofs.Basics.{get_or_append_left, get_or_past, length-replicate}
 use Rattle.std.proofs.lemmas.List.{set-append_left}
 use Rattle.px_num.specs.Bits.{bit_at, nat_bit}
 use Rattle.px_num.proofs.ListLaws.{is_tabulate, length-tabulate}
@@ -15,11 +11,11 @@ use Rattle.px_macro.specs.Fields.{is_in, number_in, with_number}
 use Rattle.px_macro.specs.Macros.{IsLawful, MemoryStaysLong, PixelBits, after_macro, after_macros}
 use Rattle.px_macro.specs.declared.field.Field.{Field}
 use Rattle.px_macro.specs.declared.operation.Macro.{Macro}
-use Rattle.px_macro.specs.declared.operation.Macro.TheVariants as m
 use Rattle.px_macro.proofs.NumberLaws.{number_same, places_are_written}
 use Rattle.px_model.specs.Cells.{Sight}
-use Rattle.px_sched.specs.Layouts.{LayoutView, depth_part, fraction_part, number_part}
+use Rattle.px_sched.specs.Layouts.{LayoutView}
 use Rattle.px_sched.specs.PassesLaw.{HasSight}
+use Rattle.px_macro.specs.declared.operation.Macro.TheVariants as m
 
 -- a pixel with more bits of memory
 abbrev pub padded : PixelBits → List Bool → PixelBits
@@ -29,9 +25,7 @@ bit_padded : (xs ys : List Bool) (at : ℕ) → at < length xs → bit_at (xs ++
 bit_padded xs ys at low = get_or_append_left xs ys false at low
 
 number_padded : (f : Field) (xs ys : List Bool) → f.at + f.len ≤ length xs → number_in f (xs ++ ys) ≡ number_in f xs
-number_padded f xs ys within =
-    number_same (λ t. bit_at (xs ++ ys) (f.at + t)) (λ t. bit_at xs (f.at + t)) f.len
-    (λ t low. bit_padded xs ys (f.at + t) (omega arith))
+number_padded f xs ys within = grind (arith, number_same, bit_padded)
 
 beside : (f : Field) (place : ℕ) → f.at + f.len ≤ place → is_in f place ≡ false
 beside f place past = grind (arith, nat_tests)
@@ -82,9 +76,7 @@ after_padded (m.LoadConst f c) x y p more lawful =
     ap (holding p.enable) (put_padded p.enable f c p.memory more lawful.0.within)
 after_padded (m.SetBit at v) x y p more lawful =
     ap (holding p.enable) (bit_put_padded p.enable at v p.memory more lawful)
-after_padded (m.Toggle at) x y p more lawful =
-    rw (bit_padded p.memory more at lawful)
-    (ap (holding p.enable) (bit_put_padded p.enable at _ p.memory more lawful))
+after_padded (m.Toggle at) x y p more lawful = grind (arith, bit_padded, bit_put_padded)
 after_padded (m.Copy f g) x y p more lawful =
     rw (number_padded f p.memory more lawful.0.fields.0.within)
     (ap (holding p.enable) (put_padded p.enable g _ p.memory more lawful.0.fields.1.within))
@@ -103,27 +95,12 @@ all_padded stays (op ∷ ops) x y p more lawful =
 
 -- zeros behind a memory change no number in it, since every place behind it reads as 0
 zero_behind : (xs : List Bool) (n at : ℕ) → bit_at (xs ++ replicate n false) at ≡ bit_at xs at
-zero_behind xs n at = elim (cases_lt at (length xs)) [
-  | inl less ↦ bit_padded xs (replicate n false) at less
-  | inr past ↦ get_or-append_right xs (replicate n false) (length xs) at false refl past
-      ∙ zero_at n (at - length xs) ∙ sym (get_or_past xs at false past)
-]
-  where
-    zero_at : (n k : ℕ) → get_or (replicate n false) k false ≡ false
-    zero_at n k = elim (cases_lt k n) [
-      | inl less ↦ get_or-replicate n k false false less
-      | inr past ↦ get_or_past (replicate n false) k false (omega (arith, length-replicate n false))
-    ]
+zero_behind xs n at =
+    grind (arith, cases_lt, bit_padded, get_or-append_right, get_or_past, get_or-replicate, length-replicate)
 
 number_same_behind : (f : Field) (xs : List Bool) (n : ℕ) → number_in f (xs ++ replicate n false) ≡ number_in f xs
-number_same_behind f xs n =
-    number_same (λ t. bit_at (xs ++ replicate n false) (f.at + t)) (λ t. bit_at xs (f.at + t)) f.len
-    (λ t low. zero_behind xs n (f.at + t))
+number_same_behind f xs n = grind (arith, number_same, zero_behind)
 
 pub sight_same : (l : LayoutView) (xs : List Bool) (n : ℕ) (sight : Sight) → HasSight l (xs ++ replicate n false) sight
     → HasSight l xs sight
-sight_same l xs n sight has = record {
-  depth = sym (number_same_behind (depth_part l l.key_b) xs n) ∙ has.depth;
-  whole = sym (number_same_behind (fraction_part l l.key_b) xs n) ∙ has.whole;
-  face = sym (number_same_behind (number_part l l.key_b) xs n) ∙ has.face;
-}
+sight_same l xs n sight has = grind (arith, number_same_behind)

@@ -1,13 +1,11 @@
 -- The grid and the passes of a scene, as a listing.
-use Rattle.std.proofs.Common.{◌≡◌, ℕ, ◌+◌, ◌^◌, ◌<◌, ◌≤◌, All, List, [], ◌++◌}
-use Rattle.std.proofs.Common.{false, Some, length, take, drop, slice_get}
-use Rattle.std.proofs.Common.{refl, ap, sym, ◌∙◌, arith, subst, append_assoc, Result, OnOk, OnErr, replicate}
-use Rattle.std.proofs.Common.{length-append}
-use Rattle.std.proofs.lemmas.List.{append-nil, length-replicate}
-use Rattle.std.proofs.lemmas.Option.{get_or_from_slice_get, slice_get_within}
+use Rattle.px_num.proofs.Basics.{nat_tests, common_steps, ◌≡◌, ℕ, ◌+◌, ◌^◌, ◌<◌, ◌≤◌, All, List, [], ◌++◌, false, Some}
+use Rattle.px_num.proofs.Basics.{length, take, drop, slice_get, ap, sym, ◌∙◌, arith, subst, append_assoc, Result, OnOk}
+use Rattle.px_num.proofs.Basics.{OnErr, replicate, length-append, length-replicate, get_or_from_slice_get}
+use Rattle.px_num.proofs.Basics.{slice_get_within, flat_map}
+use Rattle.std.proofs.lemmas.List.{append-nil}
 use Rattle.px_io.specs.Told.{SinkState, TakesAll, TakesFront}
 use Rattle.px_io.proofs.ToldLaws.{front_before}
-use Rattle.std.specs.List.{flat_map}
 use Rattle.px_macro.specs.Macros.{IsLawful, IsLawfulInMore, MemoryStaysLong, PixelBits, after_macros}
 use Rattle.px_macro.specs.declared.operation.Macro.{Macro}
 use Rattle.px_model.specs.Grids.{exponent_of}
@@ -41,26 +39,21 @@ pub puts_start : (a : SinkState) (u : List ℕ) (ops : List Macro) (n : ℕ) →
 puts_start a u ops n none = rw none (puts_none a u)
 
 -- the line of the next operation is put
-pub puts_next : (a b c : SinkState) (u v w line : List ℕ) (ops : List Macro) (i next : ℕ)
-    (op : Macro)
-    → slice_get ops i ≡ Some op → next ≡ i + 1 → line ≡ macro_line op
-    → Puts a b u (flat_map macro_line (take i ops)) v → Puts b c v line w
-    → Puts a c u (flat_map macro_line (take next ops)) w
+pub puts_next : (a b c : SinkState) (u v w line : List ℕ) (ops : List Macro) (i next : ℕ) (op : Macro)
+    → slice_get ops i ≡ Some op → next ≡ i + 1 → line ≡ macro_line op → Puts a b u (flat_map macro_line (take i ops)) v
+    → Puts b c v line w → Puts a c u (flat_map macro_line (take next ops)) w
 puts_next a b c u v w line ops i next op is e written first second =
     let one = get_or_from_slice_get ops i op op is in
     let more : flat_map macro_line (take i ops) ++ macro_line op ≡ flat_map macro_line (take next ops) =
     ap (λ o. flat_map macro_line (take i ops) ++ macro_line o) (sym one)
     ∙ (listed_more macro_line ops i op (slice_get_within ops i op is)
     ∙ ap (λ n. flat_map macro_line (take n ops)) (sym e)) in
-    subst (λ bytes. Puts a c u bytes w) more (puts_both a b c u v w (flat_map macro_line (take i ops))
-    (macro_line op) first (rw written at second))
+    grind (arith, puts_both)
 
 -- a front of it is put
-pub puts_next_front : (a b c : SinkState) (u v line : List ℕ) (ops : List Macro) (i : ℕ)
-    (op : Macro)
-    → slice_get ops i ≡ Some op → line ≡ macro_line op
-    → Puts a b u (flat_map macro_line (take i ops)) v → TakesFront b c (v ++ line)
-    → TakesFront a c (u ++ flat_map macro_line ops)
+pub puts_next_front : (a b c : SinkState) (u v line : List ℕ) (ops : List Macro) (i : ℕ) (op : Macro)
+    → slice_get ops i ≡ Some op → line ≡ macro_line op → Puts a b u (flat_map macro_line (take i ops)) v
+    → TakesFront b c (v ++ line) → TakesFront a c (u ++ flat_map macro_line ops)
 puts_next_front a b c u v line ops i op is written first second =
     let one = get_or_from_slice_get ops i op op is in
     let cut : flat_map macro_line (take i ops) ++ (macro_line op ++ flat_map macro_line (drop (i + 1) ops))
@@ -74,9 +67,7 @@ puts_next_front a b c u v line ops i op is written first second =
 -- a front of the first lines is one of all
 pub front_of_first : (a b : SinkState) (piece first middle last : List ℕ) → piece ≡ []
     → TakesFront a b (piece ++ first) → TakesFront a b (first ++ middle ++ last)
-front_of_first a b piece first middle last empty front =
-    subst (TakesFront a b) (sym (append_assoc first middle last)) (front_before a b first (middle ++ last)
-    (rw empty at front))
+front_of_first a b piece first middle last empty front = grind (arith, append_assoc, front_before)
 
 -- the first lines, and a front of those in the middle
 pub front_of_middle : (a b c : SinkState) (piece v first middle last : List ℕ) → piece ≡ []
@@ -85,17 +76,14 @@ front_of_middle a b c piece v first middle last empty put front =
     puts_cut a b c [] v first middle last (first ++ middle ++ last) (sym (append_assoc first middle last))
     (rw empty at put) front
 
-pub ok_to_last : {T E : Type 0} (r : Result T E) (a b c d : SinkState)
-    (piece v w first middle last : List ℕ) → piece ≡ []
-    → Puts a b piece first v → Puts b c v middle w → OnOk r (TakesAll c d (w ++ last))
+pub ok_to_last : {T E : Type 0} (r : Result T E) (a b c d : SinkState) (piece v w first middle last : List ℕ)
+    → piece ≡ [] → Puts a b piece first v → Puts b c v middle w → OnOk r (TakesAll c d (w ++ last))
     → OnOk r (TakesAll a d (first ++ middle ++ last))
 ok_to_last r a b c d piece v w first middle last empty one two all =
-    ok_all r a c d [] w (first ++ middle) last (first ++ middle ++ last) refl
-    (puts_both a b c [] v w first middle (rw empty at one) two) all
+    grind (arith, nat_tests, common_steps, ok_all, puts_both)
 
-pub err_to_last : {T E : Type 0} (r : Result T E) (a b c d : SinkState)
-    (piece v w first middle last : List ℕ) → piece ≡ []
-    → Puts a b piece first v → Puts b c v middle w → OnErr r (TakesFront c d (w ++ last))
+pub err_to_last : {T E : Type 0} (r : Result T E) (a b c d : SinkState) (piece v w first middle last : List ℕ)
+    → piece ≡ [] → Puts a b piece first v → Puts b c v middle w → OnErr r (TakesFront c d (w ++ last))
     → OnErr r (TakesFront a d (first ++ middle ++ last))
 err_to_last r a b c d piece v w first middle last empty one two front =
     err_cut r a c d [] w (first ++ middle) last [] (first ++ middle ++ last)
@@ -107,8 +95,7 @@ few_bits : LayoutsAreLawful → (scene : SceneView) → IsLawfulScene scene → 
 few_bits layouts scene lawful = let is = layouts scene lawful in omega (arith, is.depth, is.number)
 
 pub passes_lawful_in_all : IsLawfulInMore → LayoutsAreLawful → PassesAreLawful → (scene : SceneView)
-    → IsLawfulScene scene → All IsLawfulSolid scene.solids
-    → All (λ m. IsLawful m 256) (passes scene)
+    → IsLawfulScene scene → All IsLawfulSolid scene.solids → All (λ m. IsLawful m 256) (passes scene)
 passes_lawful_in_all more layouts lawful scene h solids =
     passes_lawful more lawful 256 scene h solids (few_bits layouts scene h)
 
@@ -121,10 +108,7 @@ passes_read_back texts bits scene can few =
     can.lawful
 
 pub scenes_grid : PassesHaveTheScenesGrid
-scenes_grid scene lawful = record {
-  columns = exponent_is scene.width lawful.sizes.width_limit;
-  rows = exponent_is scene.height lawful.sizes.height_limit;
-}
+scenes_grid scene lawful = grind (arith, exponent_is)
 
 -- the picture law holds of a memory with as many zeros behind it as the layout may need, whose first bits come out
 -- as those of the memory

@@ -1,19 +1,15 @@
 -- The clocks of a listing, one operation after another.
-use Rattle.std.proofs.Common.{◌≡◌, ℕ, ◌+◌, ◌*◌, ◌^◌, ◌<◌, List, length}
-use Rattle.std.proofs.Common.{refl, ap, ◌∙◌, arith, length-append}
+use Rattle.px_num.proofs.Basics.{◌≡◌, ℕ, ◌+◌, ◌^◌, ◌<◌, List, length, refl, ap, ◌∙◌, arith, length-append, sum_by}
+use Rattle.px_num.proofs.Basics.{get_or-replicate, mul-add-lt, pow-add}
 use Rattle.px_num.proofs.ListLaws.{length-tabulate}
-use Rattle.std.specs.List.{sum_by}
-use Rattle.std.proofs.lemmas.List.{get_or-replicate}
-use Rattle.std.proofs.lemmas.Nat.{mul-add-lt, pow-add}
 use Rattle.std.proofs.lemmas.List.Recursion.{is_sum_by}
-use Rattle.px_array.specs.Arrays.{HasGrid, opened, pixel_of, no_pixel, zero_state}
+use Rattle.px_array.specs.Arrays.{HasGrid, opened, pixel_of, zero_state}
 use Rattle.px_array.proofs.ClockLaws.{grid_after_clocks, grid_of_zero_state}
 use Rattle.px_array.specs.Clocks.{all_clocked}
 use Rattle.px_array.specs.declared.micro.Micro.{Micro}
 use Rattle.px_asm.specs.Micros.{all_micros, cycles, micro_at, micros}
 use Rattle.px_asm.specs.Microprograms.{bits_of}
 use Rattle.px_macro.specs.declared.operation.Macro.{Macro}
-use Rattle.px_pixel.specs.Pixels.{zero_pixel}
 use Rattle.px_playing.specs.Played.{zero_bits}
 
 -- the clocks of operations are the sum of theirs
@@ -26,10 +22,7 @@ clocks_of_all ops nx ny =
 -- a pixel of a new array
 pub zero_in_grid : (bits nx ny x y : ℕ) → x < 2 ^ nx → y < 2 ^ ny → bits_of (pixel_of (zero_state bits nx ny) x y)
     ≡ zero_bits bits
-zero_in_grid bits nx ny x y column row =
-    let within : x * 2 ^ ny + y < 2 ^ (nx + ny) =
-    omega (arith, mul-add-lt x (2 ^ ny) y (2 ^ nx) column row, pow-add 2 nx ny) in
-    ap bits_of (get_or-replicate (2 ^ (nx + ny)) (x * 2 ^ ny + y) (zero_pixel bits) no_pixel within)
+zero_in_grid bits nx ny x y column row = grind (arith, mul-add-lt, pow-add, get_or-replicate)
 
 -- the grid of a new array after some micros
 pub grid_of_played : (bits nx ny : ℕ) (ms : List Micro) → HasGrid bits nx ny (all_clocked ms (opened bits nx ny)).state

@@ -1,5 +1,5 @@
 -- What a box owes a solid at a cell: its members lie in it, and the faces that it hides in it or just behind it.
-use Rattle.std.specs.Prelude.{ℕ, ◌≡◌, Bool, true, false, Option, Some, None}
+use Rattle.px_num.proofs.Basics.{ℕ, ◌≡◌, Bool, true, false, Option, Some, None}
 use Rattle.px_expr.specs.Cells.{Cell, has_face}
 use Rattle.px_sets.specs.declared.cell_box.CellBox.{CellBox}
 use Rattle.px_sets.specs.Boxes.{lies_in, is_in_box}

@@ -1,10 +1,8 @@
 -- The values of a form in a block, and blocks cut in two.
-use Rattle.std.proofs.Common.{ℕ, ℤ, pos, suc, ◌≡◌, ◌≤◌, ◌≤ℤ◌, ◌+ℤ◌, ◌*ℤ◌, nat_lt, Bool, true, false, refl, arith}
-use Rattle.std.proofs.Common.{if◌then◌else◌}
+use Rattle.px_num.proofs.Basics.{ℕ, ℤ, pos, suc, ◌≡◌, ◌≤◌, ◌≤ℤ◌, ◌+ℤ◌, ◌*ℤ◌, nat_lt, Bool, true, false, refl, arith}
+use Rattle.px_num.proofs.Basics.{if◌then◌else◌, mul-le-mul_left, ints}
 use lib.IntN.{negsuc}
 use lib.Signed.{lt_z}
-use Rattle.std.proofs.Math.Nat.{mul-le-mul_left}
-use Rattle.std.proofs.lemmas.Int.{ints}
 use Rattle.px_num.specs.declared.linear.Linear.{Linear}
 use Rattle.px_num.specs.Forms.{value_at}
 use Rattle.px_prune.specs.declared.block.Block.{Block}

@@ -1,8 +1,6 @@
 -- The boxes of a picture's cells, joined, are the one least box that holds them.
-use Rattle.std.proofs.Common.{ℕ, suc, zero, ◌≡◌, ◌+◌, ◌-◌, ◌==◌, ◌||◌, ◌&&◌, nat_le, nat_lt, Bool, true, false, refl}
-use Rattle.std.proofs.Common.{ap, sym, arith, Option, Some, None, slice_get}
-use Rattle.std.proofs.Math.Path.{fun_ext}
-use Rattle.std.specs.Option.{option_map_or}
+use Rattle.px_num.proofs.Basics.{ℕ, suc, zero, ◌≡◌, ◌+◌, ◌-◌, ◌==◌, ◌||◌, ◌&&◌, nat_le, nat_lt, Bool, true, false, refl}
+use Rattle.px_num.proofs.Basics.{ap, sym, arith, Option, Some, None, slice_get, fun_ext, option_map_or}
 use Rattle.px_model.specs.Cells.{Depths, depths_of, far_of, leaf_cell, no_cell, solid_cell}
 use Rattle.px_model.proofs.CellLaws.{before_end}
 use Rattle.px_model.specs.Scenes.{SceneView, SolidView}
@@ -32,12 +30,7 @@ module _ (f : ℕ → ℕ → ℕ → Bool) where
   never n z v w e same = grind arith
 
   one_cell : (x y n : ℕ) → IsBoxOf (at_pixel (at_depth f n) x y) (cell_box f x y n)
-  one_cell x y n = step (f x y n) refl where
-    step : (b : Bool) → f x y n ≡ b → IsBoxOf (at_pixel (at_depth f n) x y) (cell_box f x y n)
-    step true e =
-        rw e (rw (last_is n) at (pixel_box (at_depth f n) x y n (n + 1) (omega arith)
-        (λ z. only n z (f x y z) (f x y n) e (λ p. rw p refl))))
-    step false e = rw e (no_pixel (at_depth f n) x y (λ z. never n z (f x y z) (f x y n) e (λ p. rw p refl)))
+  one_cell x y n = grind (arith, at_pixel, last_is, pixel_box, only, no_pixel, never)
 
   split : (x y n a b z : ℕ) (v : Bool) → (a == x) && (b == y) && (nat_lt z (suc n) && v)
       ≡ ((a == x) && (b == y) && (nat_lt z n && v)) || ((a == x) && (b == y) && ((z == n) && v))
@@ -65,14 +58,7 @@ module _ (f : ℕ → ℕ → ℕ → Bool) where
       rw (← succ_is y) (next_row (before f far) width y _ _ (rows_box_of far width y) (row_box_of far y width))
 
 same_parts : (a b : CellBox) → is_part (Some a) b ≡ true → is_part (Some b) a ≡ true → Some a ≡ Some b
-same_parts a b p q =
-    let left : a.x0 ≡ b.x0 = grind arith
-    in let right : a.x1 ≡ b.x1 = grind arith
-    in let top : a.y0 ≡ b.y0 = grind arith
-    in let bottom : a.y1 ≡ b.y1 = grind arith
-    in let near : a.z0 ≡ b.z0 = grind arith
-    in let behind : a.z1 ≡ b.z1 = grind arith
-    in rw (left, right, top, bottom, near, behind) refl
+same_parts a b p q = grind arith
 
 -- there is one least box
 one_box : (c : ℕ → ℕ → ℕ → Bool) (o u : Option CellBox) → IsBoxOf c o → IsBoxOf c u → o ≡ u

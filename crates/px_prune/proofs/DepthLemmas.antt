@@ -1,13 +1,9 @@
 -- The depths that the greatest front and the least back leave.
-use Rattle.std.proofs.Common.{ℕ, ℤ, pos, negsuc, ◌≡◌, ◌<◌, ◌≤◌, ◌*◌, ◌^◌, ◌≤ℤ◌, ◌<ℤ◌, ◌&&◌, Bool, true, nat_le}
-use Rattle.std.proofs.Common.{nat_lt, List, refl, ap, sym, ◌∙◌, arith, map, fold, w64, to_z, of_z}
-use Rattle.std.specs.Int.{int_max, int_min}
-use Rattle.std.specs.List.{list_all}
-use Rattle.std.proofs.lemmas.Int.{ints}
+use Rattle.px_num.proofs.Basics.{ℕ, ℤ, pos, ◌≡◌, ◌<◌, ◌≤◌, ◌*◌, ◌^◌, ◌≤ℤ◌, ◌<ℤ◌, ◌&&◌, true, nat_le, nat_lt, List, refl}
+use Rattle.px_num.proofs.Basics.{ap, sym, ◌∙◌, arith, map, fold, w64, to_z, of_z, int_max, int_min, list_all, ints}
+use Rattle.px_num.proofs.Basics.{mul-le-mul, pow_mono}
 use Rattle.px_model.specs.Cells.{Depths, cell_of, depths}
 use Rattle.px_model.proofs.CellLaws.{cell_is_first, cell_is_least, cells_end, cells_grow}
-use Rattle.std.proofs.Math.Nat.{mul-le-mul}
-use Rattle.std.proofs.Math.Pow.{pow_mono}
 use Rattle.px_num.proofs.MostLaws.{all_max, all_min}
 use Rattle.px_num.proofs.TruthLaws.{lt_of_ints}
 use lib.Signed.{lt_z, le_z}
@@ -15,18 +11,13 @@ use lib.IntN.{nat_abs}
 
 -- a depth keeps in 64 bits
 in_bits : (m : ℤ) → pos 0 ≤ℤ m → m <ℤ pos (2 ^ 39) → nat_abs (to_z w64 (of_z w64 m)) ≡ nat_abs m
-in_bits m low high = ap nat_abs (kept m low high) where
-  kept : (m : ℤ) → pos 0 ≤ℤ m → m <ℤ pos (2 ^ 39) → to_z w64 (of_z w64 m) ≡ m
-  kept m low high = omega (arith, ints)
+in_bits m low high = grind (arith, to_z, of_z)
 
 pub small_bits : (m : ℤ) → pos 0 ≤ℤ m → m <ℤ pos (2 ^ 39) → nat_abs (to_z w64 (of_z w64 m)) < 2 ^ 39
 small_bits m low high = rw (in_bits m low high) (omega (arith, ints))
 
 pub as_value : (m : ℤ) → pos 0 ≤ℤ m → m <ℤ pos (2 ^ 39) → pos (nat_abs (to_z w64 (of_z w64 m))) ≡ m
-as_value m low high = ap pos (in_bits m low high) ∙ abs m low where
-  abs : (m : ℤ) → pos 0 ≤ℤ m → pos (nat_abs m) ≡ m
-  abs (pos n) low = refl
-  abs (negsuc n) low = absurd (omega (arith, ints))
+as_value m low high = grind (arith, in_bits)
 
 zero_holds : (n : ℕ) → nat_le n 0 ≡ true → n ≤ 0
 zero_holds n h = grind arith
@@ -42,15 +33,8 @@ far_cell far f m h = cells_end (depths far f) m h
 
 -- the cells at or behind all fronts are those from the cell of the greatest one on
 pub cells_behind : {X : Type 0} (v : X → ℤ) (xs : List X) (m : ℤ) (far f : ℕ) → m ≡ fold int_max (pos 0) (map v xs)
-    → (z : ℕ)
-    → list_all (λ x. le_z (v x) (pos (z * 2 ^ f))) xs ≡ nat_le (cell_of (depths far f) m) z
-cells_behind v xs m far f is z =
-    and_first (le_z (pos 0) (pos (z * 2 ^ f))) _ (grind (arith, ints))
-    ∙ sym (cell_is_first (depths far f) m z ∙ ap (λ k. le_z k (pos (z * 2 ^ f))) is
-    ∙ all_max v xs (pos 0) (pos (z * 2 ^ f)))
-  where
-    and_first : (a b : Bool) → a ≡ true → b ≡ (a && b)
-    and_first a b e = rw e refl
+    → (z : ℕ) → list_all (λ x. le_z (v x) (pos (z * 2 ^ f))) xs ≡ nat_le (cell_of (depths far f) m) z
+cells_behind v xs m far f is z = grind (arith, cell_is_first, all_max)
 
 -- and those before all backs are those before the cell of the least one
 pub cells_before : {X : Type 0} (v : X → ℤ) (xs : List X) (m : ℤ) (far f : ℕ) → m ≡ fold int_min (pos (far * 2 ^ f))
@@ -63,11 +47,7 @@ cells_before v xs m far f is z =
     ∙ all_min v xs (pos (far * 2 ^ f)) (pos (z * 2 ^ f)))
 
 pub end_small : (far f : ℕ) → far < 2 ^ 24 → f ≤ 8 → far * 2 ^ f < 2 ^ 39
-end_small far f low few =
-    let unit : 2 ^ f ≤ 2 ^ 8 = pow_mono {i = f} {j = 8} few in
-    let most : far ≤ 2 ^ 24 = omega arith in
-    let whole : far * 2 ^ f ≤ 2 ^ 24 * 2 ^ 8 = mul-le-mul most unit in
-    omega (arith, whole)
+end_small far f low few = grind (arith, pow_mono, mul-le-mul)
 
 pub value_is : {X : Type 0} (v : X → ℤ) (xs : List X) (m : ℤ) (a b far f : ℕ) → a ≡ far → b ≡ 2 ^ f
     → m ≡ fold int_min (pos (a * b)) (map v xs) → m ≡ fold int_min (pos (far * 2 ^ f)) (map v xs)

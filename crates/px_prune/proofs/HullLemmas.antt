@@ -1,6 +1,6 @@
 -- Boxes of cells that are joined to one.
-use Rattle.std.proofs.Common.{ℕ, ◌≡◌, ◌<◌, ◌≤◌, ◌+◌, ◌-◌, ◌==◌, ◌||◌, ◌&&◌, nat_le, nat_lt, Bool, true, false, refl}
-use Rattle.std.proofs.Common.{sym, ◌∙◌, arith, inl, inr, Option, Some, None}
+use Rattle.px_num.proofs.Basics.{ℕ, ◌≡◌, ◌<◌, ◌≤◌, ◌+◌, ◌-◌, ◌==◌, ◌||◌, ◌&&◌, nat_le, nat_lt, Bool, true, false, refl}
+use Rattle.px_num.proofs.Basics.{sym, ◌∙◌, arith, inl, inr, Option, Some, None}
 use Rattle.px_num.proofs.TruthLaws.{or_cases, or_left, or_right}
 use Rattle.px_sets.specs.declared.cell_box.CellBox.{CellBox}
 use Rattle.px_sets.specs.Boxes.{lies_in, is_in_box}
@@ -39,10 +39,7 @@ in_part a b x y z e h =
 
 empty_none : (cells : ℕ → ℕ → ℕ → Bool) → ((x y z : ℕ) → cells x y z ≡ true → false ≡ true) → (x y z : ℕ)
     → cells x y z ≡ false
-empty_none cells h x y z = step (cells x y z) (h x y z) where
-  step : (b : Bool) → (b ≡ true → false ≡ true) → b ≡ false
-  step true k = sym (k refl)
-  step false k = refl
+empty_none cells h x y z = grind arith
 
 less_than_itself : (b : CellBox) → is_part (Some b) (record b { x0 = b.x0 + 1 }) ≡ true → false ≡ true
 less_than_itself b h = grind arith

@@ -1,16 +1,12 @@
 -- The bounding boxes of a scene's solids at the cells of its picture.
-use Rattle.std.proofs.Common.{ℕ, suc, zero, ◌≡◌, ◌<◌, ◌≤◌, ◌-◌, ◌^◌, ◌&&◌, ◌==◌, Bool, true, false, List, [], nat_lt}
-use Rattle.std.proofs.Common.{refl, arith, Option, Some, None, ◌+◌, ◌∷◌, ◌++◌, length, get_or, slice_index_or, inl}
-use Rattle.std.proofs.Common.{inr, ap, ◌∙◌, if◌then◌else◌, slice_get}
-use Rattle.std.specs.Option.{option_map_or}
-use Rattle.std.proofs.Math.Pow.{pow_mono}
+use Rattle.px_num.proofs.Basics.{ℕ, suc, zero, ◌≡◌, ◌<◌, ◌≤◌, ◌-◌, ◌^◌, ◌&&◌, Bool, true, false, List, [], nat_lt, refl}
+use Rattle.px_num.proofs.Basics.{arith, Option, Some, None, ◌+◌, ◌∷◌, ◌++◌, length, get_or, slice_index_or, inl, inr}
+use Rattle.px_num.proofs.Basics.{ap, ◌∙◌, if◌then◌else◌, slice_get, option_map_or, pow_mono, get_or-append_seam}
+use Rattle.px_num.proofs.Basics.{cases_eq, cases_lt, slice_get_past}
 use Rattle.std.proofs.Math.ListN.{get_or-append, get_or-eq_default}
-use Rattle.std.proofs.Math.Seq.{get_or-append_seam}
-use Rattle.std.proofs.lemmas.Bool.{cases_eq, cases_lt}
-use Rattle.std.proofs.lemmas.Option.{slice_get_past, slice_get_read}
+use Rattle.std.proofs.lemmas.Option.{slice_get_read}
 use Rattle.px_expr.specs.Cells.{has_face}
-use Rattle.px_model.specs.Cells.{Depths, cell_of, depths, depths_of, end_of, faces_at, far_of, is_inside, leaf_cell}
-use Rattle.px_model.specs.Cells.{leaves_at, no_cell, solid_cell}
+use Rattle.px_model.specs.Cells.{Depths, depths, depths_of, far_of, is_inside, leaf_cell, no_cell, solid_cell}
 use Rattle.px_model.specs.Scenes.{SceneView, SolidView}
 use Rattle.px_sets.specs.declared.cell_box.CellBox.{CellBox}
 use Rattle.px_sets.specs.Boxes.{is_in_box}
@@ -40,9 +36,7 @@ member_behind : (found : Option SolidView) (d : Depths) (x y z n : ℕ)
     → has_face n (option_map_or (solid_cell d x y (suc z)) found no_cell).hidden ≡ true
     → (option_map_or (solid_cell d x y z) found no_cell).member ≡ true
 member_behind None d x y z n h = h
-member_behind (Some s) d x y z n h =
-    let leaves = leaves_at s (end_of d) x y in
-    was n (is_inside s d x y z) (cell_of d leaves == suc z) (faces_at s.backs x y leaves) h
+member_behind (Some s) d x y z n h = grind (arith, was)
 
 -- and none is before the first cell
 none_behind : (found : Option SolidView) (d : Depths) (x y n : ℕ)
@@ -60,9 +54,7 @@ module _ (scene : SceneView) (boxes : ℕ → Option CellBox) (bounding : (q : �
 
   hidden_in : (z q n : ℕ) → has_face n (leaf_cell scene.solids (depths_of scene) x y z q).hidden ≡ true
       → is_in_or_behind (boxes q) x y z ≡ true
-  hidden_in zero q n h = absurd_face (none_behind (slice_get scene.solids q) (depths_of scene) x y n h) where
-    absurd_face : false ≡ true → is_in_or_behind (boxes q) x y zero ≡ true
-    absurd_face e = cc
+  hidden_in zero q n h = grind (arith, none_behind, slice_get, is_in_or_behind, zero)
   hidden_in (suc z) q n h =
       one_behind (boxes q) x y z (member_in z q (member_behind (slice_get scene.solids q) (depths_of scene) x y z n h))
 
@@ -93,11 +85,7 @@ small_far bits h = omega (arith, pow_mono {i = bits} {j = 24} h)
 
 -- a solid that is not there has no box
 unknown : (scene : SceneView) (q : ℕ) → length scene.solids ≤ q → IsBoundingBox scene q None
-unknown scene q h =
-    no_box (cells_of scene q) (λ x y z. rw (slice_get_past scene.solids q h)
-    (outside (nat_lt x scene.width) (nat_lt y scene.height))) where
-      outside : (a b : Bool) → a && b && false ≡ false
-      outside a b = grind arith
+unknown scene q h = grind (arith, no_box, slice_get_past)
 
 pub all_boxes : (scene : SceneView) (bs : List (Option CellBox)) → length bs ≡ length scene.solids
     → ((q : ℕ) → q < length bs → IsBoundingBox scene q (slice_index_or bs q None)) → (q : ℕ)
@@ -108,18 +96,16 @@ all_boxes scene bs same known q = elim (cases_lt q (length bs)) [
 ]
 
 pub next_box : (scene : SceneView) (bs cs : List (Option CellBox)) (box : Option CellBox) (n : ℕ) → length bs ≡ n
-    → cs ≡ bs ++ box ∷ []
-    → ((q : ℕ) → q < n → IsBoundingBox scene q (slice_index_or bs q None)) → IsBoundingBox scene n box
-    → (q : ℕ) → q < n + 1 → IsBoundingBox scene q (slice_index_or cs q None)
+    → cs ≡ bs ++ box ∷ [] → ((q : ℕ) → q < n → IsBoundingBox scene q (slice_index_or bs q None))
+    → IsBoundingBox scene n box → (q : ℕ) → q < n + 1 → IsBoundingBox scene q (slice_index_or cs q None)
 next_box scene bs cs box n count pushed known new q lt = elim (cases_eq q n) [
   | inl last ↦ rw (pushed, last, ← count, get_or-append_seam bs box [] None) (rw count new)
   | inr before ↦ rw (pushed, get_or-append bs (box ∷ []) None q (omega arith)) (known q (omega arith))
 ]
 
 pub is_kept : (scene : SceneView) (products kept given : List Product) (bs cs : List (Option CellBox))
-    → ((q : ℕ) → IsBoundingBox scene q (slice_index_or bs q None))
-    → cs ≡ bs → given ≡ products → kept ≡ kept_products (λ q. slice_index_or cs q None) given
-    → kept ≡ kept_of scene products
+    → ((q : ℕ) → IsBoundingBox scene q (slice_index_or bs q None)) → cs ≡ bs → given ≡ products
+    → kept ≡ kept_products (λ q. slice_index_or cs q None) given → kept ≡ kept_of scene products
 is_kept scene products kept given bs cs bounding same_boxes same list =
     list ∙ rw (same_boxes, same) (ap (λ boxes. kept_products boxes products)
     (bounding_boxes scene (λ q. slice_index_or bs q None) bounding))

@@ -1,7 +1,7 @@
 -- Kept products say the same.
-use Rattle.std.proofs.Common.{ℕ, ◌≡◌, ◌<◌, ◌≤◌, ◌^◌, length, ◌||◌, ◌&&◌, not, Bool, true, false, List, [], ◌∷◌}
-use Rattle.std.proofs.Common.{refl, ap, sym, ◌∙◌, Option, Some, None, if◌then◌else◌}
-use Rattle.std.specs.List.{list_all, list_any, filter, filter_map, cons_option}
+use Rattle.px_num.proofs.Basics.{arith, ℕ, ◌≡◌, ◌<◌, ◌≤◌, ◌^◌, length, ◌&&◌, not, Bool, true, false, List, [], ◌∷◌}
+use Rattle.px_num.proofs.Basics.{refl, sym, ◌∙◌, Option, Some, None, nat_tests, common_steps, list_all, list_any}
+use Rattle.px_num.proofs.Basics.{filter, filter_map}
 use Rattle.px_num.proofs.TruthLaws.{filtered_few}
 use Rattle.px_expr.specs.Cells.{Cell, has_face}
 use Rattle.px_normal.specs.declared.product.Product.{Product}
@@ -9,13 +9,13 @@ use Rattle.px_sets.specs.Sets.{solids}
 use Rattle.px_sets.specs.SetLaws.{LawsOfSets}
 use Rattle.px_normal.specs.NormalLaw.{holds, shows, some_holds, some_shows}
 use Rattle.px_sets.specs.declared.cell_box.CellBox.{CellBox}
-use Rattle.px_sets.specs.Boxes.{lies_in, has_cell, everything, is_in_box}
+use Rattle.px_sets.specs.Boxes.{lies_in, everything, is_in_box}
 use Rattle.px_normal.specs.Live.{box_of_all, has_some_cell, is_live, is_void}
 use Rattle.px_sets.proofs.BoxLaws.{in_everything}
-use Rattle.px_prune.specs.Kept.{meets, set_of, staying, pruned, pruned_within, kept_products}
+use Rattle.px_prune.specs.Kept.{meets, set_of, pruned, pruned_within, kept_products}
 use Rattle.px_prune.proofs.BehindLemmas.{HasCells}
-use Rattle.px_prune.proofs.WithinLemmas.{in_fold, inside_has, in_or_behind, meets_cell, all_filter}
-use Rattle.px_prune.proofs.WithinLemmas.{any_filter, filtered_solids, all-set_of, any-set_of, void_solids}
+use Rattle.px_prune.proofs.WithinLemmas.{in_fold, inside_has, in_or_behind, meets_cell, all_filter, any_filter}
+use Rattle.px_prune.proofs.WithinLemmas.{filtered_solids, all-set_of, any-set_of, void_solids}
 
 -- a test of a product that is kept
 abbrev of_kept : (Product → Bool) → Option Product → Bool
@@ -25,11 +25,7 @@ of_kept f (Some p) = f p
 any_kept : (f : Product → Bool) (g : Product → Option Product) → ((p : Product) → of_kept f (g p) ≡ f p)
     → (ps : List Product) → list_any f (filter_map g ps) ≡ list_any f ps
 any_kept f g h [] = refl
-any_kept f g h (p ∷ ps) = step (g p) refl (any_kept f g h ps) where
-  step : (o : Option Product) → g p ≡ o → list_any f (filter_map g ps) ≡ list_any f ps
-      → list_any f (filter_map g (p ∷ ps)) ≡ f p || list_any f ps
-  step None e ih = rw e (ih ∙ ap (λ b. b || list_any f ps) (sym (ap (of_kept f) e) ∙ h p))
-  step (Some u) e ih = rw e (ap (λ b. f u || b) ih ∙ ap (λ b. b || list_any f ps) (sym (ap (of_kept f) e) ∙ h p))
+any_kept f g h (p ∷ ps) = grind (arith, any_kept f g h ps)
 
 -- what is kept of a product holds and shows as the product
 record IsSame (at : ℕ → Cell) (p : Product) (o : Option Product) : Type 0 where
@@ -46,23 +42,14 @@ module _ (laws : LawsOfSets) (boxes : ℕ → Option CellBox) (at : ℕ → Cell
   plain_missing : (p : Product) (o : Option CellBox) → list_all (λ q. (at q).member) (solids p.plain) ≡ false
       → of_kept (holds at) (pruned_within boxes p o) ≡ false
   plain_missing p None e = refl
-  plain_missing p (Some c) e = step (has_cell c && not (is_void p)) refl where
-    step : (b : Bool) → has_cell c && not (is_void p) ≡ b → of_kept (holds at) (pruned_within boxes p (Some c)) ≡ false
-    step true f = rw (f, e) refl
-    step false f = rw f refl
+  plain_missing p (Some c) e = grind arith
 
   member_meets : (c : CellBox) → lies_in c x y z ≡ true → (q : ℕ) → meets (boxes q) c ≡ false → not (at q).member ≡ true
-  member_meets c inside q apart = step (at q).member refl where
-    step : (b : Bool) → (at q).member ≡ b → not (at q).member ≡ true
-    step true e = cc (meets_cell x y z (boxes q) c (in_or_behind x y z (boxes q) (fits.members q e)) inside, apart)
-    step false e = rw e refl
+  member_meets c inside q apart = grind (arith, nat_tests, common_steps, meets_cell, in_or_behind)
 
   hidden_meets : (n : ℕ) (c : CellBox) → lies_in c x y z ≡ true → (q : ℕ) → meets (boxes q) c ≡ false
       → has_face n (at q).hidden ≡ false
-  hidden_meets n c inside q apart = step (has_face n (at q).hidden) refl where
-    step : (b : Bool) → has_face n (at q).hidden ≡ b → has_face n (at q).hidden ≡ false
-    step true e = cc (meets_cell x y z (boxes q) c (fits.hidden q n e) inside, apart)
-    step false e = e
+  hidden_meets n c inside q apart = grind (arith, meets_cell)
 
   -- where all plain solids have the cell
   plain_there : (p : Product) (o : Option CellBox) → is_in_box o x y z ≡ true
@@ -115,20 +102,8 @@ module _ (boxes : ℕ → Option CellBox) where
   dead p = by_box (box_of_all boxes (solids p.plain)) where
     by_box : (box : Option CellBox) → not (is_void p) && has_some_cell box ≡ false → pruned_within boxes p box ≡ None
     by_box None e = refl
-    by_box (Some part) e = by_test (has_cell part) (is_void p) e where
-      by_test : (some void : Bool) → not void && some ≡ false
-          → (if some && not void then Some (record p { barred = staying boxes part p.barred }) else None) ≡ None
-      by_test true true e = refl
-      by_test true false e = cc
-      by_test false void e = refl
+    by_box (Some part) e = grind arith
 
   pub kept_of_live : (ps : List Product) → kept_products boxes (filter (is_live boxes) ps) ≡ kept_products boxes ps
   kept_of_live [] = refl
-  kept_of_live (p ∷ ps) = step (is_live boxes p) refl (kept_of_live ps) where
-    same : (o : Option Product) (us vs : List Product) → us ≡ vs → cons_option o us ≡ cons_option o vs
-    same o us vs e = ap (cons_option o) e
-
-    step : (b : Bool) → is_live boxes p ≡ b → kept_products boxes (filter (is_live boxes) ps) ≡ kept_products boxes ps
-        → kept_products boxes (filter (is_live boxes) (p ∷ ps)) ≡ kept_products boxes (p ∷ ps)
-    step true e rest = rw e (same (pruned boxes p) _ _ rest)
-    step false e rest = rw (e, dead p e) rest
+  kept_of_live (p ∷ ps) = grind (arith, dead, kept_of_live ps)

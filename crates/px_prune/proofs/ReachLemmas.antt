@@ -1,8 +1,6 @@
 -- What a solid can have in a block: depths from the least that its fronts allow to the greatest that its backs do.
-use Rattle.std.proofs.Common.{ℕ, ℤ, pos, ◌≡◌, ◌<◌, ◌≤◌, ◌-◌, ◌≤ℤ◌, ◌&&◌, ◌||◌, ◌==◌, Bool, true, false, nat_le}
-use Rattle.std.proofs.Common.{nat_lt, List, [], ◌∷◌, refl, ap, sym, ◌∙◌, arith, Some, None, Option}
-use Rattle.std.specs.List.{list_all}
-use Rattle.std.proofs.lemmas.Int.{ints}
+use Rattle.px_num.proofs.Basics.{ℕ, ℤ, pos, ◌≡◌, ◌<◌, ◌≤◌, ◌-◌, ◌≤ℤ◌, ◌&&◌, ◌||◌, ◌==◌, Bool, true, false, nat_le}
+use Rattle.px_num.proofs.Basics.{nat_lt, List, [], ◌∷◌, refl, ◌∙◌, arith, Some, None, Option, list_all, ints}
 use lib.Signed.{lt_z, le_z}
 use Rattle.px_num.specs.Forms.{value_at}
 use Rattle.px_num.proofs.MostLaws.{all_same}
@@ -10,7 +8,7 @@ use Rattle.px_model.specs.Scenes.{SolidView}
 use Rattle.px_model.specs.Cells.{Depths, end_of, is_inside, value_of}
 use Rattle.px_prune.specs.declared.block.Block.{Block}
 use Rattle.px_sets.specs.declared.cell_box.CellBox.{CellBox}
-use Rattle.px_sets.specs.Boxes.{is_in_box, lies_in}
+use Rattle.px_sets.specs.Boxes.{is_in_box}
 use Rattle.px_prune.specs.Boxes.{hull}
 use Rattle.px_prune.specs.Covered.{is_covered}
 use Rattle.px_prune.specs.Blocks.{IsReachOf, greatest_in, has_pixel, in_block, is_one_pixel, least_in, with_block}
@@ -22,9 +20,7 @@ use Rattle.px_prune.proofs.HullLemmas.{at_pixel, covered_box, in_part, joined_bo
 all_pass : {X : Type 0} (p q : X → Bool) → ((x : X) → p x ≡ true → q x ≡ true) → (xs : List X)
     → list_all p xs ≡ true → list_all q xs ≡ true
 all_pass p q h [] all = refl
-all_pass p q h (x ∷ xs) all = step (p x) (q x) (list_all p xs) (list_all q xs) all (h x) (all_pass p q h xs) where
-  step : (a b c d : Bool) → a && c ≡ true → (a ≡ true → b ≡ true) → (c ≡ true → d ≡ true) → b && d ≡ true
-  step a b c d e f g = grind arith
+all_pass p q h (x ∷ xs) all = grind (arith, all_pass p q h xs)
 
 le_below : (a b c : ℤ) → a ≤ℤ b → le_z b c ≡ true → le_z a c ≡ true
 le_below a b c h e = grind (arith, ints)
@@ -76,12 +72,7 @@ module _ (s : SolidView) (d : Depths) (b : Block) where
         step t n p q r u v w h f g k = grind arith
 
   inside_pixel : is_one_pixel b ≡ true → (z : ℕ) → inside b.x0 b.y0 z ≡ can_reach z
-  inside_pixel one z = parts (nat_lt (value_of d z) (end_of d)) _ _ _ sides_can (fronts_can z) (backs_can z)
-      (all_same _ _ (λ side. ap (le_z (pos 0)) (sym (greatest_at_pixel b side one))) s.sides)
-      (all_same _ _ (λ f. ap (λ v. le_z v (pos (value_of d z))) (sym (least_at_pixel b f.plane one))) s.fronts)
-      (all_same _ _ (λ f. ap (lt_z (pos (value_of d z))) (sym (greatest_at_pixel b f.plane one))) s.backs) where
-        parts : (n p q r u v w : Bool) → p ≡ u → q ≡ v → r ≡ w → n && p && q && r ≡ n && u && v && w
-        parts n p q r u v w e f g = grind arith
+  inside_pixel one z = grind (arith, all_same, greatest_at_pixel, least_at_pixel)
 
   none_inside : ((z : ℕ) → can_reach z ≡ false) → (x y z : ℕ) → in_block inside b x y z ≡ true
       → is_in_box None x y z ≡ true
@@ -89,13 +80,7 @@ module _ (s : SolidView) (d : Depths) (b : Block) where
 
   -- where it can have none
   no_reach : ((z : ℕ) → can_reach z ≡ false) → IsReachOf inside b None
-  no_reach none = record {
-    holds = none_inside none;
-    least = λ one. no_box (in_block inside b) (λ x y z. step (in_block inside b x y z) (none_inside none x y z));
-  } where
-    step : (v : Bool) → (v ≡ true → false ≡ true) → v ≡ false
-    step true k = sym (k refl)
-    step false k = refl
+  no_reach none = grind (arith, none_inside, no_box)
 
   side_missed : sides_can ≡ false → (z : ℕ) → can_reach z ≡ false
   side_missed e z = grind arith
@@ -106,30 +91,20 @@ module _ (s : SolidView) (d : Depths) (b : Block) where
   module _ (first end : ℕ) (fronts : (z : ℕ) → fronts_can z ≡ nat_le first z)
       (backs : (z : ℕ) → (nat_lt (value_of d z) (end_of d) && backs_can z) ≡ nat_lt z end) where
     depth_missed : end ≤ first → (z : ℕ) → can_reach z ≡ false
-    depth_missed h z =
-        step (nat_lt (value_of d z) (end_of d)) sides_can (fronts_can z) (backs_can z) (fronts z) (backs z) where
-          step : (n p q r : Bool) → q ≡ nat_le first z → (n && r) ≡ nat_lt z end → n && p && q && r ≡ false
-          step n p q r e f = grind arith
+    depth_missed h z = grind arith
 
     pub no_depth : end ≤ first → IsReachOf inside b None
     no_depth h = no_reach (depth_missed h)
 
     module _ (sides : sides_can ≡ true) where
       reached_at : (z : ℕ) → can_reach z ≡ nat_le first z && nat_lt z end
-      reached_at z = step (nat_lt (value_of d z) (end_of d)) sides_can (fronts_can z) (backs_can z) sides (fronts z)
-          (backs z) where
-            step : (n p q r : Bool) → p ≡ true → q ≡ nat_le first z → (n && r) ≡ nat_lt z end
-                → n && p && q && r ≡ nat_le first z && nat_lt z end
-            step n p q r d e f = grind arith
+      reached_at z = grind arith
 
       abbrev reached : CellBox
       reached = record { x0 = b.x0; x1 = b.x1; y0 = b.y0; y1 = b.y1; z0 = first; z1 = end - 1 }
 
       some_inside : (x y z : ℕ) → in_block inside b x y z ≡ true → is_in_box (Some reached) x y z ≡ true
-      some_inside x y z h = step (inside x y z) h (sym (reached_at z) ∙ inside_reaches x y z h) where
-        step : (v : Bool) → has_pixel b x y && v ≡ true → nat_le first z && nat_lt z end ≡ true
-            → lies_in reached x y z ≡ true
-        step v e f = grind arith
+      some_inside x y z h = grind (arith, reached_at, inside_reaches)
 
       pub some_reach : first < end → IsReachOf inside b (Some reached)
       some_reach lt = record {
@@ -167,8 +142,7 @@ module _ (found inside : ℕ → ℕ → ℕ → Bool) (b first second : Block)
   by_turns = with_block (with_block found inside first) inside second
 
   same_cells : (x y z : ℕ) → by_turns x y z ≡ with_block found inside b x y z
-  same_cells x y z = both_halves (found x y z) (inside x y z) (has_pixel first x y) (has_pixel second x y)
-      (has_pixel b x y) (parts x y)
+  same_cells x y z = grind (arith, both_halves)
 
   pub by_halves : (box : Option CellBox) → IsBoxOf by_turns box → IsBoxOf (with_block found inside b) box
   by_halves box is = same_box by_turns (with_block found inside b) box same_cells is

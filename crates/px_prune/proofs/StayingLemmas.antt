@@ -1,12 +1,7 @@
 -- What is kept of a product has no solid that the product has not, and none both plain and barred.
-use Rattle.std.proofs.Common.{ℕ, suc, zero, ◌≡◌, ◌<◌, ◌≤◌, ◌==◌, ◌||◌, ◌&&◌, not, nat_lt, Bool, true, false, List, []}
-use Rattle.std.proofs.Common.{◌∷◌, refl, ap, sym, ◌∙◌, subst, arith, Option, Some, None, inl, inr}
-use Rattle.std.proofs.Common.{if◌then◌else◌}
-use Rattle.std.specs.List.{All, list_all, list_any, filter, filter_map}
-use Rattle.std.proofs.lemmas.Bool.{cases_eq}
-use Rattle.std.proofs.lemmas.Bool.Decides.{nat_tests}
-use Rattle.std.proofs.lemmas.List.Elements.{All-cons, All-nil, filter-append}
-use Rattle.std.proofs.lemmas.List.Folds.{list_all-append}
+use Rattle.px_num.proofs.Basics.{ℕ, suc, zero, ◌≡◌, ◌<◌, ◌≤◌, ◌==◌, ◌||◌, ◌&&◌, nat_lt, Bool, true, false, List, []}
+use Rattle.px_num.proofs.Basics.{◌∷◌, refl, sym, ◌∙◌, subst, arith, Option, Some, None, All, list_all, list_any, filter}
+use Rattle.px_num.proofs.Basics.{filter_map, cases_eq, All-cons, All-nil, filter-append, list_all-append}
 use Rattle.px_num.proofs.TruthLaws.{and_right}
 use Rattle.px_sets.specs.declared.set.SolidSet.{SolidSet}
 use Rattle.px_normal.specs.declared.product.Product.{Product}
@@ -14,7 +9,6 @@ use Rattle.px_sets.specs.Sets.{has, solids, below}
 use Rattle.px_normal.specs.Forms.{HasPlain, HasSolidsBelow}
 use Rattle.px_sets.specs.SetLaws.{LawsOfSets}
 use Rattle.px_sets.specs.declared.cell_box.CellBox.{CellBox}
-use Rattle.px_sets.specs.Boxes.{has_cell}
 use Rattle.px_normal.specs.Live.{box_of_all, is_void}
 use Rattle.px_sets.proofs.SolidsLaws.{any_last}
 use Rattle.px_prune.specs.Kept.{kept_products, meets, pruned, pruned_within, set_of, staying}
@@ -22,31 +16,15 @@ use Rattle.px_prune.proofs.WithinLemmas.{any-set_of, filtered_solids, is_solid}
 
 are_solids : (f : ℕ → Bool) (n : ℕ) → n ≤ 256 → list_all is_solid (filter f (below n)) ≡ true
 are_solids f zero h = refl
-are_solids f (suc n) h =
-    ap (list_all is_solid) (filter-append f (below n) (n ∷ []))
-    ∙ list_all-append is_solid (filter f (below n)) (filter f (n ∷ []))
-    ∙ rw (are_solids f n (omega arith)) (last (f n) refl)
-  where
-    small : is_solid n ≡ true
-    small = grind (arith, nat_tests)
-
-    last : (b : Bool) → f n ≡ b → list_all is_solid (filter f (n ∷ [])) ≡ true
-    last true e = rw (e, small) refl
-    last false e = rw e refl
+are_solids f (suc n) h = grind (arith, is_solid, filter-append, list_all-append, are_solids f n (omega arith))
 
 -- a solid is among those of a set where the set has it
 one_more : (n q : ℕ) (a b : Bool) → (n ≡ q → a ≡ b) → (nat_lt q n && b) || (a && (n == q)) ≡ nat_lt q (suc n) && b
-one_more n q a b same = elim (cases_eq n q) [
-  | inl e ↦ let one = same e in grind arith
-  | inr ne ↦ grind arith
-]
+one_more n q a b same = grind (arith, cases_eq)
 
 has_below : (f : ℕ → Bool) (q n : ℕ) → list_any (λ p. p == q) (filter f (below n)) ≡ nat_lt q n && f q
 has_below f q zero = grind arith
-has_below f q (suc n) =
-    any_last (λ p. p == q) f (below n) n
-    ∙ ap (λ b. b || (f n && (n == q))) (has_below f q n)
-    ∙ one_more n q (f n) (f q) (λ e. ap f e)
+has_below f q (suc n) = grind (arith, any_last, one_more, has_below f q n)
 
 has_any : (s : SolidSet) (q : ℕ) → q < 256 → list_any (λ p. p == q) (solids s) ≡ has s q
 unfolding solids
@@ -56,11 +34,7 @@ has_any s q lt = has_below (has s) q 256 ∙ within q (has s q) lt where
 
 any_of_filter : (P f : ℕ → Bool) (qs : List ℕ) → list_any P (filter f qs) ≡ true → list_any P qs ≡ true
 any_of_filter P f [] e = e
-any_of_filter P f (q ∷ qs) e = step (f q) (any_of_filter P f qs) e where
-  step : (b : Bool) → (list_any P (filter f qs) ≡ true → list_any P qs ≡ true)
-      → list_any P (if b then q ∷ filter f qs else filter f qs) ≡ true → P q || list_any P qs ≡ true
-  step true later e = grind arith
-  step false later e = let one = later e in grind arith
+any_of_filter P f (q ∷ qs) e = grind (arith, any_of_filter P f qs)
 
 has_staying : LawsOfSets → (boxes : ℕ → Option CellBox) (part : CellBox) (barred : SolidSet) (q : ℕ) → q < 256
     → has (staying boxes part barred) q ≡ true → has barred q ≡ true
@@ -79,14 +53,7 @@ any_fewer : (g h : ℕ → Bool) → ((q : ℕ) → q < 256 → g q ≡ true →
     → list_all is_solid qs ≡ true → list_any h qs ≡ false → list_any g qs ≡ false
 any_fewer g h fewer [] all none = refl
 any_fewer g h fewer (q ∷ qs) all none =
-    step (g q) (h q) (list_any g qs) (list_any h qs) (λ e. fewer q (small q _ all) e)
-    (any_fewer g h fewer qs (and_right (is_solid q) _ all)) none
-  where
-    small : (q : ℕ) (b : Bool) → is_solid q && b ≡ true → q < 256
-    small q b e = grind arith
-
-    step : (a b c d : Bool) → (a ≡ true → b ≡ true) → (d ≡ false → c ≡ false) → b || d ≡ false → a || c ≡ false
-    step a b c d p q e = grind arith
+    grind (arith, and_right, is_solid, any_fewer g h fewer qs (and_right (is_solid q) _ all))
 
 record IsCut (boxes : ℕ → Option CellBox) (p u : Product) : Type 0 where
   part : CellBox
@@ -96,19 +63,10 @@ record IsCut (boxes : ℕ → Option CellBox) (p u : Product) : Type 0 where
 cut : (boxes : ℕ → Option CellBox) (p u : Product) (o : Option CellBox) → pruned_within boxes p o ≡ Some u
     → IsCut boxes p u
 cut boxes p u None e = cc
-cut boxes p u (Some part) e = step (has_cell part) (is_void p) refl e where
-  step : (a b : Bool) → is_void p ≡ b → (if a && not b then Some (record p { barred = staying boxes part p.barred })
-      else None) ≡ Some u → IsCut boxes p u
-  step true true is e = cc
-  step true false is e = record { part = part; apart = is; is = cc }
-  step false b is e = cc
+cut boxes p u (Some part) e = grind arith
 
 cut_apart : LawsOfSets → (boxes : ℕ → Option CellBox) (p u : Product) → IsCut boxes p u → is_void u ≡ false
-cut_apart laws boxes p u c =
-    subst (λ product. is_void product ≡ false) c.is
-    (any_fewer (has (staying boxes c.part p.barred)) (has p.barred) (has_staying laws boxes c.part p.barred)
-    (solids p.plain)
-    (all_solids p.plain) c.apart)
+cut_apart laws boxes p u c = grind (arith, any_fewer, has_staying, all_solids)
 
 cut_below : LawsOfSets → (count : ℕ) (boxes : ℕ → Option CellBox) (p u : Product) → HasSolidsBelow count p
     → IsCut boxes p u → HasSolidsBelow count u

@@ -1,7 +1,6 @@
 -- Cells in boxes, and solids of filtered sets.
-use Rattle.std.proofs.Common.{ℕ, ◌≡◌, ◌<◌, ◌||◌, ◌&&◌, not, nat_lt, Bool, true, false, List, [], ◌∷◌, refl, ap}
-use Rattle.std.proofs.Common.{sym, ◌∙◌, arith, Option, Some, None, fold}
-use Rattle.std.specs.List.{list_all, list_any, filter}
+use Rattle.px_num.proofs.Basics.{ℕ, ◌≡◌, ◌<◌, ◌||◌, ◌&&◌, not, nat_lt, Bool, true, false, List, [], ◌∷◌, refl, sym, ◌∙◌}
+use Rattle.px_num.proofs.Basics.{arith, Option, Some, None, fold, list_all, list_any, filter}
 use Rattle.px_num.proofs.TruthLaws.{and_both, and_left, and_right, and_true, not_both, or_false}
 use Rattle.px_sets.specs.declared.set.SolidSet.{SolidSet}
 use Rattle.px_sets.specs.Sets.{has, empty, one, sets_joined, solids}
@@ -26,9 +25,8 @@ module _ (x y z : ℕ) where
 
   -- a cell in the box of each solid is in their common part
   pub in_fold : (boxes : ℕ → Option CellBox) (m : ℕ → Bool) → ((q : ℕ) → m q ≡ true → is_in_box (boxes q) x y z ≡ true)
-      → (qs : List ℕ) (o : Option CellBox)
-      → is_in_box o x y z ≡ true → list_all m qs ≡ true → is_in_box (fold (λ c q. narrowed c (boxes q)) o qs) x y z
-      ≡ true
+      → (qs : List ℕ) (o : Option CellBox) → is_in_box o x y z ≡ true → list_all m qs ≡ true
+      → is_in_box (fold (λ c q. narrowed c (boxes q)) o qs) x y z ≡ true
   in_fold boxes m h [] o p all = p
   in_fold boxes m h (q ∷ qs) o p all =
       in_fold boxes m h qs (narrowed o (boxes q))
@@ -44,20 +42,12 @@ module _ (x y z : ℕ) where
 pub all_filter : (P f : ℕ → Bool) → ((q : ℕ) → f q ≡ false → P q ≡ true) → (qs : List ℕ) → list_all P (filter f qs)
     ≡ list_all P qs
 all_filter P f h [] = refl
-all_filter P f h (q ∷ qs) = step (f q) refl (all_filter P f h qs) where
-  step : (b : Bool) → f q ≡ b → list_all P (filter f qs) ≡ list_all P qs → list_all P (filter f (q ∷ qs))
-      ≡ list_all P (q ∷ qs)
-  step true e ih = rw e (ap (λ b. P q && b) ih)
-  step false e ih = rw (e, h q e) ih
+all_filter P f h (q ∷ qs) = grind (arith, all_filter P f h qs)
 
 pub any_filter : (P f : ℕ → Bool) → ((q : ℕ) → f q ≡ false → P q ≡ false) → (qs : List ℕ) → list_any P (filter f qs)
     ≡ list_any P qs
 any_filter P f h [] = refl
-any_filter P f h (q ∷ qs) = step (f q) refl (any_filter P f h qs) where
-  step : (b : Bool) → f q ≡ b → list_any P (filter f qs) ≡ list_any P qs → list_any P (filter f (q ∷ qs))
-      ≡ list_any P (q ∷ qs)
-  step true e ih = rw e (ap (λ b. P q || b) ih)
-  step false e ih = rw (e, h q e) ih
+any_filter P f h (q ∷ qs) = grind (arith, any_filter P f h qs)
 
 -- solids are below 256
 abbrev pub is_solid : ℕ → Bool
@@ -65,25 +55,15 @@ is_solid q = nat_lt q 256
 
 still_solids : (f : ℕ → Bool) (qs : List ℕ) → list_all is_solid qs ≡ true → list_all is_solid (filter f qs) ≡ true
 still_solids f [] h = refl
-still_solids f (q ∷ qs) h = step (f q) refl (still_solids f qs (and_right (is_solid q) _ h)) where
-  step : (b : Bool) → f q ≡ b → list_all is_solid (filter f qs) ≡ true → list_all is_solid (filter f (q ∷ qs)) ≡ true
-  step true e ih = rw (e, ih) (here (is_solid q) _ h) where
-    here : (a b : Bool) → a && b ≡ true → a && true ≡ true
-    here a b e = grind arith
-  step false e ih = rw e ih
+still_solids f (q ∷ qs) h = grind (arith, and_right, still_solids f qs (and_right (is_solid q) _ h))
 
 none_passes : (p : ℕ → Bool) (qs : List ℕ) → list_all (λ q. not (p q)) qs ≡ true → list_any p qs ≡ false
 none_passes p [] e = refl
-none_passes p (q ∷ qs) e = step (p q) _ _ e (none_passes p qs) where
-  step : (v all any : Bool) → not v && all ≡ true → (all ≡ true → any ≡ false) → v || any ≡ false
-  step true all any e h = sym e
-  step false all any e h = h e
+none_passes p (q ∷ qs) e = grind (arith, none_passes p qs)
 
 module _ (laws : LawsOfSets) where
   pub filtered_solids : (f : ℕ → Bool) (s : SolidSet) → list_all is_solid (filter f (solids s)) ≡ true
-  filtered_solids f s = still_solids f (solids s) ((laws.each is_solid s).1 (λ q lt has. small q lt)) where
-    small : (q : ℕ) → q < 256 → is_solid q ≡ true
-    small q lt = grind arith
+  filtered_solids f s = grind (arith, still_solids)
 
   -- the solids of a set that is made of a list
   all_fold : (P : ℕ → Bool) (qs : List ℕ) (s : SolidSet) → list_all is_solid qs ≡ true
@@ -118,9 +98,4 @@ module _ (laws : LawsOfSets) where
   -- a solid that is plain and barred has no cell in both parts
   pub void_solids : (m : ℕ → Bool) (s t : SolidSet) → list_all m (solids s) ≡ true → list_any (has t) (solids s)
       ≡ true → list_all (λ q. not (m q)) (solids t) ≡ false
-  void_solids m s t plain void = step (list_all (λ q. not (m q)) (solids t)) refl where
-    step : (v : Bool) → list_all (λ q. not (m q)) (solids t) ≡ v → v ≡ false
-    step false e = refl
-    step true barred = sym void ∙ none_passes (has t) (solids s)
-        ((laws.each (λ q. not (has t q)) s).1 (λ q lt there. not_both (m q) (has t q)
-        ((laws.each m s).0 plain q lt there) ((laws.each (λ q. not (m q)) t).0 barred q lt)))
+  void_solids m s t plain void = grind (arith, none_passes, not_both)

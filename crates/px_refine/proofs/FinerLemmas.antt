@@ -1,14 +1,7 @@
 -- What is seen of the finer scene at a pixel that both scenes have.
-use Rattle.std.proofs.Common.{◌≡◌, ℕ, zero, suc, ◌+◌, ◌*◌, ◌^◌, ◌<◌, ℤ, pos, ◌*ℤ◌, List, [], ◌∷◌, map, filter}
-use Rattle.std.proofs.Common.{nat_le, nat_lt, Bool, true, false, Option, Some, None, refl, ap, sym, ◌∙◌, arith}
-use Rattle.std.proofs.Common.{slice_get, if◌then◌else◌}
-use Rattle.std.proofs.Math.Path.{fun_ext}
-use Rattle.std.proofs.lemmas.Nat.{pow-add, pow_pos}
-use Rattle.std.proofs.lemmas.Option.{slice_get-map}
-use Rattle.std.specs.List.{fold, list_all}
-use Rattle.std.specs.Int.{int_max, int_min}
-use Rattle.std.specs.Option.{option_map, option_map_or}
-use Rattle.std.specs.Ordering.{int_eq}
+use Rattle.px_num.proofs.Basics.{◌≡◌, ℕ, zero, suc, ◌+◌, ◌*◌, ◌^◌, ◌<◌, ℤ, pos, ◌*ℤ◌, List, [], ◌∷◌, map, nat_le}
+use Rattle.px_num.proofs.Basics.{nat_lt, Bool, Option, Some, None, refl, ap, sym, ◌∙◌, arith, slice_get, fun_ext}
+use Rattle.px_num.proofs.Basics.{pow-add, pow_pos, slice_get-map, fold, list_all, int_max, int_min, int_eq}
 use lib.Signed.{lt_z, le_z}
 use Rattle.px_num.specs.declared.linear.Linear.{Linear}
 use Rattle.px_num.specs.Forms.{value_at}
@@ -18,7 +11,7 @@ use Rattle.px_model.specs.declared.solid.Face.{Face}
 use Rattle.px_model.specs.Scenes.{SolidView, SceneView}
 use Rattle.px_model.specs.Cells.{Depths, backs_at, cell_of, depths, end_of, enters_at, faces_at, far_of, first}
 use Rattle.px_model.specs.Cells.{first_cell, fronts_at, is_inside, is_inside_before, leaf_cell, least, leaves_at}
-use Rattle.px_model.specs.Cells.{no_cell, scene_cell, sight_at, solid_cell, value_of}
+use Rattle.px_model.specs.Cells.{scene_cell, sight_at, solid_cell, value_of}
 use Rattle.px_model.proofs.CellLaws.{cell_is_first}
 use Rattle.px_model.specs.declared.pixels.Pixels.TheVariants.{Finer}
 use Rattle.px_model.specs.Pixels.{face_over, plane_over, solid_over}
@@ -55,20 +48,7 @@ module _ (s x y : ℕ) where
   faces_fine : (faces : List Face) (v : ℤ) → faces_at (map (face_over (Finer s)) faces) (k * x) (k * y) (pos k *ℤ v)
       ≡ faces_at faces x y v
   faces_fine [] v = refl
-  faces_fine (f ∷ fs) v =
-      let same : int_eq (value_at (plane_over (Finer s) f.plane) (k * x) (k * y)) (pos k *ℤ v)
-      ≡ int_eq (value_at f.plane x y) v =
-      ap (λ w. int_eq w (pos k *ℤ v)) (value_fine f.plane) ∙ eq_times k (value_at f.plane x y) v some in
-      rw same (step (int_eq (value_at f.plane x y) v) (faces_fine fs v))
-    where
-      step : (b : Bool) → faces_at (map (face_over (Finer s)) fs) (k * x) (k * y) (pos k *ℤ v) ≡ faces_at fs x y v
-          → map (λ (g : Face). g.number) (if b then face_over (Finer s) f
-          ∷ filter (λ g. int_eq (value_at g.plane (k * x) (k * y)) (pos k *ℤ v)) (map (face_over (Finer s)) fs) else
-          filter (λ g. int_eq (value_at g.plane (k * x) (k * y)) (pos k *ℤ v)) (map (face_over (Finer s)) fs))
-          ≡ map (λ (g : Face). g.number) (if b then f ∷ filter (λ g. int_eq (value_at g.plane x y) v) fs else filter
-          (λ g. int_eq (value_at g.plane x y) v) fs)
-      step true e = ap (λ ns. f.number ∷ ns) e
-      step false e = e
+  faces_fine (f ∷ fs) v = grind (arith, value_fine, eq_times, some, faces_fine fs v)
 
   greatest_fine : (faces : List Face) (u : ℤ)
       → fold int_max (pos k *ℤ u) (map (λ f. value_at f.plane (k * x) (k * y)) (map (face_over (Finer s)) faces))
@@ -148,25 +128,15 @@ module _ (s x y : ℕ) where
 
     near_fine : (solid : SolidView) → int_eq (pos 0) (enters_at (solid_over (Finer s) solid) (k * x) (k * y))
         ≡ int_eq (pos 0) (enters_at solid x y)
-    near_fine solid =
-        ap (λ w. int_eq (pos 0) w) (enters_fine solid) ∙ ap (λ w. int_eq w (pos k *ℤ enters_at solid x y)) nothing
-        ∙ eq_times k (pos 0) (enters_at solid x y) some
+    near_fine solid = grind (arith, enters_fine, nothing, eq_times, some)
 
     fronts_fine : (solid : SolidView) (z : ℕ) → fronts_at (solid_over (Finer s) solid) e (k * x) (k * y) z
         ≡ fronts_at solid d x y z
-    fronts_fine solid z =
-        let cells = ap (λ w. cell_of e w) (enters_fine solid) ∙ cell_fine (enters_at solid x y) in
-        let faces = ap (λ w. faces_at (map (face_over (Finer s)) solid.fronts) (k * x) (k * y) w) (enters_fine solid)
-        ∙ faces_fine solid.fronts (enters_at solid x y) in
-        rw (cells, near_fine solid, faces) refl
+    fronts_fine solid z = grind (arith, enters_fine, cell_fine, faces_fine, near_fine)
 
     backs_fine : (solid : SolidView) (z : ℕ) → backs_at (solid_over (Finer s) solid) e (k * x) (k * y) z
         ≡ backs_at solid d x y z
-    backs_fine solid z =
-        let cells = ap (λ w. cell_of e w) (leaves_fine solid) ∙ cell_fine (leaves_at solid (end_of d) x y) in
-        let faces = ap (λ w. faces_at (map (face_over (Finer s)) solid.backs) (k * x) (k * y) w) (leaves_fine solid)
-        ∙ faces_fine solid.backs (leaves_at solid (end_of d) x y) in
-        rw (before_fine solid z, cells, faces) refl
+    backs_fine solid z = grind (arith, leaves_fine, cell_fine, faces_fine, before_fine)
 
     solid_fine : (solid : SolidView) (z : ℕ) → solid_cell e (k * x) (k * y) z (solid_over (Finer s) solid)
         ≡ solid_cell d x y z solid
@@ -174,12 +144,7 @@ module _ (s x y : ℕ) where
 
     leaf_fine : (solids : List SolidView) (z i : ℕ)
         → leaf_cell (map (solid_over (Finer s)) solids) e (k * x) (k * y) z i ≡ leaf_cell solids d x y z i
-    leaf_fine solids z i = rw (slice_get-map (solid_over (Finer s)) solids i) (case (slice_get solids i)) where
-      case : (o : Option SolidView) → option_map_or (solid_cell e (k * x) (k * y) z)
-          (option_map (solid_over (Finer s)) o) no_cell
-          ≡ option_map_or (solid_cell d x y z) o no_cell
-      case None = refl
-      case (Some solid) = solid_fine solid z
+    leaf_fine solids z i = grind (arith, slice_get-map, slice_get, solid_fine)
 
   cell_same : (scene : SceneView) (z : ℕ) → scene_cell (fine_scene s scene) (k * x) (k * y) z ≡ scene_cell scene x y z
   cell_same scene z =

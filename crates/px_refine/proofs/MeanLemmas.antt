@@ -1,9 +1,7 @@
 -- Means of the same samples, and the image of means over the picture of the finer scene.
-use Rattle.std.proofs.Common.{◌≡◌, ◌≢◌, ℕ, zero, suc, ◌+◌, ◌*◌, ◌/◌, ◌%◌, ◌^◌, ◌<◌, ◌≤◌, List, refl, ap, sym, subst}
-use Rattle.std.proofs.Common.{◌∙◌, arith}
-use Rattle.std.proofs.Math.Nat.{mul-div-le, mul-div_cancel_left, mul-le-mul_left}
-use Rattle.std.proofs.lemmas.Nat.{pow_pos}
-use Rattle.std.specs.List.{range_with_len, sum_by}
+use Rattle.px_num.proofs.Basics.{◌≡◌, ◌≢◌, ℕ, zero, suc, ◌+◌, ◌*◌, ◌/◌, ◌%◌, ◌^◌, ◌<◌, ◌≤◌, List, refl, ap, sym, subst}
+use Rattle.px_num.proofs.Basics.{◌∙◌, arith, mul-div-le, mul-le-mul_left, pow_pos, range_with_len, sum_by}
+use Rattle.std.proofs.Math.Nat.{mul-div_cancel_left}
 use Rattle.px_model.specs.declared.solid.Colour.{Colour}
 use Rattle.px_model.specs.declared.limits.TheConstants.{MAX_PICTURE_SIZE}
 use Rattle.px_model.specs.Scenes.{SceneView, colour_in_scene, faces_of}
@@ -27,23 +25,17 @@ sum_same f g (suc n) same =
     let more : n + 1 ≡ suc n = omega arith in
     let first = sum_same f g n (λ k below. same k (omega arith)) in
     let last = same n (omega arith) in
-    ap (λ m. sum_by f (range_with_len 0 m)) (sym more) ∙ sym (sum_more f n)
-    ∙ ap (λ m. m + f n) first ∙ ap (λ m. sum_by g (range_with_len 0 n) + m) last
-    ∙ sum_more g n ∙ ap (λ m. sum_by g (range_with_len 0 m)) more
+    grind (arith, sum_more)
 
 -- a pixel of so many by so many, each cut into k by k
 in_block : (k x w i : ℕ) → x < w → i < k → k * x + i < k * w
-in_block k x w i left inside =
-    let most : k * (x + 1) ≤ k * w = mul-le-mul_left k (let next : x + 1 ≤ w = omega arith in next) in
-    omega (arith, most, inside)
+in_block k x w i left inside = grind (arith, mul-le-mul_left)
 
 module _ (s x y : ℕ) where
   mean_same : (f g : (x y : ℕ) → ℕ)
       → ((i j : ℕ) → i < 2 ^ s → j < 2 ^ s → f (2 ^ s * x + i) (2 ^ s * y + j) ≡ g (2 ^ s * x + i) (2 ^ s * y + j))
       → mean s f x y ≡ mean s g x y
-  mean_same f g same =
-      ap (λ n. n / (2 ^ s * 2 ^ s))
-      (sum_same _ _ (2 ^ s) (λ j down. sum_same _ _ (2 ^ s) (λ i across. same i j across down)))
+  mean_same f g same = grind (arith, sum_same)
 
   pixel_same : (c d : (x y : ℕ) → Colour)
       → ((i j : ℕ) → i < 2 ^ s → j < 2 ^ s → c (2 ^ s * x + i) (2 ^ s * y + j) ≡ d (2 ^ s * x + i) (2 ^ s * y + j))
@@ -72,10 +64,7 @@ means_refined s scene layout state shows =
 
 -- a block of so many rows as fit into a height
 pub block_fits : (s y height : ℕ) → y < height / 2 ^ s → 2 ^ s * y + 2 ^ s ≤ height
-block_fits s y height above =
-    let most : 2 ^ s * (y + 1) ≤ 2 ^ s * (height / 2 ^ s) =
-    mul-le-mul_left (2 ^ s) (let next : y + 1 ≤ height / 2 ^ s = omega (arith, above) in next) in
-    omega (arith, most, mul-div-le height (2 ^ s))
+block_fits s y height above = grind (arith, mul-le-mul_left, mul-div-le)
 
 -- the rows of a block are in one strip
 in_strip : (s y j : ℕ) → s ≤ 2 → j < 2 ^ s → (2 ^ s * y + j) / 8 ≡ 2 ^ s * y / 8
@@ -113,13 +102,7 @@ module _
 
     pub faces_held : fine.width ≤ MAX_PICTURE_SIZE → fine.height ≤ MAX_PICTURE_SIZE → StoresFaces fine layout state
         → HoldsFaces fine strip (2 ^ s * y) (2 ^ s)
-    faces_held wide most faces = record {
-      wide = wide;
-      high = omega (arith, high, most);
-      columns = held.long;
-      faces = λ x j left low.
-          omega (arith, face_held x j left low, faces x (2 ^ s * y + j) left (omega (arith, high, low)));
-    }
+    faces_held wide most faces = grind (arith, face_held)
 
 -- one row of them
 pub one_row : (scene : SceneView) (strip : List ℕ) (top across j : ℕ) → j < across → HoldsFaces scene strip top across

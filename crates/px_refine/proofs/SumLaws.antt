@@ -1,8 +1,6 @@
 -- Sums of samples grow pixel by pixel and row by row.
-use Rattle.std.proofs.Common.{◌≡◌, ℕ, ◌+◌, ◌*◌, List, map, refl, ap, sym, ◌∙◌, arith}
-use Rattle.std.proofs.lemmas.List.Folds.{fold-map}
+use Rattle.px_num.proofs.Basics.{◌≡◌, ℕ, ◌+◌, ◌*◌, List, map, ap, sym, ◌∙◌, arith, fold-map, range_with_len, sum_by}
 use Rattle.std.proofs.lemmas.List.FromFn.{sum_by-map-range_with_len_more}
-use Rattle.std.specs.List.{range_with_len, sum_by}
 use Rattle.px_model.specs.declared.solid.Colour.{Colour}
 use Rattle.px_model.specs.Scenes.{IsColour}
 use Rattle.px_refine.specs.declared.sums.Sums.{Sums}
@@ -20,35 +18,17 @@ sum_more f n =
 -- one pixel more
 pub row_more : (colour : (x y : ℕ) → Colour) (from y n : ℕ)
     → with_colour (row_sums colour from y n) (colour (from + n) y) ≡ row_sums colour from y (n + 1)
-row_more colour from y n = rw (
-  sum_more (λ i. (colour (from + i) y).red) n,
-  sum_more (λ i. (colour (from + i) y).green) n,
-  sum_more (λ i. (colour (from + i) y).blue) n,
-) refl
+row_more colour from y n = grind (arith, sum_more)
 
 -- one row more
-pub block_more : (colour : (x y : ℕ) → Colour) (across from top n : ℕ)
-    → together (block_sums colour across from top n) (row_sums colour from (top + n) across)
-    ≡ block_sums colour across from top (n + 1)
-block_more colour across from top n = rw (
-  sum_more (λ j. (row_sums colour from (top + j) across).red) n,
-  sum_more (λ j. (row_sums colour from (top + j) across).green) n,
-  sum_more (λ j. (row_sums colour from (top + j) across).blue) n,
-) refl
+pub block_more : (colour : (x y : ℕ) → Colour) (across from top n : ℕ) → together (block_sums colour across from top n)
+    (row_sums colour from (top + n) across) ≡ block_sums colour across from top (n + 1)
+block_more colour across from top n = grind (arith, sum_more)
 
 pub most_more : (sums : Sums) (colour : Colour) (n : ℕ) → AreSumsAtMost (255 * n) sums → IsColour colour
     → AreSumsAtMost (255 * (n + 1)) (with_colour sums colour)
-most_more sums colour n most bytes = record {
-  red = omega (arith, most.red, bytes.red);
-  green = omega (arith, most.green, bytes.green);
-  blue = omega (arith, most.blue, bytes.blue);
-}
+most_more sums colour n most bytes = grind arith
 
 pub most_together : (sums more : Sums) (across n : ℕ) → AreSumsAtMost (255 * (across * n)) sums
-    → AreSumsAtMost (255 * across) more
-    → AreSumsAtMost (255 * (across * (n + 1))) (together sums more)
-most_together sums more across n most next = record {
-  red = omega (arith, most.red, next.red);
-  green = omega (arith, most.green, next.green);
-  blue = omega (arith, most.blue, next.blue);
-}
+    → AreSumsAtMost (255 * across) more → AreSumsAtMost (255 * (across * (n + 1))) (together sums more)
+most_together sums more across n most next = grind arith

@@ -1,21 +1,15 @@
 -- Blocks of eight words that are read and written.
-use Rattle.std.proofs.Common.{◌≡◌, ℕ, ◌+◌, ◌-◌, ◌*◌, ◌/◌, ◌%◌, ◌<◌, ◌≤◌, Bool, List, length, get_or, ap, ◌∙◌}
-use Rattle.std.proofs.Common.{arith, inl, inr}
-use Rattle.std.proofs.lemmas.Bool.{cases_lt}
+use Rattle.px_num.proofs.Basics.{◌≡◌, ℕ, ◌+◌, ◌-◌, ◌*◌, ◌<◌, ◌≤◌, Bool, List, length, get_or, ap, ◌∙◌, arith, cases_lt}
+use Rattle.px_num.proofs.Basics.{get_or-put_chunk_at, get_or-put_chunk_below, get_or-put_chunk_above}
 use Rattle.std.specs.Simd.Lanes.{put_chunk}
-use Rattle.std.proofs.lemmas.Simd.{get_or-put_chunk_at, get_or-put_chunk_below, get_or-put_chunk_above}
 use Rattle.px_num.specs.Bits.{nat_bit}
 use Rattle.px_rows.specs.Rows.{row_bit}
 use Rattle.px_rows.specs.Words.{IsBlock, IsWritten}
 
 pub written_law : (at : ℕ) (row words : List ℕ) → at + 8 ≤ length row → length words ≡ 8
     → IsWritten (λ k word. (i : ℕ) → k ≡ at + i → word ≡ get_or words i 0) at row (put_chunk at row words)
-written_law at row words within long = record {
-  inside = λ k low high i e. ap (λ n. get_or (put_chunk at row words) n 0) e
-      ∙ get_or-put_chunk_at at row words i 0 (omega (arith, long)) (omega (arith, long));
-  before = λ k low. get_or-put_chunk_below at row words k 0 low;
-  after = λ k high. get_or-put_chunk_above at row words k 0 (omega (arith, long));
-}
+written_law at row words within long =
+    grind (arith, get_or-put_chunk_at, get_or-put_chunk_below, get_or-put_chunk_above)
 
 -- the words that are written, and those that were read
 pub word_written : (at k : ℕ) (old new words : List ℕ) → IsWritten (λ k word. (i : ℕ) → k ≡ at + i
@@ -38,14 +32,4 @@ pub bits_more : (P : ℕ → ℕ → Type 0) (F : ℕ → Bool) (block : ℕ) (o
     → ((k : ℕ) → 8 * block ≤ k → k < 8 * block + 8 → P k (get_or new k 0) → (j : ℕ) → j < 64
     → nat_bit (get_or new k 0) j ≡ F (64 * k + j))
     → (p : ℕ) → p < 512 * (block + 1) → row_bit new p ≡ F p
-bits_more P F block old new w done now p low = elim (cases_lt p (512 * block)) [
-  | inl before ↦
-      let word : p / 64 < 8 * block = omega arith in
-      rw (w.before (p / 64) word) (done p before)
-  | inr past ↦
-      let from : 8 * block ≤ p / 64 = omega arith in
-      let to : p / 64 < 8 * block + 8 = omega arith in
-      let bit : p % 64 < 64 = omega arith in
-      let whole : 64 * (p / 64) + p % 64 ≡ p = omega arith in
-      rw whole at (now (p / 64) from to (w.inside (p / 64) from to) (p % 64) bit)
-]
+bits_more P F block old new w done now p low = grind (arith, cases_lt)

@@ -1,8 +1,7 @@
 -- The bits of a part of a row, and of a row of which a part was written.
-use Rattle.std.proofs.Common.{◌≡◌, ℕ, ◌+◌, ◌*◌, ◌/◌, ◌%◌, ◌<◌, ◌≤◌, List, length, get_or, take, drop, ap, arith, rules}
-use Rattle.std.proofs.lemmas.List.{places}
+use Rattle.px_num.proofs.Basics.{◌≡◌, ℕ, ◌+◌, ◌*◌, ◌/◌, ◌%◌, ◌<◌, ◌≤◌, List, length, get_or, take, drop, arith, rules}
+use Rattle.px_num.proofs.Basics.{places}
 use borrow.Rule.Slice.PartMut.{put_mid}
-use Rattle.px_num.specs.Bits.{nat_bit}
 use Rattle.px_rows.specs.Rows.{row_bit}
 
 word_in_put : (at k i : ℕ) (xs ys : List ℕ) → at + k ≤ length xs → length ys ≡ k → i < k
@@ -21,12 +20,8 @@ lane_of at p = omega arith
 
 pub bit_in_put : (at k p : ℕ) (xs ys : List ℕ) → at + k ≤ length xs → length ys ≡ k → p < 64 * k
     → row_bit (put_mid at k xs ys) (64 * at + p) ≡ row_bit ys p
-bit_in_put at k p xs ys within long small =
-    rw (place_of at p, lane_of at p)
-    (ap (λ (n : ℕ). nat_bit n (p % 64)) (word_in_put at k (p / 64) xs ys within long (omega arith)))
+bit_in_put at k p xs ys within long small = grind (arith, place_of, lane_of, word_in_put)
 
 pub bit_in_part : (at k p : ℕ) (xs : List ℕ) → at + k ≤ length xs → p < 64 * k
     → row_bit (take k (drop at xs)) p ≡ row_bit xs (64 * at + p)
-bit_in_part at k p xs within small =
-    rw (place_of at p, lane_of at p)
-    (ap (λ (n : ℕ). nat_bit n (p % 64)) (word_in_part at k (p / 64) xs within (omega arith)))
+bit_in_part at k p xs within small = grind (arith, place_of, lane_of, word_in_part)

@@ -1,5 +1,5 @@
 //! What is asked of an array: its openings, operations at once, and clocks.
-use crate::runs::{ONE_SOLID, run_words, sink_of, source_of};
+use crate::runs::{Given, RENDER, run_words};
 use arrayvec::ArrayVec;
 use px_array::{Array, Micro, PixelArray, Registers};
 use px_asm::Operating;
@@ -16,19 +16,21 @@ const SLOPES: &[u8] = b"pxscene 1\npicture 2 1\ndepth 6\nsolid a 0 0 0\n\
 /// An array that keeps of each of its openings the levels of the grid, and the clocks that were made before; and how often
 /// it was asked for an operation at once, and for a clock.
 #[derive(Drop)]
-struct Watched {
+pub(crate) struct Watched {
     array: PixelArray<72>,
     openings: ArrayVec<(u32, u32, u64), 8>,
     operations: u64,
     clocks: u64,
 }
 
-fn closed(alloc: Global) -> Watched {
-    Watched {
-        array: PixelArray::new(alloc),
-        openings: ArrayVec::new(),
-        operations: 0,
-        clocks: 0,
+impl Watched {
+    pub(crate) fn new(alloc: Global) -> Watched {
+        Watched {
+            array: PixelArray::new(alloc),
+            openings: ArrayVec::new(),
+            operations: 0,
+            clocks: 0,
+        }
     }
 }
 
@@ -105,23 +107,17 @@ impl Operating for Watched {
 /// Each of the three tiles is opened, and its 29 operations take 473 clocks on 2 by 2 pixels.
 #[test]
 fn each_tile_is_opened_and_clocked(rt: HostRuntime) -> Result<(), Fail> {
-    let mut array = closed(rt.alloc());
-    let mut input = source_of(rt.alloc(), SLOPES, 4096, 0)?;
-    let out = sink_of(rt.alloc(), 0)?;
-    let left = run_words(
-        rt.alloc(),
-        &["tile", "5", "1"],
-        &mut input,
-        out,
-        99,
-        &mut array,
-    )?;
-    assert_eq!(rt; left.status, Status::Done);
+    let given = Given {
+        words: &["tile", "5", "1"],
+        scene: SLOPES,
+        ..RENDER
+    };
+    let left = run_words(rt.alloc(), &given)?;
+    left.ended(&rt, Status::Done, b"", 473);
     assert_eq!(rt;
-        array.openings.as_slice(),
+        left.array.openings.as_slice(),
         [(1, 1, 0), (1, 1, 473), (1, 1, 473)].as_slice()
     );
-    assert_eq!(rt; left.clocks, 473);
     Ok(())
 }
 
@@ -129,14 +125,9 @@ fn each_tile_is_opened_and_clocked(rt: HostRuntime) -> Result<(), Fail> {
 /// six behind it take 38 of the 317 clocks.
 #[test]
 fn most_operations_are_made_at_once(rt: HostRuntime) -> Result<(), Fail> {
-    let mut array = closed(rt.alloc());
-    let mut input = source_of(rt.alloc(), ONE_SOLID, 4096, 0)?;
-    let out = sink_of(rt.alloc(), 0)?;
-    let left = run_words(rt.alloc(), &[], &mut input, out, 99, &mut array)?;
-    assert_eq!(rt; left.status, Status::Done);
-    assert_eq!(rt;
-        (array.operations, array.clocks, left.clocks),
-        (15, 38, 317)
-    );
+    let left = run_words(rt.alloc(), &RENDER)?;
+    left.ended(&rt, Status::Done, b"", 317);
+    assert_eq!(rt; left.array.operations, 15);
+    assert_eq!(rt; left.array.clocks, 38);
     Ok(())
 }

@@ -1,63 +1,85 @@
-//! The ends in memory and the calm ones, through the calls that read and write whole; failures in mid-stream.
-
+//! The ends in memory, the calm ones, and those over a reader and a writer of std, through the calls that read and write
+//! whole; failures in mid-stream.
+use crate::runs::{sink_of, source_of};
 use px_io::{
-    CalmSink, CalmSource, Failed, MemSink, MemSource, ReadError, Sink, read_whole, write_whole,
+    CalmSink, CalmSource, Failed, MemSink, ReadError, Sink, Source, StdSink, StdSource, read_whole,
+    write_whole,
 };
+use std::alloc::Global;
+use std::io;
+use std::io::BufWriter;
+use std::process::Abort;
 use std::test::Fail;
+
+/// These bytes are read whole, of which there may be so many.
+fn reads<S: Source>(
+    rt: &impl Abort,
+    alloc: Global,
+    input: &mut S,
+    limit: usize,
+    want: &[u8],
+) -> Result<(), Fail> {
+    let read = read_whole(alloc, input, limit)?;
+    assert_eq!(rt; read.as_slice(), want);
+    Ok(())
+}
+
+/// A read of all fails.
+fn fails<S: Source>(rt: &impl Abort, alloc: Global, input: &mut S) {
+    let has_failed = matches!(read_whole(alloc, input, 9), Err(ReadError::Failed));
+    assert!(rt; has_failed);
+}
+
+/// These bytes are written whole, or a write of them fails.
+fn writes<O: Sink>(rt: &impl Abort, out: &mut O, bytes: &[u8], want: Result<(), Failed>) {
+    assert_eq!(rt; write_whole(out, bytes), want);
+}
+
+fn finishes<O: Sink>(rt: &impl Abort, out: &mut O, want: Result<(), Failed>) {
+    assert_eq!(rt; out.finish(), want);
+}
+
+/// The sink has taken these bytes, and is finished or not.
+fn has_taken(rt: &impl Abort, out: &MemSink, bytes: &[u8], is_finished: bool) {
+    assert_eq!(rt; out.written(), bytes);
+    assert_eq!(rt; out.finished(), is_finished);
+}
 
 #[test]
 fn memory_carries_all_bytes(rt: HostRuntime) -> Result<(), Fail> {
     let alloc = rt.alloc();
-    let bytes = Vec::from_slice(alloc, b"abcdef")?;
-    let mut input = MemSource::new(bytes, 4, Vec::new(alloc));
-    assert_eq!(rt;
-        read_whole(alloc, &mut input, 5)?.as_slice(),
-        b"abcde".as_slice()
-    );
-    assert_eq!(rt;
-        read_whole(alloc, &mut input, 5)?.as_slice(),
-        b"f".as_slice()
-    );
-
-    let mut out = MemSink::new(alloc, 6, 4, Vec::new(alloc))?;
-    write_whole(&mut out, b"abcdef")?;
-    assert!(rt; !out.finished());
-    out.finish()?;
-    assert!(rt; out.finished());
-    assert_eq!(rt; out.written(), b"abcdef".as_slice());
+    let mut input = source_of(alloc, b"abcdef", 4, 0)?;
+    reads(&rt, alloc, &mut input, 5, b"abcde")?;
+    reads(&rt, alloc, &mut input, 5, b"f")?;
+    let mut out = sink_of(alloc, 6, 4, 0)?;
+    writes(&rt, &mut out, b"abcdef", Ok(()));
+    has_taken(&rt, &out, b"abcdef", false);
+    finishes(&rt, &mut out, Ok(()));
+    has_taken(&rt, &out, b"abcdef", true);
     Ok(())
 }
 
 #[test]
 fn memory_fails_in_mid_stream(rt: HostRuntime) -> Result<(), Fail> {
     let alloc = rt.alloc();
-    let bytes = Vec::from_slice(alloc, b"abcdef")?;
-    let mut input = MemSource::new(bytes, 2, Vec::from_slice(alloc, &[2])?);
-    assert_eq!(rt;
-        read_whole(alloc, &mut input, 9).map(|_| ()),
-        Err(ReadError::Failed)
-    );
-    assert_eq!(rt;
-        read_whole(alloc, &mut input, 9)?.as_slice(),
-        b"cdef".as_slice()
-    );
-
-    let mut out = MemSink::new(alloc, 9, 2, Vec::from_slice(alloc, &[2])?)?;
-    assert_eq!(rt; write_whole(&mut out, b"abcdef"), Err(Failed));
-    assert_eq!(rt; out.written(), b"ab".as_slice());
-    write_whole(&mut out, b"xy")?;
-    assert_eq!(rt; out.written(), b"abxy".as_slice());
+    let mut input = source_of(alloc, b"abcdef", 2, 2)?;
+    fails(&rt, alloc, &mut input);
+    reads(&rt, alloc, &mut input, 9, b"cdef")?;
+    let mut out = sink_of(alloc, 9, 2, 2)?;
+    writes(&rt, &mut out, b"abcdef", Err(Failed));
+    has_taken(&rt, &out, b"ab", false);
+    writes(&rt, &mut out, b"xy", Ok(()));
+    has_taken(&rt, &out, b"abxy", false);
     Ok(())
 }
 
 #[test]
 fn no_room_is_left(rt: HostRuntime) -> Result<(), Fail> {
-    let alloc = rt.alloc();
-    let mut out = MemSink::new(alloc, 0, 1, Vec::new(alloc))?;
-    assert_eq!(rt; out.write(b"a"), Err(Failed));
+    let mut out = sink_of(rt.alloc(), 0, 1, 0)?;
+    writes(&rt, &mut out, b"a", Err(Failed));
     assert_eq!(rt; out.write(b""), Ok(0));
-    out.finish()?;
-    assert!(rt; out.finished());
+    finishes(&rt, &mut out, Ok(()));
+    has_taken(&rt, &out, b"", true);
     Ok(())
 }
 
@@ -65,12 +87,58 @@ fn no_room_is_left(rt: HostRuntime) -> Result<(), Fail> {
 fn calm_ends_never_fail(rt: HostRuntime) -> Result<(), Fail> {
     let alloc = rt.alloc();
     let mut input = CalmSource::new(Vec::from_slice(alloc, b"abcdef")?);
-    assert_eq!(rt;
-        read_whole(alloc, &mut input, 9)?.as_slice(),
-        b"abcdef".as_slice()
-    );
+    reads(&rt, alloc, &mut input, 9, b"abcdef")?;
     let mut out = CalmSink::new();
-    write_whole(&mut out, b"abcdef")?;
-    out.finish()?;
+    writes(&rt, &mut out, b"abcdef", Ok(()));
+    finishes(&rt, &mut out, Ok(()));
+    Ok(())
+}
+
+#[test]
+fn std_reader_is_a_source(rt: HostRuntime) -> Result<(), Fail> {
+    let mut input = StdSource::new(b"abcdef".as_slice());
+    reads(&rt, rt.alloc(), &mut input, 9, b"abcdef")
+}
+
+/// A reader of four bytes, a byte a read, whose third read fails.
+#[derive(Drop)]
+struct Flaky {
+    reads: u8,
+}
+
+impl io::Read for Flaky {
+    fn read(&mut self, buf: &mut [u8]) -> io::Result<usize> {
+        self.reads = self.reads.saturating_add(1);
+        match self.reads {
+            3 => Err(io::Error::from(io::ErrorKind::TimedOut)),
+            6.. => Ok(0),
+            _ => match buf {
+                [first, ..] => {
+                    *first = b'a';
+                    Ok(1)
+                }
+                [] => Ok(0),
+            },
+        }
+    }
+}
+
+#[test]
+fn std_reader_fails_once(rt: HostRuntime) -> Result<(), Fail> {
+    let mut input = StdSource::new(Flaky { reads: 0 });
+    fails(&rt, rt.alloc(), &mut input);
+    reads(&rt, rt.alloc(), &mut input, 9, b"aa")
+}
+
+#[test]
+fn std_writer_is_a_sink(rt: HostRuntime) -> Result<(), Fail> {
+    let mut room = [0; 4];
+    let mut out = StdSink::new(BufWriter::new(rt.alloc(), room.as_mut_slice())?);
+    writes(&rt, &mut out, b"abcd", Ok(()));
+    finishes(&rt, &mut out, Ok(()));
+    writes(&rt, &mut out, b"e", Ok(()));
+    finishes(&rt, &mut out, Err(Failed));
+    drop(out);
+    assert_eq!(rt; room, *b"abcd");
     Ok(())
 }

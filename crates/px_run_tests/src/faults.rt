@@ -1,35 +1,28 @@
 //! Runs over sources and sinks in memory, whose calls fail at a place.
-use crate::runs::{Left, ONE_SOLID, run_words, sink_of, source_of};
-use px_array::PixelArray;
+use crate::runs::{Given, RENDER, run_words};
 use px_draw::Status;
-use px_io::MemSink;
 use std::alloc::Global;
 use std::test::Fail;
 
 const TWO_MAPS: &[u8] = b"P6\n1 1\n255\n\0\0\x05P6\n1 1\n255\n\0\0\x02";
 
-/// Draws one solid, which is read by calls of which one fails, with so much room for the output and for
-/// the notes.
-fn draw(alloc: Global, failing: u64, room: usize, notes: usize) -> Result<Left, Fail> {
-    let mut input = source_of(alloc, ONE_SOLID, 7, failing)?;
-    let out = MemSink::new(alloc, room, 5, Vec::new(alloc))?;
-    let mut array = PixelArray::<72>::new(alloc);
-    run_words(alloc, &[], &mut input, out, notes, &mut array)
-}
-
 /// One read fails at each place, up to the read that finds the end; the one behind it is not made.
 #[test]
 fn a_failing_read_ends_the_run(rt: HostRuntime) -> Result<(), Fail> {
-    for call in 1..14 {
-        let left = draw(rt.alloc(), call, 100, 100)?;
-        assert_eq!(rt; left.status, Status::ReadFault, "call {call}");
-        assert!(rt; left.out.written().is_empty() && left.clocks == 0);
-        assert_eq!(rt; left.notes.written(), b"read fault\n".as_slice());
+    for call in 1..15 {
+        let given = Given {
+            reads: (7, call),
+            ..RENDER
+        };
+        let left = run_words(rt.alloc(), &given)?;
+        if call < 14 {
+            left.ended(&rt, Status::ReadFault, b"read fault\n", 0);
+            assert!(rt; left.out.written().is_empty(), "call {call}");
+        } else {
+            left.ended(&rt, Status::Done, b"", 317);
+            assert_eq!(rt; left.out.written(), TWO_MAPS);
+        }
     }
-    let left = draw(rt.alloc(), 14, 100, 100)?;
-    assert_eq!(rt; left.status, Status::Done);
-    assert_eq!(rt; left.out.written(), TWO_MAPS);
-    assert!(rt; left.notes.written().is_empty() && left.clocks == 317);
     Ok(())
 }
 
@@ -37,17 +30,23 @@ fn a_failing_read_ends_the_run(rt: HostRuntime) -> Result<(), Fail> {
 /// has made every broadcast whatever became of them. The notes have room for three bytes.
 #[test]
 fn a_failing_write_leaves_a_front(rt: HostRuntime) -> Result<(), Fail> {
-    for room in 0..28 {
-        let left = draw(rt.alloc(), 0, room, 3)?;
-        assert_eq!(rt; left.status, Status::WriteFault, "room {room}");
-        assert_eq!(rt; left.out.written(), &TWO_MAPS[..room]);
-        assert_eq!(rt; left.notes.written(), b"wri".as_slice());
-        assert!(rt; !left.out.finished() && left.clocks == 317);
+    for room in 0..29 {
+        let given = Given {
+            writes: (room, 5, 0),
+            notes: 3,
+            ..RENDER
+        };
+        let left = run_words(rt.alloc(), &given)?;
+        if room < 28 {
+            left.ended(&rt, Status::WriteFault, b"wri", 317);
+        } else {
+            left.ended(&rt, Status::Done, b"", 317);
+        }
+        assert_eq!(rt; left.out.written().len(), room);
+        assert!(rt; TWO_MAPS.starts_with(left.out.written()), "room {room}");
+        assert_eq!(rt; left.out.finished(), room == 28);
     }
-    let left = draw(rt.alloc(), 0, 28, 3)?;
-    assert_eq!(rt; left.status, Status::Done);
-    assert_eq!(rt; left.out.written(), TWO_MAPS);
-    assert!(rt; left.out.finished() && left.notes.written().is_empty());
+    assert_eq!(rt; TWO_MAPS.len(), 28);
     Ok(())
 }
 
@@ -82,8 +81,11 @@ fn how_often_a_sink_is_called(rt: HostRuntime) -> Result<(), Fail> {
 
 /// Runs a command on a scene of three rows, by a sink of which one call fails.
 fn three_rows(alloc: Global, words: &[&str], failing: u64) -> Result<Status, Fail> {
-    let mut input = source_of(alloc, THREE_ROWS, 4096, 0)?;
-    let out = sink_of(alloc, failing)?;
-    let mut array = PixelArray::<72>::new(alloc);
-    Ok(run_words(alloc, words, &mut input, out, 100, &mut array)?.status)
+    let given = Given {
+        words,
+        scene: THREE_ROWS,
+        writes: (4096, 4096, failing),
+        ..RENDER
+    };
+    Ok(run_words(alloc, &given)?.status)
 }

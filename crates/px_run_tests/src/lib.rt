@@ -12,8 +12,6 @@ mod runs;
 #[cfg(test)]
 mod sessions;
 #[cfg(test)]
-mod streams;
-#[cfg(test)]
 mod texts;
 #[cfg(test)]
 mod watched;

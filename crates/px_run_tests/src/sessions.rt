@@ -1,8 +1,5 @@
 //! Runs of `debug` over sources and sinks in memory, whose calls fail at a place.
-ghost use Rattle.std.specs.Prelude.{◌<◌};
-
-use crate::runs::{Left, ONE_SOLID, run_words, sink_of, source_of};
-use px_array::PixelArray;
+use crate::runs::{Given, Left, ONE_SOLID, RENDER, run_words};
 use px_asked::TellingSource;
 use px_draw::Status;
 use std::alloc::Global;
@@ -16,37 +13,33 @@ const ANSWERS: &[u8] = b"at 3\n0: hold enable-all\n1: hold store-const 0 0\n\
 2: hold store-const 1 0\nat 9\nat 317\nat 317 of 317 done\nfield 0 0 b 5 2 t 5 2 alive 1 par 0\n\
 ? line 7\n? line 8\n";
 
-/// Runs `debug` on one solid and these lines, read in pieces, with a read and a write that fail; the
-/// output is a front of the answers.
-fn sit(
-    rt: &impl Abort,
-    alloc: Global,
-    lines: &[u8],
-    answers: &[u8],
-    piece: usize,
-    failing: (u64, u64),
-) -> Result<Left, Fail>
-    requires { 0 < piece }
-{
-    let mut text = ONE_SOLID.to_vec(alloc)?;
-    text.extend_from_slice(lines)?;
-    let mut input = source_of(alloc, text.as_slice(), piece, failing.0)?;
-    let out = sink_of(alloc, failing.1)?;
-    let mut array = PixelArray::<72>::new(alloc);
-    let left = run_words(alloc, &["debug"], &mut input, out, 100, &mut array)?;
-    assert!(rt; answers.starts_with(left.out.written()));
-    Ok(left)
+/// Runs `debug` on one solid and these lines, read in pieces of which one fails, by a sink of which one call fails.
+fn sit(alloc: Global, lines: &[u8], reads: (usize, u64), failing: u64) -> Result<Left, Fail> {
+    let given = Given {
+        words: &["debug"],
+        lines,
+        reads,
+        writes: (4096, 4096, failing),
+        ..RENDER
+    };
+    run_words(alloc, &given)
+}
+
+/// So many bytes were written, a front of the answers, and the output was finished only where all were.
+fn answered(rt: &impl Abort, left: &Left, answers: &[u8], count: usize) {
+    let told = left.out.written();
+    assert_eq!(rt; told.len(), count);
+    assert!(rt; answers.starts_with(told));
+    assert_eq!(rt; left.out.finished(), left.status == Status::Done);
 }
 
 /// However the input is cut, the answers are the same; a line behind `quit` is not answered.
 #[test]
 fn pieces_do_not_matter(rt: HostRuntime) -> Result<(), Fail> {
     for piece in [1, 7, 4096] {
-        let left = sit(&rt, rt.alloc(), LINES, ANSWERS, piece, (0, 0))?;
-        assert_eq!(rt; left.status, Status::Done, "piece {piece}");
-        assert_eq!(rt; left.out.written().len(), ANSWERS.len());
-        assert!(rt; left.out.finished());
-        assert_eq!(rt; left.clocks, 317);
+        let left = sit(rt.alloc(), LINES, (piece, 0), 0)?;
+        left.ended(&rt, Status::Done, b"", 317);
+        answered(&rt, &left, ANSWERS, ANSWERS.len());
     }
     Ok(())
 }
@@ -55,11 +48,9 @@ fn pieces_do_not_matter(rt: HostRuntime) -> Result<(), Fail> {
 #[test]
 fn lines_are_answered_before_the_next_read(rt: HostRuntime) -> Result<(), Fail> {
     let answers = b"at 3\nat 3 of 317 macro 1 micro 2\n";
-    let left = sit(&rt, rt.alloc(), b"step 3\nat\n", answers, 1000, (2, 0))?;
-    assert_eq!(rt; left.status, Status::ReadFault);
-    assert_eq!(rt; left.out.written().len(), answers.len());
-    assert!(rt; !left.out.finished());
-    assert_eq!(rt; left.clocks, 3);
+    let left = sit(rt.alloc(), b"step 3\nat\n", (1000, 2), 0)?;
+    left.ended(&rt, Status::ReadFault, b"read fault\n", 3);
+    answered(&rt, &left, answers, answers.len());
     Ok(())
 }
 
@@ -80,11 +71,9 @@ const LEFT_BY_CALL: [(u64, usize, u64); 9] = [
 #[test]
 fn a_failing_write_breaks_off(rt: HostRuntime) -> Result<(), Fail> {
     for (call, output, clocks) in LEFT_BY_CALL {
-        let left = sit(&rt, rt.alloc(), LINES, ANSWERS, 9, (0, call))?;
-        assert_eq!(rt; left.status, Status::WriteFault, "call {call}");
-        assert_eq!(rt; left.out.written().len(), output, "call {call}");
-        assert!(rt; !left.out.finished());
-        assert_eq!(rt; left.clocks, clocks, "call {call}");
+        let left = sit(rt.alloc(), LINES, (9, 0), call)?;
+        left.ended(&rt, Status::WriteFault, b"write fault\n", clocks);
+        answered(&rt, &left, ANSWERS, output);
     }
     Ok(())
 }
@@ -92,38 +81,14 @@ fn a_failing_write_breaks_off(rt: HostRuntime) -> Result<(), Fail> {
 /// What the output had taken at an ask, and the bytes that the ask gave.
 type Asked<'a> = (&'a [u8], &'a [u8]);
 
-/// Runs `debug` on one solid and these lines over a source that tells its asks, and compares them with those that are due.
-fn asks_told(
-    rt: &impl Abort,
-    alloc: Global,
-    lines: &[u8],
-    piece: usize,
-    failing: u64,
-    due: &[Asked<'_>],
-) -> Result<Status, Fail>
-    requires { 0 < piece }
-{
-    let mut text = ONE_SOLID.to_vec(alloc)?;
-    text.extend_from_slice(lines)?;
-    let mut input = TellingSource::new(alloc, source_of(alloc, text.as_slice(), piece, failing)?);
-    let mut array = PixelArray::<72>::new(alloc);
-    let left = run_words(
-        alloc,
-        &["debug"],
-        &mut input,
-        sink_of(alloc, 0)?,
-        100,
-        &mut array,
-    )?;
-    let Some(notes) = input.notes() else {
-        return Err(Fail::new("memory was refused for what is told"));
-    };
+/// Each of these asks was made, and no other.
+fn asked(rt: &impl Abort, input: &TellingSource, due: &[Asked<'_>]) {
+    let notes = input.notes().expect(rt, "memory for what is told");
     assert_eq!(rt; notes.len(), due.len());
     for (note, (told, bytes)) in notes.iter().zip(due) {
         assert_eq!(rt; note.told.as_slice(), *told);
         assert_eq!(rt; note.bytes.as_slice(), *bytes);
     }
-    Ok(left.status)
 }
 
 /// Cut behind the first line, which is answered before more is asked for; the second, which is none of a debugger's, is answered
@@ -132,13 +97,14 @@ fn asks_told(
 fn each_line_is_answered_before_the_next_ask(rt: HostRuntime) -> Result<(), Fail> {
     let mut first = ONE_SOLID.to_vec(rt.alloc())?;
     first.extend_from_slice(b"step 3\n")?;
+    let left = sit(rt.alloc(), b"step 3\nhello\n", (first.len(), 0), 0)?;
+    assert_eq!(rt; left.status, Status::Done);
     let due: [Asked<'_>; 3] = [
         (b"", first.as_slice()),
         (b"at 3\n", b"hello\n"),
         (b"at 3\n? line 2\n", b""),
     ];
-    let status = asks_told(&rt, rt.alloc(), b"step 3\nhello\n", first.len(), 0, &due)?;
-    assert_eq!(rt; status, Status::Done);
+    asked(&rt, &left.input, &due);
     Ok(())
 }
 
@@ -147,8 +113,9 @@ fn each_line_is_answered_before_the_next_ask(rt: HostRuntime) -> Result<(), Fail
 fn an_ask_that_fails_is_told(rt: HostRuntime) -> Result<(), Fail> {
     let mut all = ONE_SOLID.to_vec(rt.alloc())?;
     all.extend_from_slice(b"step 3\nhello\n")?;
+    let left = sit(rt.alloc(), b"step 3\nhello\n", (4096, 2), 0)?;
+    assert_eq!(rt; left.status, Status::ReadFault);
     let due: [Asked<'_>; 2] = [(b"", all.as_slice()), (b"at 3\n? line 2\n", b"")];
-    let status = asks_told(&rt, rt.alloc(), b"step 3\nhello\n", 4096, 2, &due)?;
-    assert_eq!(rt; status, Status::ReadFault);
+    asked(&rt, &left.input, &due);
     Ok(())
 }

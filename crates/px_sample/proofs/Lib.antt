@@ -1,3 +1,4 @@
+pub mod DrawingLemmas
 pub mod SampleLemmas
 pub mod SampleSolidLemmas
 pub mod SampleTextLemmas

@@ -1,8 +1,6 @@
 -- The union of the sample's blocks, however deep it is allowed to be halved.
-use Rattle.std.proofs.Common.{◌≡◌, ℕ, zero, suc, ◌+◌, ◌-◌, ◌/◌, ◌<◌, ◌≤◌, ◌==◌, Bool, true, false, if◌then◌else◌}
-use Rattle.std.proofs.Common.{List, ◌++◌, codes, inl, inr, refl, ap, sym, ◌∙◌, arith}
-use Rattle.std.proofs.lemmas.Bool.{cases_lt}
-use Rattle.std.proofs.lemmas.Bool.Decides.{nat_tests}
+use Rattle.px_num.proofs.Basics.{◌≡◌, ℕ, zero, suc, ◌+◌, ◌-◌, ◌/◌, ◌<◌, ◌≤◌, ◌==◌, Bool, true, false, if◌then◌else◌}
+use Rattle.px_num.proofs.Basics.{List, ◌++◌, codes, inl, inr, refl, ap, sym, ◌∙◌, arith, cases_lt, nat_tests}
 use Rattle.px_sample.specs.Sample.{block_name, union_in, union_of}
 
 abbrev pub joined : (left right : List ℕ) → List ℕ
@@ -41,8 +39,7 @@ enough (suc d) (suc e) first end some small large =
           ∙ ap (joined (union_in e first (middle first end))) high
           ∙ sym (halved e first end more)
       | inr few ↦
-          let one : end ≡ first + 1 = omega arith in
-          alone d first end one ∙ sym (alone e first end one)
+          grind (arith, alone)
     ]
 
 pub union_of_one : (first : ℕ) → union_of first (first + 1) ≡ block_name first
@@ -59,5 +56,4 @@ union_of_halves first end more =
     let low : union_in d first m ≡ union_of first m =
     enough d (m - first) first m (omega arith) (omega arith) (omega arith) in
     let high : union_in d m end ≡ union_of m end = enough d (end - m) m end (omega arith) (omega arith) (omega arith) in
-    ap (λ k. union_in k first end) e ∙ halved d first end more
-    ∙ ap (λ t. joined t (union_in d m end)) low ∙ ap (joined (union_of first m)) high
+    grind (arith, halved)

@@ -1,23 +1,15 @@
 -- The solids of the sample: their planes, their colours and their names.
-use Rattle.std.proofs.Common.{◌≡◌, ℕ, pos, ◌+◌, ◌*◌, ◌/◌, ◌%◌, ◌^◌, ◌<◌, ◌≤◌, List, [], ◌∷◌, ◌++◌, length, Bool, true}
-use Rattle.std.proofs.Common.{false, ◌&&◌, codes, decimal, map, get_or, Some, refl, ap, sym, subst, ◌∙◌, arith}
-use Rattle.std.proofs.Common.{length-append}
-use Rattle.std.proofs.Common.{nat_le, if◌then◌else◌, None}
-use Prim.Native.Nat.{zero, suc}
+use Rattle.px_num.proofs.Basics.{common_steps, ◌≡◌, ℕ, pos, ◌+◌, ◌*◌, ◌/◌, ◌%◌, ◌^◌, ◌<◌, ◌≤◌, List, [], ◌∷◌, ◌++◌}
+use Rattle.px_num.proofs.Basics.{length, true, false, codes, decimal, map, get_or, Some, refl, ap, sym, subst, ◌∙◌}
+use Rattle.px_num.proofs.Basics.{arith, length-append, nat_le, zero, suc, All, list_all, range_with_len, bytes_eq}
+use Rattle.px_num.proofs.Basics.{get_or-append_seam, nat_tests, length-decimal-le, ints, get_or_append_left}
+use Rattle.px_num.proofs.Basics.{get_or-map-range_with_len, length-map-range_with_len, bytes_eq-Decides}
 use lib.IntN.{neg_ℤ}
-use Rattle.std.specs.List.{All, list_all, range_with_len}
-use Rattle.std.specs.Str.{bytes_eq}
-use Rattle.std.proofs.Math.Seq.{get_or-append_seam}
-use Rattle.std.proofs.lemmas.Bool.Decides.{nat_tests}
-use Rattle.std.proofs.lemmas.Fmt.{decimal_injective, length-decimal-le}
-use Rattle.std.proofs.lemmas.Int.{ints}
-use Rattle.std.proofs.lemmas.List.{get_or_append_left}
-use Rattle.std.proofs.lemmas.List.Elements.{All-cons, All-nil}
-use Rattle.std.proofs.lemmas.List.FromFn.{get_or-map-range_with_len, length-map-range_with_len, map-range_with_len_more}
-use Rattle.std.proofs.lemmas.Slice.Eq.{bytes_eq-Decides}
+use Rattle.std.proofs.lemmas.Fmt.{decimal_injective}
+use Rattle.std.proofs.lemmas.List.FromFn.{map-range_with_len_more}
 use Rattle.px_num.specs.declared.linear.Linear.{Linear}
 use Rattle.px_num.specs.Forms.{IsWithin}
-use Rattle.px_text.specs.Text.{Words, is_digit, is_name, is_name_byte, is_some_byte, size_of_digits}
+use Rattle.px_text.specs.Text.{Words, is_digit, is_name, is_name_byte, size_of_digits}
 use Rattle.px_text.proofs.DecimalLaws.{size_read}
 use Rattle.px_text.proofs.PlainLaws.{both}
 use Rattle.px_show.specs.Expressions.{is_among}
@@ -109,20 +101,10 @@ blocks n = map block (range_with_len 0 n)
 -- names of blocks
 digits_named : (w : List ℕ) → list_all is_digit w ≡ true → list_all is_name_byte w ≡ true
 digits_named [] all = refl
-digits_named (b ∷ w) all =
-    let each = both (is_digit b) (list_all is_digit w) all in
-    rw (digit_named b each.0, digits_named w each.1) refl
-  where
-    digit_named : (b : ℕ) → is_digit b ≡ true → is_name_byte b ≡ true
-    digit_named b e = grind (arith, nat_tests)
+digits_named (b ∷ w) all = grind (arith, both, digits_named w (both (is_digit b) (list_all is_digit w) all).1)
 
 sized : (w : List ℕ) (n : ℕ) → size_of_digits w ≡ Some n → list_all is_digit w ≡ true
-sized w n is = (both (is_some_byte w) (list_all is_digit w)
-    (where_some (is_some_byte w && list_all is_digit w) _ n is)).1
-  where
-    where_some : (ok : Bool) (m n : ℕ) → (if ok then Some m else None) ≡ Some n → ok ≡ true
-    where_some true m n e = refl
-    where_some false m n e = cc
+sized w n is = grind (arith, both)
 
 pub block_named : (i : ℕ) → i < 1000 → is_name (block_name i) ≡ true
 block_named i low =
@@ -136,14 +118,7 @@ block_named i low =
     at_most k le = grind (arith, nat_tests)
 
 other_block : (i j : ℕ) → j < i → i < 1000 → bytes_eq (block_name j) (block_name i) ≡ false
-other_block i j less low = by_test (bytes_eq (decimal j) (decimal i)) refl
-  where
-    by_test : (same : Bool) → bytes_eq (decimal j) (decimal i) ≡ same → bytes_eq (block_name j) (block_name i) ≡ false
-    by_test false e = e
-    by_test true e =
-        let is : j ≡ i = decimal_injective j i (omega arith) (omega arith)
-        ((bytes_eq-Decides (decimal j) (decimal i)).0 e) in
-        absurd (omega arith)
+other_block i j less low = grind (arith, decimal_injective, bytes_eq-Decides)
 
 names_with : (ss : List SolidView) (s : SolidView) → names_of (ss ++ s ∷ []) ≡ names_of ss ++ s.name ∷ []
 names_with [] s = refl
@@ -152,14 +127,7 @@ names_with (q ∷ ss) s = ap (λ ns. q.name ∷ ns) (names_with ss s)
 not_among : (names : Words) (n name : List ℕ) → is_among names name ≡ false → bytes_eq n name ≡ false
     → is_among (names ++ n ∷ []) name ≡ false
 not_among [] n name none other = rw other refl
-not_among (m ∷ names) n name none other =
-    by_test (bytes_eq m name) refl (λ rest. not_among names n name rest other)
-  where
-    by_test : (same : Bool) → bytes_eq m name ≡ same
-        → (is_among names name ≡ false → is_among (names ++ n ∷ []) name ≡ false)
-        → is_among ((m ∷ names) ++ n ∷ []) name ≡ false
-    by_test true e later = absurd (let two : true ≡ false = rw e at none in cc)
-    by_test false e later = rw (e, later (rw e at none)) refl
+not_among (m ∷ names) n name none other = grind (arith, nat_tests, common_steps)
 
 pub blocks_more : (n : ℕ) → blocks (n + 1) ≡ blocks n ++ block n ∷ []
 blocks_more n = map-range_with_len_more block 0 n n (omega arith)
@@ -184,11 +152,7 @@ fresh_cut (suc n) =
     (not_among (names_of (blocks n)) (block_name n) (codes "cut") (fresh_cut n) refl)
 
 names_are : (n : ℕ) → n ≤ 200 → AreDistinctNames (names_of (blocks n))
-names_are zero le = record {
-  lawful = λ k d low. absurd (omega arith);
-  different = λ i j d low less. absurd
-      (omega arith);
-}
+names_are zero le = grind arith
 names_are (suc n) le =
     subst AreDistinctNames (sym (names_more n))
     (names_push (names_of (blocks n)) (block_name n) (names_are n (omega arith)) (block_named n (omega arith))
@@ -212,30 +176,16 @@ plane_is : (p : Linear) → IsWithin (2 ^ 23) p.a → IsWithin (2 ^ 23) p.b → 
 plane_is p a b c = record { a = a; b = b; c = c }
 
 pub block_planes : (i : ℕ) → i < 200 → All IsPlane (block_sides_of i)
-block_planes i low =
-    let zero_is = small 0 (omega arith) in
-    let one_is = small 1 (omega arith) in
-    All-cons IsPlane (left_side i) (right_side i ∷ top_side i ∷ bottom_side i ∷ [])
-    (plane_is (left_side i) one_is zero_is (down (4 * (i % 16)) (omega arith)))
-    (All-cons IsPlane (right_side i) (top_side i ∷ bottom_side i ∷ [])
-    (plane_is (right_side i) small_down zero_is (up (4 * (i % 16) + 2) (omega arith)))
-    (All-cons IsPlane (top_side i) (bottom_side i ∷ [])
-    (plane_is (top_side i) zero_is one_is (down (4 * (i / 16)) (omega arith)))
-    (All-cons IsPlane (bottom_side i) [] (plane_is (bottom_side i) zero_is small_down
-    (up (4 * (i / 16) + 2) (omega arith)))
-    (All-nil IsPlane))))
+block_planes i low = grind (arith, small, plane_is, down, small_down, up)
 
 pub front_plane : (i : ℕ) → i < 200 → IsPlane (front_of i)
-front_plane i low =
-    plane_is (front_of i) (small 1 (omega arith)) (small 2 (omega arith)) (up (100 + i) (omega arith))
+front_plane i low = plane_is (front_of i) (small 1 (omega arith)) (small 2 (omega arith)) (up (100 + i) (omega arith))
 
 pub back_plane : IsPlane back_of
 back_plane = plane_is back_of (small 0 (omega arith)) (small 0 (omega arith)) (up 1000 (omega arith))
 
 pub cut_planes : All IsPlane (cut_side ∷ [])
-cut_planes =
-    All-cons IsPlane cut_side [] (plane_is cut_side (small 1 (omega arith)) small_down (up 0 (omega arith)))
-    (All-nil IsPlane)
+cut_planes = grind (arith, plane_is, small, small_down, up)
 
 pub cut_back_plane : IsPlane cut_back
 cut_back_plane = plane_is cut_back (small 0 (omega arith)) (small 0 (omega arith)) (up 300 (omega arith))

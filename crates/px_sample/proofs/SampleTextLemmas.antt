@@ -1,8 +1,7 @@
 -- The lines of the sample, its length, and so that it is accepted.
-use Rattle.std.proofs.Common.{◌≡◌, ℕ, ◌+◌, ◌*◌, ◌<◌, ◌≤◌, ◌^◌, List, [], ◌∷◌, ◌++◌, length, true, codes}
-use Rattle.std.proofs.Common.{refl, ap, sym, subst, ◌∙◌, arith, length-append}
-use Prim.Native.Nat.{zero, suc}
-use Rattle.std.specs.List.{flat_map, range_with_len}
+use Rattle.px_num.proofs.Basics.{nat_tests, common_steps, ◌≡◌, ℕ, ◌+◌, ◌*◌, ◌<◌, ◌≤◌, ◌^◌, List, [], ◌∷◌, ◌++◌, length}
+use Rattle.px_num.proofs.Basics.{true, codes, refl, ap, sym, subst, ◌∙◌, arith, length-append, zero, suc, flat_map}
+use Rattle.px_num.proofs.Basics.{range_with_len}
 use Rattle.px_num.specs.declared.linear.Linear.{Linear}
 use Rattle.px_expr.specs.Tree.{HasLeavesBelow}
 use Rattle.px_text.specs.Text.{Words, is_name}
@@ -14,19 +13,18 @@ use Rattle.px_sample.specs.Sample.{form_line, left_and_right, sample_start, samp
 use Rattle.px_sample.specs.SampleLaw.{SamplesAreAccepted}
 use Rattle.px_canonical.proofs.WrittenLaws.{both_texts, one_line, parts_are, text_of_lines}
 use Rattle.px_canonical.proofs.LengthLaws.{colour_short, line_short, name_short, plane_short, tree_short}
-use Rattle.px_canonical.proofs.LengthLaws as short
 use Rattle.px_canonical.proofs.LengthLemmas.{begin_short}
 use Rattle.px_canonical.proofs.RoundLaws.{begin_are}
-use Rattle.px_show.specs.declared.scene_version.Version.TheVariants as v
-use Rattle.px_sample.proofs.SampleSolidLemmas.{back_of, back_plane, block_named, block_planes}
-use Rattle.px_sample.proofs.SampleSolidLemmas.{block_words, blue, blue_is, bottom_side, cut_back, cut_back_plane}
-use Rattle.px_sample.proofs.SampleSolidLemmas.{cut_planes, cut_side, cut_words, front_of, front_plane, left_side}
-use Rattle.px_sample.proofs.SampleSolidLemmas.{right_side, sample_names, sample_solids, top_side, yellow}
-use Rattle.px_sample.proofs.SampleSolidLemmas.{yellow_is}
+use Rattle.px_sample.proofs.SampleSolidLemmas.{back_of, back_plane, block_named, block_planes, block_words, blue}
+use Rattle.px_sample.proofs.SampleSolidLemmas.{blue_is, bottom_side, cut_back, cut_back_plane, cut_planes, cut_side}
+use Rattle.px_sample.proofs.SampleSolidLemmas.{cut_words, front_of, front_plane, left_side, right_side, sample_names}
+use Rattle.px_sample.proofs.SampleSolidLemmas.{sample_solids, top_side, yellow, yellow_is}
 use Rattle.px_sample.proofs.SampleTreeLemmas.{sample_tree}
 use Rattle.px_sample.proofs.SampleWalkLemmas.{sample_draft, sample_first, sample_is, sample_middle, sample_show}
 use Rattle.px_sample.proofs.SampleWalkLemmas.{sample_shown, sample_walk, sample_words}
 use Rattle.px_canonical.proofs.WalkLaws.{read_by_walk}
+use Rattle.px_canonical.proofs.LengthLaws as short
+use Rattle.px_show.specs.declared.scene_version.Version.TheVariants as v
 
 abbrev head_line : List ℕ → Colour → Words
 head_line name c = codes "solid" ∷ name ∷ colour_words c
@@ -38,9 +36,7 @@ abbrev face_line_words : List ℕ → Linear → Words
 face_line_words kind p = kind ∷ words_of_plane p
 
 two_sides : (p q : Linear) → side_line p ++ side_line q ≡ text_of_lines (side_line_words p ∷ side_line_words q ∷ [])
-two_sides p q =
-    both_texts (side_line_words p ∷ []) (side_line_words q ∷ []) _ _ (one_line (codes "side") (words_of_plane p))
-    (one_line (codes "side") (words_of_plane q))
+two_sides p q = grind (arith, nat_tests, common_steps, both_texts, one_line, codes)
 
 block_is : (i : ℕ) → block_lines i ≡ text_of_lines (block_words i)
 block_is i =
@@ -56,14 +52,7 @@ block_is i =
     (one_line (codes "back") (words_of_plane back_of)))
 
 cut_is : cut_lines ≡ text_of_lines cut_words
-cut_is =
-    let head = head_line (codes "cut") yellow in
-    let side = side_line_words cut_side in
-    let back = face_line_words (codes "back") cut_back in
-    both_texts (head ∷ side ∷ []) (back ∷ []) _ _
-    (both_texts (head ∷ []) (side ∷ []) _ _ (one_line (codes "solid") (codes "cut" ∷ colour_words yellow))
-    (one_line (codes "side") (words_of_plane cut_side)))
-    (one_line (codes "back") (words_of_plane cut_back))
+cut_is = grind (arith, nat_tests, common_steps, codes, yellow, cut_side, cut_back, both_texts, one_line)
 
 text_is : (n : ℕ) → 1 ≤ n → n ≤ 200 → sample_text n ≡ text_of_lines (sample_words n)
 text_is n some le =
@@ -87,9 +76,7 @@ form_short kind p few is = line_short kind (words_of_plane p) 5 36 few (plane_sh
 
 head_short : (name : List ℕ) (c : Colour) → is_name name ≡ true → IsColour c
     → length (written_line (codes "solid") (name ∷ colour_words c)) ≤ 51
-head_short name c named is =
-    line_short (codes "solid") (name ∷ colour_words c) 5 45 (omega arith)
-    (short.joined (32 ∷ name) _ 33 12 (let few = name_short name named in omega arith) (colour_short c is))
+head_short name c named is = grind (arith, nat_tests, common_steps, line_short, codes, name_short, colour_short)
 
 block_short : (i : ℕ) → i < 200 → length (block_lines i) ≤ 299
 block_short i low =
@@ -112,15 +99,7 @@ blocks_short : (count first : ℕ) → first + count ≤ 200
     → length (flat_map block_lines (range_with_len first count)) ≤ 299 * count
 blocks_short zero first few = omega arith
 blocks_short (suc count) first few =
-    let here = block_short first (omega arith) in
-    let later = blocks_short count (first + 1) (omega arith) in
-    omega (
-      arith,
-      here,
-      later,
-      length-append (block_lines first)
-          (flat_map block_lines (range_with_len (first + 1) count)),
-    )
+    grind (arith, block_short, length-append, blocks_short count (first + 1) (omega arith))
 
 cut_short : length cut_lines ≤ 134
 cut_short =
@@ -148,18 +127,7 @@ sample_short n some le =
     let one = sample_start n ++ flat_map block_lines (range_with_len 0 n) in
     let two = one ++ cut_lines in
     let three = two ++ written_line (codes "show") (union ∷ []) in
-    omega (
-      arith,
-      first,
-      middle,
-      cut,
-      show,
-      end,
-      length-append three (written_line (codes "end") []),
-      length-append two (written_line (codes "show") (union ∷ [])),
-      length-append one cut_lines,
-      length-append (sample_start n) (flat_map block_lines (range_with_len 0 n)),
-    )
+    grind (arith, length-append, codes)
 
 pub samples_accepted : SamplesAreAccepted
 samples_accepted n some le =

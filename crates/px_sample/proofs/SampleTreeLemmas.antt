@@ -1,17 +1,16 @@
 -- The expression of the sample: the union of its blocks as a tree, and its limits.
-use Rattle.std.proofs.Common.{◌≡◌, ℕ, zero, suc, ◌+◌, ◌-◌, ◌^◌, ◌<◌, ◌≤◌, ◌==◌, true, if◌then◌else◌}
-use Rattle.std.proofs.Common.{List, [], ◌∷◌, ◌++◌, append_assoc, codes, get_or, inl, inr, refl, ap, sym, ◌∙◌, arith}
-use Rattle.std.proofs.lemmas.Bool.{cases_lt}
-use Rattle.std.proofs.lemmas.Bool.Decides.{nat_tests}
+use Rattle.px_num.proofs.Basics.{◌≡◌, ℕ, zero, suc, ◌+◌, ◌-◌, ◌^◌, ◌<◌, ◌≤◌, ◌==◌, true, if◌then◌else◌, List, [], ◌∷◌}
+use Rattle.px_num.proofs.Basics.{◌++◌, append_assoc, codes, get_or, inl, inr, refl, ap, sym, ◌∙◌, arith, cases_lt}
+use Rattle.px_num.proofs.Basics.{nat_tests}
 use Rattle.px_num.proofs.TruthLaws.{double_pow}
-use Rattle.px_expr.specs.declared.node.Op.TheVariants as o
 use Rattle.px_expr.specs.Tree.{HasLeavesBelow, IsLawfulTree, Tree, join, leaf, leaf_count, nesting}
 use Rattle.px_text.specs.Text.{Words}
 use Rattle.px_show.specs.Expressions.{has_signs}
 use Rattle.px_show.specs.Printed.{named_by, printed}
-use Rattle.px_show.specs.declared.scene_version.Version.TheVariants as v
 use Rattle.px_sample.specs.Sample.{block_name, union_in, union_of}
 use Rattle.px_sample.proofs.SampleLemmas.{alone, halved, joined, middle, where_false, where_true}
+use Rattle.px_expr.specs.declared.node.Op.TheVariants as o
+use Rattle.px_show.specs.declared.scene_version.Version.TheVariants as v
 
 -- the union of blocks, as it is written
 unfoldable pub union_tree : (depth first end : ℕ) → Tree
@@ -32,9 +31,7 @@ tree_halved d first end more = where_false (end == first + 1) (leaf first) _ (gr
 
 -- a union as it is printed
 printed_joined : (l r : List ℕ) → 40 ∷ (l ++ 32 ∷ 43 ∷ 32 ∷ (r ++ 41 ∷ [])) ≡ joined l r
-printed_joined l r =
-    let sign : List ℕ = 32 ∷ 43 ∷ 32 ∷ [] in
-    sym (ap (λ t. t ++ 41 ∷ []) (append_assoc (40 ∷ l) sign r) ∙ append_assoc (40 ∷ l) (sign ++ r) (41 ∷ []))
+printed_joined l r = grind (arith, append_assoc)
 
 -- the names of so many solids begin with those of blocks
 pub record BeginsWithBlocks (count : ℕ) (names : Words) : Type 0 where
@@ -55,9 +52,7 @@ tree_printed names count (suc d) first end blocks some within deep =
           ∙ ap (λ t. joined t (printed (named_by names (union_tree d m end)))) low
           ∙ ap (joined (union_in d first m)) high ∙ sym (halved d first end more)
       | inr few ↦
-          let one : end ≡ first + 1 = omega arith in
-          ap (λ t. printed (named_by names t)) (tree_alone d first end one) ∙ blocks.each first (omega arith)
-          ∙ sym (alone d first end one)
+          grind (arith, tree_alone, alone)
     ]
 
 -- what holds of a union of blocks, halved often enough
@@ -70,39 +65,25 @@ record IsUnion (count depth : ℕ) (names : Words) (tree : Tree) (leaves : ℕ) 
 one_leaf : (count depth i : ℕ) (names : Words) → i < count → IsUnion count depth names (leaf i) 1
 one_leaf count depth i names low = record { below = low; leaves_are = refl; deep = omega arith; signs = refl }
 
-two_sides : (count depth m n : ℕ) (names : Words) (left right : Tree) → IsUnion count depth names left m
-    → IsUnion count depth names right n → IsUnion count (depth + 1) names (join o.Union left right) (m + n)
-two_sides count depth m n names left right one two = record {
-  below = (one.below, two.below);
-  leaves_are = rw (one.leaves_are, two.leaves_are) refl;
-  deep = omega (arith, one.deep, two.deep);
-  signs = rw (one.signs, two.signs) refl;
-}
-
 tree_is : (names : Words) (count k d first end : ℕ) → first < end → end ≤ count → end - first ≤ d → end - first ≤ 2 ^ k
     → IsUnion count k names (union_tree d first end) (end - first)
 tree_is names count k zero first end some within deep few = absurd (omega arith)
-tree_is names count zero (suc d) first end some within deep few =
-    let one : end ≡ first + 1 = omega arith in
-    let count_is : end - first ≡ 1 = omega arith in
-    rw (tree_alone d first end one, count_is) (one_leaf count 0 first names (omega arith))
+tree_is names count zero (suc d) first end some within deep few = grind (arith, tree_alone, one_leaf)
 tree_is names count (suc k) (suc d) first end some within deep few =
     elim (cases_lt (first + 1) end) [
       | inl more ↦
-          let m = middle first end in
-          let twice = double_pow k in
-          let low = tree_is names count k d first m (omega arith) (omega arith) (omega arith)
-          (omega (arith, few, twice)) in
-          let high = tree_is names count k d m end (omega arith) (omega arith) (omega arith) (omega (arith, few, twice))
-          in
-          let both : (m - first) + (end - m) ≡ end - first = omega arith in
-          let deeper : k + 1 ≡ suc k = omega arith in
-          rw (tree_halved d first end more, ← both, ← deeper)
-          (two_sides count k (m - first) (end - m) names _ _ low high)
+          grind (
+            arith,
+            middle,
+            double_pow,
+            tree_halved,
+            tree_is names count k d first (middle first end) (omega arith) (omega arith) (omega arith)
+                (omega (arith, few, (double_pow k))),
+            tree_is names count k d (middle first end) end (omega arith) (omega arith) (omega arith)
+                (omega (arith, few, (double_pow k))),
+          )
       | inr past ↦
-          let one : end ≡ first + 1 = omega arith in
-          let count_is : end - first ≡ 1 = omega arith in
-          rw (tree_alone d first end one, count_is) (one_leaf count (suc k) first names (omega arith))
+          grind (arith, tree_alone, one_leaf)
     ]
 
 -- the union of n blocks, and the cut taken from it
@@ -121,8 +102,7 @@ wider_leaves m n (join op left right) order below =
     (wider_leaves m n left order below.0, wider_leaves m n right order below.1)
 
 pub sample_tree_is : (n : ℕ) (names : Words) → 1 ≤ n → n ≤ 200 → BeginsWithBlocks n names
-    → get_or names n [] ≡ codes "cut"
-    → IsSampleTree n names
+    → get_or names n [] ≡ codes "cut" → IsSampleTree n names
 sample_tree_is n names some few blocks cut =
     let all : n - 0 ≡ n = omega arith in
     let union = tree_is names n 8 n 0 n (omega arith) (omega arith) (omega arith) (omega arith) in
@@ -130,13 +110,4 @@ sample_tree_is n names some few blocks cut =
     let wide = wider_leaves n 256 (union_tree n 0 n) (omega arith) union.below in
     let same : printed (named_by names (union_tree n 0 n)) ≡ union_of 0 n =
     tree_printed names n n 0 n blocks (omega arith) (omega arith) (omega arith) ∙ ap (λ d. union_in d 0 n) (sym all) in
-    record {
-      text = rw (same, cut) refl;
-      below = (below, omega arith);
-      lawful = record {
-        leaves = omega (arith, union.leaves_are);
-        depth = omega (arith, union.deep);
-        solids = (wide, omega arith);
-      };
-      signs = rw union.signs refl;
-    }
+    grind arith

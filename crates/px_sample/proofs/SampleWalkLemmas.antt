@@ -1,22 +1,17 @@
 -- The lines of the sample, one after another, are good.
-use Rattle.std.proofs.Common.{◌≡◌, ℕ, ◌+◌, ◌*◌, ◌<◌, ◌≤◌, List, [], ◌∷◌, ◌++◌, length}
-use Rattle.std.proofs.Common.{codes, Some, refl, ap, sym, subst, ◌∙◌, arith}
-use Prim.Native.Nat.{zero, suc}
-use Rattle.std.specs.List.{flat_map, range_with_len}
-use Rattle.std.proofs.lemmas.List.FromFn.{length-map-range_with_len}
+use Rattle.px_num.proofs.Basics.{◌≡◌, ℕ, ◌+◌, ◌*◌, ◌<◌, ◌≤◌, List, [], ◌∷◌, ◌++◌, length, codes, Some, refl, ap, sym}
+use Rattle.px_num.proofs.Basics.{subst, ◌∙◌, arith, zero, suc, flat_map, range_with_len, length-map-range_with_len}
 use Rattle.px_expr.specs.Tree.{HasLeavesBelow}
 use Rattle.px_text.specs.Text.{Words}
 use Rattle.px_show.specs.Printed.{named_by, printed}
-use Rattle.px_show.specs.declared.scene_version.Version.TheVariants as v
 use Rattle.px_model.specs.Scenes.{SolidView, names_of}
-use Rattle.px_scene.specs.declared.line.Due.TheVariants as d
 use Rattle.px_canonical.specs.Canonical.{colour_words, words_of_plane}
 use Rattle.px_scene.specs.Drafts.{DraftView, blank, fresh_solid, with_front}
 use Rattle.px_scene.specs.Lines.{uncoloured}
 use Rattle.px_sample.specs.Sample.{block_name, block_rows}
-use Rattle.px_canonical.proofs.RoundLaws.{back_walk, begin_walk, begin_words, end_walk, front_walk, open_solid}
-use Rattle.px_canonical.proofs.RoundLaws.{opened, plane_written, show_walk, shown_draft, sides_walk, solid_walk}
-use Rattle.px_canonical.proofs.RoundLaws.{standing, stands}
+use Rattle.px_canonical.proofs.RoundLaws.{back_walk, begin_walk, begin_words, end_walk, front_walk, open_solid, opened}
+use Rattle.px_canonical.proofs.RoundLaws.{plane_written, show_walk, shown_draft, sides_walk, solid_walk, standing}
+use Rattle.px_canonical.proofs.RoundLaws.{stands}
 use Rattle.px_sample.proofs.SampleSolidLemmas.{back_of, back_plane, block, block_named, block_planes, block_sides_of}
 use Rattle.px_sample.proofs.SampleSolidLemmas.{block_words, blocks, blocks_more, blue, blue_is, cut_back}
 use Rattle.px_sample.proofs.SampleSolidLemmas.{cut_back_plane, cut_planes, cut_side, cut_solid, cut_words, fresh_block}
@@ -24,6 +19,8 @@ use Rattle.px_sample.proofs.SampleSolidLemmas.{fresh_cut, front_of, front_plane,
 use Rattle.px_sample.proofs.SampleSolidLemmas.{side_words, yellow, yellow_is}
 use Rattle.px_sample.proofs.SampleTreeLemmas.{IsSampleTree, sample_tree, sample_tree_is}
 use Rattle.px_canonical.proofs.WalkLaws.{Walk, walk_both}
+use Rattle.px_show.specs.declared.scene_version.Version.TheVariants as v
+use Rattle.px_scene.specs.declared.line.Due.TheVariants as d
 
 -- the solids, one after another
 block_walk : (start : DraftView) (i : ℕ) → i < 200
@@ -85,13 +82,7 @@ cut_walk start n le =
     let back = back_walk start done sided (m + 1) _ _ (plane_written cut_back cut_back_plane) (omega arith)
     (omega arith) in
     let back_words : List Words = (codes "back" ∷ words_of_plane cut_back) ∷ [] in
-    subst (λ (after : DraftView). Walk (standing start done m) cut_words after)
-    (stands start done (cut_solid m) (m + 1 + 1))
-    (walk_both (standing start done m) (open_solid start done fresh (m + 1))
-    (open_solid start done (cut_solid m) (m + 1 + 1))
-    ((codes "solid" ∷ codes "cut" ∷ colour_words yellow) ∷ []) (side_words (cut_side ∷ []) ++ back_words) head
-    (walk_both (open_solid start done fresh (m + 1)) (open_solid start done sided (m + 1))
-    (open_solid start done (cut_solid m) (m + 1 + 1)) (side_words (cut_side ∷ [])) back_words sides back))
+    grind (arith, standing, cut_words, stands, cut_solid, walk_both, open_solid, codes, yellow, side_words, cut_side)
 
 abbrev pub sample_first : ℕ → List Words
 sample_first n = begin_words v.One 64 (4 * block_rows n) 16 0
@@ -120,8 +111,7 @@ sample_is n some le =
     let are = sample_names n le in
     sample_tree_is n (names_of (sample_solids n)) some le are.blocks_first are.cut_last
 
-pub sample_walk : (n : ℕ) → 1 ≤ n → n ≤ 200
-    → Walk blank (sample_words n) (sample_draft n)
+pub sample_walk : (n : ℕ) → 1 ≤ n → n ≤ 200 → Walk blank (sample_words n) (sample_draft n)
 sample_walk n some le =
     let start = start_of n in
     let are = sample_names n le in

@@ -1,2 +1,4 @@
+pub mod Countings
 pub mod Sample
 pub mod SampleLaw
+pub mod Samples

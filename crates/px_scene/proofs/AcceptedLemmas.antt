@@ -1,9 +1,7 @@
 -- The scene of a text that is accepted: line by line its draft is lawful.
-use Rattle.std.proofs.Common.{◌≡◌, ℕ, ◌+◌, ◌-◌, ◌≤◌, List, [], ◌∷◌, ◌++◌, length, Bool, true, false}
-use Rattle.std.proofs.Common.{Option, Some, None, Result}
-use Rattle.std.proofs.Common.{All, IsSomeAnd, refl, subst, sym, arith, nat_lt, unwrap_or, append_assoc, append-nil}
-use Rattle.std.proofs.Common.{if◌then◌else◌, slice_get}
-use Rattle.std.specs.Option.{option_or}
+use Rattle.px_num.proofs.Basics.{◌≡◌, ℕ, ◌+◌, ◌-◌, ◌≤◌, List, [], ◌∷◌, ◌++◌, length, Bool, true, false, Option, Some}
+use Rattle.px_num.proofs.Basics.{None, Result, All, IsSomeAnd, refl, subst, sym, arith, nat_lt, unwrap_or, append_assoc}
+use Rattle.px_num.proofs.Basics.{append-nil, if◌then◌else◌, slice_get, option_or}
 use Rattle.px_num.proofs.TruthLaws.{none_first, none_second}
 use Rattle.px_expr.specs.Tree.{HasLeavesBelow, Tree, leaf}
 use Rattle.px_model.specs.Scenes.{IsLawfulScene, IsLawfulSolid, names_of}
@@ -101,15 +99,7 @@ shown_leaves n None is = absurd is
 shown_leaves n (Some tree) is = is
 
 drawn_lawful : (draft : DraftView) → IsLawfulDraft draft → is_nothing draft.due ≡ true → IsLawfulScene (drawn draft)
-drawn_lawful draft is ended = record {
-  sizes = is.sizes;
-  solids = is.solids.few;
-  names = is.solids.names;
-  different = is.solids.different;
-  numbers = is.solids.numbers;
-  faces = let faces = is.solids.faces in omega (arith, is.solids.count);
-  shown = shown_leaves (length draft.solids) draft.show (is.timely.shown (ended_nothing draft.due ended));
-}
+drawn_lawful draft is ended = grind (arith, shown_leaves, ended_nothing)
 
 past_limit : (long : Bool) (why : SceneFault) (later : Option SceneFault) → (if long then Some why else later) ≡ None
     → later ≡ None

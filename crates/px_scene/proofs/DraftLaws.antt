@@ -1,7 +1,6 @@
 -- What lines say with one more, why the next one is bad, and a text within its limit.
-use Rattle.std.proofs.Common.{◌≡◌, ℕ, ◌≤◌, ◌^◌, List, [], ◌∷◌, ◌++◌, length, nat_lt, false, ap, sym, ◌∙◌, arith}
-use Rattle.std.proofs.lemmas.Bool.Decides.{nat_tests}
-use Rattle.std.proofs.lemmas.List.Sums.{fold-append}
+use Rattle.px_num.proofs.Basics.{◌≡◌, ℕ, ◌≤◌, ◌^◌, List, [], ◌∷◌, ◌++◌, length, nat_lt, false, ap, sym, ◌∙◌, arith}
+use Rattle.px_num.proofs.Basics.{nat_tests, fold-append}
 use Rattle.px_text.specs.Text.{Words}
 use Rattle.px_scene.specs.Drafts.{DraftView, blank, draft_of, fault_in, taken}
 use Rattle.px_scene.specs.Reading.{fault_behind}

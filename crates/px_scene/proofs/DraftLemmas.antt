@@ -1,6 +1,5 @@
 -- The last solid of a draft, changed in place.
-use Prim.Native.Nat.{zero, suc}
-use Rattle.std.proofs.Common.{◌≡◌, ℕ, ◌+◌, List, [], ◌∷◌, length, get_or, slice_set, ap, arith}
+use Rattle.px_num.proofs.Basics.{zero, suc, ◌≡◌, ℕ, ◌+◌, List, [], ◌∷◌, length, get_or, slice_set, ap, arith}
 use Rattle.px_model.specs.Scenes.{SolidView}
 use Rattle.px_scene.specs.Drafts.{with_last}
 

@@ -1,7 +1,6 @@
 -- What holds of each form of a line holds of all lines.
-use Rattle.std.proofs.Common.{◌≡◌, ℕ, ℤ, List, [], ◌∷◌, Bool, true, false}
-use Rattle.std.proofs.Common.{refl, Option, Some, None, Result, Ok, Err, if◌then◌else◌}
-use Rattle.std.specs.Option.{ok_or, option_map}
+use Rattle.px_num.proofs.Basics.{arith, ◌≡◌, ℕ, ℤ, List, [], ◌∷◌, true, Option, Some, None, Result, Ok, Err, option_map}
+use Rattle.std.specs.Option.{ok_or}
 use Rattle.px_num.specs.declared.linear.Linear.{Linear}
 use Rattle.px_text.specs.Text.{Words, is_name, number_of}
 use Rattle.px_show.specs.Versions.{version_of}
@@ -14,7 +13,7 @@ use Rattle.px_scene.specs.declared.line.Keyword.TheVariants as k
 use Rattle.px_scene.specs.declared.line.Paint.{Paint}
 use Rattle.px_scene.specs.declared.line.Plane.{Plane}
 use Rattle.px_scene.specs.Lines.{Form, header, picture, depth, solid, front, back, side, show, end}
-use Rattle.px_scene.specs.Lines.{form_of, linear_in, paint_in, plane_in, plane_form, two_of}
+use Rattle.px_scene.specs.Lines.{form_of, linear_in, plane_in, plane_form, two_of}
 
 -- what is to be shown of each form
 pub record HoldsOfForms (P : Keyword → Result Form Cause → Type 0) : Type 0 where
@@ -61,14 +60,7 @@ module _ (P : Keyword → Result Form Cause → Type 0) (h : HoldsOfForms P) whe
   depth_holds v.Two (x ∷ y ∷ ws) = h.bad _ _
 
   solid_holds : (ws : Words) → P k.Solid (form_of v.One k.Solid ws)
-  solid_holds (name ∷ red ∷ green ∷ blue ∷ []) = by_name (is_name name) refl
-    where
-      by_name : (b : Bool) → is_name name ≡ b
-          → P k.Solid
-          (if b then ok_or (option_map (solid name) (paint_in red green blue)) c.NotNumber else Err c.BadName)
-      by_name true is =
-          by_some k.Solid (solid name) (λ paint. h.solid name paint is) (paint_in red green blue) c.NotNumber
-      by_name false is = h.bad _ _
+  solid_holds (name ∷ red ∷ green ∷ blue ∷ []) = grind (arith, by_some)
   solid_holds [] = h.bad _ _
   solid_holds (a ∷ []) = h.bad _ _
   solid_holds (a ∷ b ∷ []) = h.bad _ _

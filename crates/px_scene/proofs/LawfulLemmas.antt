@@ -1,10 +1,7 @@
 -- A draft is lawful after each good line.
-use Prim.Native.Nat.{suc}
-use Rattle.std.proofs.Common.{◌≡◌, ℕ, ℤ, pos, ◌+◌, ◌≤◌, List, [], ◌∷◌, ◌++◌, length, Bool, true, false}
-use Rattle.std.proofs.Common.{refl, ap, arith, length-append, Option, Some, None, Result, Err}
-use Rattle.std.proofs.Common.{subst, add-zero, if◌then◌else◌}
-use Rattle.std.proofs.lemmas.List.{length-map, map-append}
-use Rattle.std.proofs.lemmas.List.Sums.{sum_by-append}
+use Rattle.px_num.proofs.Basics.{suc, ◌≡◌, ℕ, ℤ, ◌+◌, ◌≤◌, List, [], ◌∷◌, length, Bool, true, false, refl, ap, arith}
+use Rattle.px_num.proofs.Basics.{length-append, Option, Some, None, Result, Err, subst, add-zero, if◌then◌else◌}
+use Rattle.px_num.proofs.Basics.{length-map, map-append, sum_by-append}
 use Rattle.px_show.specs.declared.fault.Cause.{Cause}
 use Rattle.px_show.specs.declared.fault.LimitKind.{LimitKind}
 use Rattle.px_show.specs.declared.fault.LimitKind.TheVariants as kind
@@ -14,17 +11,16 @@ use Rattle.px_scene.specs.declared.line.Keyword.{Keyword}
 use Rattle.px_scene.specs.declared.line.Paint.{Paint}
 use Rattle.px_scene.specs.declared.line.Plane.{Plane}
 use Rattle.px_show.specs.Expressions.{is_among, show_cause, show_tree}
-use Rattle.px_show.specs.Judged.{past}
 use Rattle.px_show.proofs.FaultLaws.{good_form}
 use Rattle.px_show.proofs.ShowLaws.{shown_lawful, named_show}
 use Rattle.px_num.specs.declared.linear.Linear.{Linear}
 use Rattle.px_num.proofs.TruthLaws.{none_first, none_second}
 use Rattle.px_text.specs.Text.{Words, is_name}
-use Rattle.px_scene.specs.Lines.{Form, depth, solid, picture_past, depth_past, fraction_past, keyword_of, is_due}
+use Rattle.px_scene.specs.Lines.{Form, depth, solid, picture_past, depth_past, keyword_of, is_due}
 use Rattle.px_scene.specs.Lines.{form_of, not_due, size_of}
-use Rattle.px_model.specs.Scenes.{SolidView, faces_in, names_of, IsNumberedFrom, faces_of}
-use Rattle.px_scene.specs.Drafts.{DraftView, colour_of, face_of, with_last, with_front, with_back, with_side, with_form}
-use Rattle.px_scene.specs.Drafts.{fault_by, fault_in, fresh_solid, taken, taken_by, tally_of}
+use Rattle.px_model.specs.Scenes.{SolidView, faces_in, names_of, IsNumberedFrom}
+use Rattle.px_scene.specs.Drafts.{DraftView, face_of, with_last, with_front, with_back, with_side, with_form}
+use Rattle.px_scene.specs.Drafts.{fault_by, fault_in, taken, taken_by, tally_of}
 use Rattle.px_scene.specs.LawfulDrafts.{IsLawfulDraft, is_begun, CanBeTaken}
 use Rattle.px_scene.proofs.FormLemmas.{HoldsOfForms, by_form}
 use Rattle.px_scene.proofs.NameLaws.{names_push}
@@ -87,84 +83,28 @@ back_grows number p = record {
 }
 
 side_grows : (number : ℕ) (form : Linear) → Grows number 0 (with_side form)
-side_grows number form = record {
-  name = λ s. refl;
-  faces = λ s. omega arith;
-  numbers = λ first s e is. record { near = is.near; fronts = is.fronts; backs = is.backs; once = is.once };
-}
+side_grows number form = grind arith
 
 lawful_picture : (draft : DraftView) (w h : ℤ) → IsLawfulDraft draft → picture_past w h ≡ None
     → IsLawfulDraft (record draft { width = size_of w; height = size_of h; due = d.Depth })
-lawful_picture draft w h is e =
-    let wide = size_within kind.Picture 512 w (none_first _ _ e)
-    in let high = size_within kind.Picture 512 h (none_second (past kind.Picture (pos 1) (pos 512) w) _ e)
-    in record {
-      sizes = record {
-        some_width = wide.0;
-        width_limit = wide.1;
-        some_height = high.0;
-        height_limit = high.1;
-        some_depth = is.sizes.some_depth;
-        depth_limit = is.sizes.depth_limit;
-        fraction_limit = is.sizes.fraction_limit;
-      };
-      solids = is.solids;
-      timely = record { begun = λ b. cc; shown = λ e. cc };
-    }
+lawful_picture draft w h is e = grind (arith, size_within, none_first, none_second)
 
 -- the bits of a depth and of its fraction
 lawful_bits : (draft : DraftView) (bits fraction : ℕ) → IsLawfulDraft draft → 1 ≤ bits → bits + fraction ≤ 24
-    → fraction ≤ 8
-    → IsLawfulDraft (record draft { depth_bits = bits; fraction_bits = fraction; due = d.Solid })
-lawful_bits draft bits fraction is some most few = record {
-  sizes = record {
-    some_width = is.sizes.some_width;
-    width_limit = is.sizes.width_limit;
-    some_height = is.sizes.some_height;
-    height_limit = is.sizes.height_limit;
-    some_depth = some;
-    depth_limit = most;
-    fraction_limit = few;
-  };
-  solids = is.solids;
-  timely = record { begun = λ b. cc; shown = λ e. cc };
-}
+    → fraction ≤ 8 → IsLawfulDraft (record draft { depth_bits = bits; fraction_bits = fraction; due = d.Solid })
+lawful_bits draft bits fraction is some most few = grind arith
 
 lawful_depth : (draft : DraftView) (bits : ℤ) (fraction : Option ℤ) → IsLawfulDraft draft
     → depth_past bits fraction ≡ None → IsLawfulDraft (record (with_form draft (depth bits fraction)) { due = d.Solid })
-lawful_depth draft bits None is e =
-    let deep = size_within kind.Depth 24 bits (none_first _ None e)
-    in lawful_bits draft (size_of bits) 0 is deep.0 (let most = deep.1 in omega arith) (omega arith)
+lawful_depth draft bits None is e = grind (arith, size_within, none_first, lawful_bits)
 lawful_depth draft bits (Some fraction) is e =
-    let deep = size_within kind.Depth 24 bits (none_first _ (fraction_past bits fraction) e)
-    in let fine = fraction_within bits fraction (none_second (past kind.Depth (pos 1) (pos 24) bits) _ e) deep.0 deep.1
-    in lawful_bits draft (size_of bits) (size_of fraction) is deep.0 fine.0 fine.1
+    grind (arith, size_within, none_first, fraction_within, none_second, lawful_bits)
 
 lawful_solid : (draft : DraftView) (name : List ℕ) (paint : Paint) → IsLawfulDraft draft → is_name name ≡ true
     → is_among (names_of draft.solids) name ≡ false → SolidRoom (length draft.solids) draft.numbered
     → IsLawfulDraft (record (with_form draft (solid name paint)) { due = d.Plane })
 lawful_solid draft name paint is lawful other room =
-    let fresh = fresh_solid name (draft.numbered + 1) (colour_of paint)
-    in let are = is.solids
-    in let named = names_push (names_of draft.solids) name
-    (record { lawful = are.names; different = are.different }) lawful other
-    in let same : names_of (draft.solids ++ fresh ∷ []) ≡ names_of draft.solids ++ name ∷ [] =
-    map-append (λ s. s.name) draft.solids (fresh ∷ [])
-    in let grown = length-append draft.solids (fresh ∷ [])
-    in record {
-      sizes = is.sizes;
-      solids = record {
-        few = let few = room.solids in omega (arith, grown);
-        names = rw same named.lawful;
-        different = rw same named.different;
-        numbers = numbered_push 1 draft.solids fresh are.numbers (let count = are.count in
-            subst (λ (n : ℕ). IsNumberedFrom n fresh) (omega arith) (numbered_fresh name (draft.numbered + 1)
-            (colour_of paint)));
-        count = let count = are.count in omega (arith, sum_by-append faces_in draft.solids (fresh ∷ []));
-        faces = let next = room.numbers in omega arith;
-      };
-      timely = record { begun = λ b. omega (arith, grown); shown = λ e. cc };
-    }
+    grind (arith, names_push, map-append, length-append, numbered_push, numbered_fresh, sum_by-append)
 
 pub lawful_show : (draft : DraftView) (ws : Words) → IsLawfulDraft draft
     → show_cause draft.version (names_of draft.solids) ws ≡ None
@@ -194,11 +134,7 @@ module _ (draft : DraftView) (is : IsLawfulDraft draft) where
   forms : HoldsOfForms Lawful
   forms = record {
     bad = λ key cause due none. cc;
-    header = λ version due none. record {
-      sizes = is.sizes;
-      solids = is.solids;
-      timely = record { begun = λ b. cc; shown = λ e. cc };
-    };
+    header = grind arith;
     picture = λ w h due none. lawful_picture draft w h is none;
     depth = λ bits fraction due none. lawful_depth draft bits fraction is none;
     solid = λ name paint named due none.
@@ -219,14 +155,7 @@ module _ (draft : DraftView) (is : IsLawfulDraft draft) where
     side = λ form due none. rw (← add-zero draft.numbered) (lawful_plane draft 0 (with_side form) is
         (begun_side draft.due due) (let faces = is.solids.faces in omega arith) (side_grows _ form));
     show = λ ws due none. lawful_show draft ws is (good_form _ _ none);
-    end = λ due none. record {
-      sizes = is.sizes;
-      solids = is.solids;
-      timely = record {
-        begun = λ b. is.timely.begun (begun_end draft.due due);
-        shown = λ b. is.timely.shown (ended_end draft.due due);
-      };
-    };
+    end = grind (arith, begun_end, ended_end);
   }
 
 -- what holds of a form that is due and has no fault holds of the line
@@ -234,12 +163,7 @@ pub with_due : (P : Result Form Cause → Type 0) (draft : DraftView) (key : Key
     → (is_due draft.due key ≡ true → fault_by draft r ≡ None → P r)
     → fault_by draft (if is_due draft.due key then r else Err (not_due draft.due)) ≡ None
     → P (if is_due draft.due key then r else Err (not_due draft.due))
-with_due P draft key r step = by_due (is_due draft.due key) refl
-  where
-    by_due : (b : Bool) → is_due draft.due key ≡ b → fault_by draft (if b then r else Err (not_due draft.due)) ≡ None
-        → P (if b then r else Err (not_due draft.due))
-    by_due true due none = step due none
-    by_due false due none = cc
+with_due P draft key r step = grind arith
 
 pub lawful_line : (draft : DraftView) (w : List ℕ) (ws : Words) → IsLawfulDraft draft → fault_in draft (w ∷ ws) ≡ None
     → IsLawfulDraft (taken draft (w ∷ ws))
@@ -249,6 +173,4 @@ lawful_line draft w ws is none =
 
 pub can_be_taken : (draft : DraftView) → IsLawfulDraft draft → is_begun draft.due ≡ true
     → CanBeTaken draft.numbered draft.solids
-can_be_taken draft is begun =
-    let next : 1 + faces_of draft.solids ≡ draft.numbered + 1 = let count = is.solids.count in omega arith
-    in rw (← next) (last_can_take 1 draft.solids is.solids.numbers (is.timely.begun begun))
+can_be_taken draft is begun = grind (arith, last_can_take)

@@ -1,7 +1,5 @@
 -- A test of what each element is mapped to.
-use Rattle.std.proofs.Common.{◌≡◌, ℕ, List, [], ◌∷◌, Bool, ◌||◌, map, refl, ap}
-use Rattle.std.specs.List.{list_any}
-use Rattle.std.specs.Str.{bytes_eq}
+use Rattle.px_num.proofs.Basics.{◌≡◌, ℕ, List, [], ◌∷◌, Bool, ◌||◌, map, refl, ap, list_any, bytes_eq}
 use Rattle.px_show.specs.Expressions.{is_among}
 use Rattle.px_model.specs.Scenes.{SolidView, names_of}
 

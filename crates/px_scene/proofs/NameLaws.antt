@@ -1,11 +1,7 @@
 -- One name more, which is none of those before.
-use Prim.Native.Nat.{zero, suc}
-use Rattle.std.proofs.Common.{◌≡◌, ◌≢◌, ℕ, ◌<◌, List, [], ◌∷◌, ◌++◌, length, get_or, Bool, true, false}
-use Rattle.std.proofs.Common.{◌||◌, refl, sym, arith}
-use Rattle.std.specs.Str.{bytes_eq}
+use Rattle.px_num.proofs.Basics.{nat_tests, common_steps, zero, suc, ◌≡◌, ◌≢◌, ℕ, ◌<◌, List, [], ◌∷◌, ◌++◌, length}
+use Rattle.px_num.proofs.Basics.{get_or, Bool, true, false, ◌||◌, refl, sym, arith, bytes_eq, all_pairs_push}
 use Rattle.std.specs.Cmp.Lexicographic.{other_text}
-use Rattle.std.proofs.lemmas.List.Elements.{All-push}
-use Rattle.std.proofs.lemmas.List.Quantifiers.{all_pairs_push}
 use Rattle.px_text.specs.Text.{Words, is_name}
 use Rattle.px_show.specs.Expressions.{is_among}
 use Rattle.px_show.specs.Printed.{AreDistinctNames}
@@ -22,7 +18,4 @@ others (n ∷ ns) name fresh (suc k) e lt = others ns name (neither (bytes_eq n 
 
 pub names_push : (names : Words) (name : List ℕ) → AreDistinctNames names → is_name name ≡ true
     → is_among names name ≡ false → AreDistinctNames (names ++ name ∷ [])
-names_push names name are lawful fresh = record {
-  lawful = All-push (λ n. is_name n ≡ true) names name are.lawful lawful;
-  different = all_pairs_push (λ m n. m ≢ n) names name are.different (others names name fresh);
-}
+names_push names name are lawful fresh = grind (arith, nat_tests, common_steps, all_pairs_push, others)

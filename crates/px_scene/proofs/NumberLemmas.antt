@@ -1,13 +1,8 @@
 -- Face numbers run on when a solid or a face comes behind the others.
-use Prim.Native.Nat.{suc}
-use Rattle.std.proofs.lemmas.Bool.Decides.{nat_tests}
-use Rattle.std.proofs.Common.{◌≡◌, ℕ, ◌+◌, ◌<◌, ◌≤◌, ◌==◌, List, [], ◌∷◌, ◌++◌, false, ◌||◌, refl, arith}
-use Rattle.std.proofs.Common.{length-append, inl, inr, ◌⊎◌, subst}
-use Rattle.std.proofs.lemmas.Bool.{cases_eq}
-use Rattle.std.specs.List.{All}
+use Rattle.px_num.proofs.Basics.{common_steps, suc, nat_tests, ◌≡◌, ℕ, ◌+◌, ◌<◌, ◌≤◌, ◌==◌, List, [], ◌∷◌, ◌++◌, false}
+use Rattle.px_num.proofs.Basics.{◌||◌, refl, arith, length-append, inl, inr, ◌⊎◌, subst, cases_eq, All}
 use Rattle.px_model.specs.declared.solid.Face.{Face}
 use Rattle.px_model.specs.Scenes.{SolidView, faces_in, has_number, IsNumberedFrom, AreNumberedFrom, faces_of}
-use Rattle.std.proofs.lemmas.List.Elements.{All-push}
 use Rattle.px_model.proofs.FaceLaws.{faces_of-cons}
 
 has_number-push : (faces : List Face) (f : Face) (n : ℕ) → has_number (faces ++ f ∷ []) n
@@ -34,45 +29,13 @@ next_or_before m n lt = elim (cases_eq n m) [ inl e ↦ inl e | inr ne ↦ inr (
 pub numbered_front : (first : ℕ) (s : SolidView) (f : Face) → IsNumberedFrom first s → f.number ≡ first + faces_in s
     → IsNumberedFrom first (record s { fronts = s.fronts ++ f ∷ [] })
 numbered_front first s f is e =
-    let grown : faces_in (record s { fronts = s.fronts ++ f ∷ [] }) ≡ faces_in s + 1 =
-    omega (arith, length-append s.fronts (f ∷ []))
-    in record {
-      near = is.near;
-      fronts = All-push (λ g. g.number < first + faces_in (record s { fronts = s.fronts ++ f ∷ [] })) s.fronts f
-          (weaker s.fronts (first + faces_in s) _ (omega arith) is.fronts) (omega arith);
-      backs = weaker s.backs (first + faces_in s) _ (omega arith) is.backs;
-      once = λ n above below. elim (next_or_before (first + faces_in s) n (omega arith)) [
-        | inl here ↦ grind (
-          arith,
-          nat_tests,
-          has_number-push s.fronts f n,
-          has_number-above s.backs (first + faces_in s) n is.backs (omega arith),
-        )
-        | inr under ↦ grind (arith, nat_tests, has_number-push s.fronts f n, is.once n above under)
-      ];
-    }
+    grind (arith, nat_tests, common_steps, length-append, weaker, next_or_before, has_number-push, has_number-above)
 
 -- a back of the next number
 pub numbered_back : (first : ℕ) (s : SolidView) (f : Face) → IsNumberedFrom first s → f.number ≡ first + faces_in s
     → IsNumberedFrom first (record s { backs = s.backs ++ f ∷ [] })
 numbered_back first s f is e =
-    let grown : faces_in (record s { backs = s.backs ++ f ∷ [] }) ≡ faces_in s + 1 =
-    omega (arith, length-append s.backs (f ∷ []))
-    in record {
-      near = is.near;
-      fronts = weaker s.fronts (first + faces_in s) _ (omega arith) is.fronts;
-      backs = All-push (λ g. g.number < first + faces_in (record s { backs = s.backs ++ f ∷ [] })) s.backs f
-          (weaker s.backs (first + faces_in s) _ (omega arith) is.backs) (omega arith);
-      once = λ n above below. elim (next_or_before (first + faces_in s) n (omega arith)) [
-        | inl here ↦ grind (
-          arith,
-          nat_tests,
-          has_number-push s.backs f n,
-          has_number-above s.fronts (first + faces_in s) n is.fronts (omega arith),
-        )
-        | inr under ↦ grind (arith, nat_tests, has_number-push s.backs f n, is.once n above under)
-      ];
-    }
+    grind (arith, nat_tests, common_steps, length-append, weaker, next_or_before, has_number-push, has_number-above)
 
 pub numbered_push : (first : ℕ) (ss : List SolidView) (s : SolidView) → AreNumberedFrom first ss
     → IsNumberedFrom (first + faces_of ss) s → AreNumberedFrom first (ss ++ s ∷ [])

@@ -2,9 +2,8 @@
 use Rattle.px_scene.specs.declared.line.Due.{Due}
 use Rattle.px_scene.specs.LawfulDrafts.{IsLawfulDraft}
 use Rattle.px_scene.proofs.LawfulLemmas.{lawful_line}
-use Rattle.std.proofs.Common.{◌≡◌, ℕ, List, ◌∷◌, Option, Some, None, Ok, Bool, true, false, if◌then◌else◌}
-use Rattle.std.proofs.Common.{refl, ap, sym, ◌∙◌, subst}
-use Rattle.std.specs.Option.{option_or}
+use Rattle.px_num.proofs.Basics.{◌≡◌, ℕ, List, ◌∷◌, Option, Some, None, Ok, Bool, true, false, if◌then◌else◌, refl, ap}
+use Rattle.px_num.proofs.Basics.{sym, ◌∙◌, subst, option_or}
 use Rattle.px_text.specs.Text.{Words}
 use Rattle.px_model.specs.Scenes.{names_of}
 use Rattle.px_show.specs.Expressions.{is_among}
@@ -46,11 +45,9 @@ pub found : (draft : DraftView) (w : List ℕ) (ws : Words) (form : Form) → Ok
 found draft w ws form says = ap (fault_by draft) (sym says) ∙ fault_is draft form
 
 -- a draft stays lawful over a line without a fault
-pub lawful_with : (draft after : DraftView) (due : Due) (w : List ℕ) (ws : Words) (form : Form)
-    → IsLawfulDraft draft → Ok form ≡ form_in draft w ws
-    → fault_left draft form ≡ None → fault_shown draft form ≡ None
-    → after ≡ with_form draft form → due ≡ due_after form
-    → IsLawfulDraft (record after { due = due })
+pub lawful_with : (draft after : DraftView) (due : Due) (w : List ℕ) (ws : Words) (form : Form) → IsLawfulDraft draft
+    → Ok form ≡ form_in draft w ws → fault_left draft form ≡ None → fault_shown draft form ≡ None
+    → after ≡ with_form draft form → due ≡ due_after form → IsLawfulDraft (record after { due = due })
 lawful_with draft after due w ws form is says left shown now next =
     let none : fault_in draft (w ∷ ws) ≡ None = found draft w ws form says ∙ rw (left, shown) refl
     in let same : taken draft (w ∷ ws) ≡ taken_by draft (Ok form) = ap (taken_by draft) (sym says)

@@ -1,5 +1,5 @@
 -- The draft of lines of which none is bad, one line more.
-use Rattle.std.proofs.Common.{◌≡◌, List, [], ◌∷◌, ◌++◌, OnOk, Result, Ok, Err, refl, ◌∙◌, arith}
+use Rattle.px_num.proofs.Basics.{◌≡◌, List, [], ◌∷◌, ◌++◌, OnOk, Result, Ok, Err, refl, ◌∙◌, arith}
 use Rattle.px_text.specs.Text.{Words}
 use Rattle.px_scene.specs.Drafts.{DraftView, blank, taken}
 use Rattle.px_scene.specs.DraftViews.{IsDraftOf}
@@ -7,26 +7,7 @@ use Rattle.px_scene.specs.LawfulDrafts.{IsLawfulDraft}
 use Rattle.px_scene.proofs.DraftLaws.{says_more}
 
 pub lawful_blank : IsLawfulDraft blank
-lawful_blank = record {
-  sizes = record {
-    some_width = omega arith;
-    width_limit = omega arith;
-    some_height = omega arith;
-    height_limit = omega arith;
-    some_depth = omega arith;
-    depth_limit = omega arith;
-    fraction_limit = omega arith;
-  };
-  solids = record {
-    few = omega arith;
-    names = λ k e lt. absurd (omega arith);
-    different = λ i j e lt below. absurd (omega arith);
-    numbers = tt;
-    count = refl;
-    faces = omega arith;
-  };
-  timely = record { begun = λ e. cc; shown = λ e. cc };
-}
+lawful_blank = grind arith
 
 pub read_start : (draft : DraftView) → draft ≡ blank → IsDraftOf draft []
 read_start draft e = rw e (record { says = refl; lawful = lawful_blank })

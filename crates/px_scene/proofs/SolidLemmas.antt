@@ -1,18 +1,15 @@
 -- The solids of a draft stay lawful over a good line.
-use Prim.Native.Nat.{suc}
-use Rattle.std.proofs.Common.{◌≡◌, ℕ, ℤ, pos, ◌-◌, ◌^◌, ◌<◌, List, [], ◌∷◌, ◌++◌, length, Option, Some, None}
-use Rattle.std.proofs.Common.{arith, slice_get, IfSome, All, length-append}
-use Rattle.std.proofs.lemmas.Int.{ints}
-use Rattle.std.proofs.lemmas.List.Elements.{All-cons, All-head, All-nil, All-tail}
-use Rattle.std.specs.Option.{option_map_or, option_or}
+use Rattle.px_num.proofs.Basics.{nat_tests, common_steps, suc, ◌≡◌, ℕ, ℤ, pos, ◌-◌, ◌<◌, List, [], ◌∷◌, ◌++◌, length}
+use Rattle.px_num.proofs.Basics.{Option, Some, None, arith, slice_get, IfSome, All, length-append, ints, All-cons}
+use Rattle.px_num.proofs.Basics.{All-head, All-nil, All-tail, option_map_or}
 use lib.IntN.{negsuc}
 use Rattle.px_num.specs.declared.linear.Linear.{Linear}
 use Rattle.px_num.proofs.TruthLaws.{none_first, none_second}
 use Rattle.px_model.specs.declared.solid.Colour.{Colour}
 use Rattle.px_model.specs.declared.solid.Face.{Face}
-use Rattle.px_model.specs.Scenes.{AreFaces, IsColour, IsLawfulSolid, IsPlane, SolidView}
-use Rattle.px_model.proofs.SolidLemmas.{All-push, faces_pushed}
-use Rattle.px_show.specs.Judged.{past, size_past}
+use Rattle.px_model.specs.Scenes.{IsColour, IsLawfulSolid, IsPlane, SolidView}
+use Rattle.px_model.proofs.SolidLemmas.{faces_pushed}
+use Rattle.px_show.specs.Judged.{past}
 use Rattle.px_show.specs.declared.fault.LimitKind.TheVariants as kind
 use Rattle.px_scene.specs.Drafts.{colour_of, fresh_solid, with_back, with_front, with_last, with_side}
 use Rattle.px_scene.specs.declared.line.Paint.{Paint}
@@ -27,25 +24,10 @@ part_within (pos n) e =
 part_within (negsuc n) e = omega arith
 
 colour_within : (p : Paint) → colour_past p ≡ None → IsColour (colour_of p)
-colour_within p e =
-    let first = none_first
-    (option_or (past kind.Colour (pos 0) (pos 255) p.red) (past kind.Colour (pos 0) (pos 255) p.green))
-    (past kind.Colour (pos 0) (pos 255) p.blue) e in
-    record {
-      red = part_within p.red (none_first _ (past kind.Colour (pos 0) (pos 255) p.green) first);
-      green = part_within p.green (none_second (past kind.Colour (pos 0) (pos 255) p.red) _ first);
-      blue = part_within p.blue (none_second (option_or (past kind.Colour (pos 0) (pos 255) p.red)
-          (past kind.Colour (pos 0) (pos 255) p.green)) _ e);
-    }
+colour_within p e = grind (arith, none_first, part_within, none_second)
 
 plane_within : (p : Linear) → plane_past p ≡ None → IsPlane p
-plane_within p e =
-    let slopes = option_or (size_past kind.Coefficient (2 ^ 23) p.a) (size_past kind.Coefficient (2 ^ 23) p.b) in
-    let first = none_first slopes (size_past kind.Coefficient (2 ^ 33) p.c) e in
-    let in_a = past_none kind.Coefficient _ _ p.a (none_first _ (size_past kind.Coefficient (2 ^ 23) p.b) first) in
-    let in_b = past_none kind.Coefficient _ _ p.b (none_second (size_past kind.Coefficient (2 ^ 23) p.a) _ first) in
-    let in_c = past_none kind.Coefficient _ _ p.c (none_second slopes _ e) in
-    record { a = (in_a.above, in_a.below); b = (in_b.above, in_b.below); c = (in_c.above, in_c.below) }
+plane_within p e = grind (arith, none_first, past_none, none_second)
 
 -- the colour of a line that has one, or else its solid's
 face_colour : (colour : Colour) (paint : Option Paint) → IsColour colour → option_map_or colour_past paint None ≡ None
@@ -56,21 +38,7 @@ face_colour colour (Some paint) is e = colour_within paint e
 -- a solid without planes
 pub fresh_lawful : (name : List ℕ) (number : ℕ) (colour : Colour) → IsColour colour
     → IsLawfulSolid (fresh_solid name number colour)
-fresh_lawful name number colour is =
-    let none : AreFaces number [] = record {
-      few = omega arith;
-      planes = λ k d lt. absurd (omega arith);
-      colours = λ k d lt. absurd (omega arith);
-      numbers = λ k d lt. absurd (omega arith);
-      order = λ i j d lt below. absurd (omega arith);
-    } in
-    record {
-      colour = is;
-      fronts = none;
-      backs = none;
-      few_sides = omega arith;
-      sides = λ k d lt. absurd (omega arith);
-    }
+fresh_lawful name number colour is = grind arith
 
 -- a front, a back or a side more
 front_added : (s : SolidView) (f : Face) → IsLawfulSolid s → length s.fronts < 32 → CanTakeFace f.number s
@@ -95,25 +63,17 @@ back_added s f is room can plane colour = record {
 
 side_added : (s : SolidView) (p : Linear) → IsLawfulSolid s → length s.sides < 32 → IsPlane p
     → IsLawfulSolid (record s { sides = s.sides ++ p ∷ [] })
-side_added s p is room plane = record {
-  colour = is.colour;
-  fronts = is.fronts;
-  backs = is.backs;
-  few_sides = omega (arith, length-append s.sides (p ∷ []));
-  sides = All-push IsPlane s.sides p is.sides plane;
-}
+side_added s p is room plane = grind (arith, nat_tests, common_steps, length-append)
 
 front_lawful : (s : SolidView) (number : ℕ) (p : Plane) → face_past p ≡ None → length s.fronts < 32
     → CanTakeFace number s → IsLawfulSolid s → IsLawfulSolid (with_front number p s)
 front_lawful s number p e room can is =
-    front_added s _ is room can (plane_within p.form (none_first _ (option_map_or colour_past p.paint None) e))
-    (face_colour s.colour p.paint is.colour (none_second (plane_past p.form) _ e))
+    grind (arith, nat_tests, common_steps, front_added, plane_within, none_first, face_colour, none_second)
 
 back_lawful : (s : SolidView) (number : ℕ) (p : Plane) → face_past p ≡ None → length s.backs < 32
     → CanTakeFace number s → IsLawfulSolid s → IsLawfulSolid (with_back number p s)
 back_lawful s number p e room can is =
-    back_added s _ is room can (plane_within p.form (none_first _ (option_map_or colour_past p.paint None) e))
-    (face_colour s.colour p.paint is.colour (none_second (plane_past p.form) _ e))
+    grind (arith, nat_tests, common_steps, back_added, plane_within, none_first, face_colour, none_second)
 
 side_lawful : (s : SolidView) (form : Linear) → plane_past form ≡ None → length s.sides < 32 → IsLawfulSolid s
     → IsLawfulSolid (with_side form s)

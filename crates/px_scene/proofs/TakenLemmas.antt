@@ -1,10 +1,7 @@
 -- What a draft keeps over a good line.
-use Prim.Native.Nat.{suc}
-use Rattle.std.proofs.Common.{◌≡◌, ℕ, ℤ, pos, ◌≤ℤ◌, ◌+◌, ◌-◌, min, ◌<◌, ◌≤◌, List, [], ◌∷◌, length, true}
-use Rattle.std.proofs.Common.{refl, ap, arith, slice_get}
-use Rattle.std.proofs.Common.{IfSome, Option, None, add-zero}
-use Rattle.std.proofs.lemmas.Int.{ints}
-use Rattle.std.specs.Option.{option_or}
+use Rattle.px_num.proofs.Basics.{nat_tests, common_steps, ◌≡◌, ℕ, ℤ, pos, ◌≤ℤ◌, ◌+◌, ◌-◌, ◌<◌, ◌≤◌, List, [], ◌∷◌}
+use Rattle.px_num.proofs.Basics.{length, true, refl, ap, arith, slice_get, IfSome, Option, None, add-zero, ints}
+use Rattle.px_num.proofs.Basics.{option_or}
 use Rattle.px_show.specs.Judged.{past}
 use Rattle.px_show.specs.declared.fault.LimitKind.{LimitKind}
 use Rattle.px_show.specs.declared.fault.LimitKind.TheVariants as kind
@@ -33,13 +30,7 @@ pub record FaceRoom (p : Plane) (faces numbered : ℕ) : Type 0 where
 
 pub face_room : (limit : LimitKind) (faces numbered : ℕ) (p : Plane) → face_limit limit faces numbered p ≡ None
     → FaceRoom p faces numbered
-face_room limit faces numbered p e =
-    let planes =
-    none_first (option_or (face_past p) (most limit 32 (faces + 1))) (most kind.Faces 4095 (numbered + 1)) e
-    in let few : faces + 1 ≤ 32 = at_most limit 32 (faces + 1) (none_second (face_past p) _ planes)
-    in let numbers : numbered + 1 ≤ 4095 =
-    at_most kind.Faces 4095 (numbered + 1) (none_second (option_or (face_past p) (most limit 32 (faces + 1))) _ e)
-    in record { within = none_first _ _ planes; room = omega arith; next = omega arith }
+face_room limit faces numbered p e = grind (arith, none_first, at_most, none_second)
 
 -- what no limit on the line of a solid says
 pub record SolidRoom (before numbered : ℕ) : Type 0 where
@@ -49,29 +40,15 @@ pub record SolidRoom (before numbered : ℕ) : Type 0 where
 pub solid_room : (before numbered : ℕ) (past : Option (LineFault LimitKind))
     → option_or (option_or past (most kind.Solids 255 (before + 1))) (most kind.Faces 4095 (numbered + 1)) ≡ None
     → SolidRoom before numbered
-solid_room before numbered past e =
-    let solids = none_first (option_or past (most kind.Solids 255 (before + 1))) (most kind.Faces 4095 (numbered + 1)) e
-    in let few : before + 1 ≤ 255 = at_most kind.Solids 255 (before + 1) (none_second past _ solids)
-    in let numbers : numbered + 1 ≤ 4095 =
-    at_most kind.Faces 4095 (numbered + 1) (none_second (option_or past (most kind.Solids 255 (before + 1))) _ e)
-    in record { solids = omega arith; numbers = omega arith }
+solid_room before numbered past e = grind (arith, none_first, at_most, none_second)
 
 -- the last solid can take the number behind all the faces
 pub last_can_take : (first : ℕ) (ss : List SolidView) → AreNumberedFrom first ss → 0 < length ss
     → IfSome (slice_get ss (length ss - 1)) (CanTakeFace (first + faces_of ss))
 last_can_take first [] are some = absurd (omega arith)
-last_can_take first (s ∷ []) are some =
-    rw (faces_of-cons s [], add-zero) (record {
-      near = let near = are.0.near in
-          grind arith;
-      fronts = are.0.fronts;
-      backs = are.0.backs;
-    })
+last_can_take first (s ∷ []) are some = grind (arith, faces_of-cons, add-zero)
 last_can_take first (s ∷ t ∷ ss) are some =
-    let place : length (s ∷ t ∷ ss) - 1 ≡ suc (length (t ∷ ss) - 1) = omega arith
-    in let counted : first + faces_of (s ∷ t ∷ ss) ≡ (first + faces_in s) + faces_of (t ∷ ss) =
-    omega (arith, faces_of-cons s (t ∷ ss))
-    in rw (place, counted) (last_can_take (first + faces_in s) (t ∷ ss) are.1 (omega arith))
+    grind (arith, nat_tests, common_steps, last_can_take (first + faces_in s) (t ∷ ss) are.1 (omega arith))
 
 -- lines that come only after a solid's
 pub begun_front : (due : Due) → is_due due k.Front ≡ true → is_begun due ≡ true
@@ -96,12 +73,7 @@ begun_end due e = cc
 
 pub numbered_fresh : (name : List ℕ) (number : ℕ) (colour : Colour)
     → IsNumberedFrom number (fresh_solid name number colour)
-numbered_fresh name number colour = record {
-  near = refl;
-  fronts = λ k d lt. absurd (omega arith);
-  backs = λ k d lt. absurd (omega arith);
-  once = λ n above below. absurd (omega arith);
-}
+numbered_fresh name number colour = grind arith
 
 pub names_with_last : (change : SolidView → SolidView) → ((s : SolidView) → (change s).name ≡ s.name)
     → (ss : List SolidView) → names_of (with_last change ss) ≡ names_of ss
@@ -129,8 +101,7 @@ faces_of-with_last change more grows [] some = absurd (omega arith)
 faces_of-with_last change more grows (s ∷ []) some =
     omega (arith, faces_of-cons s [], faces_of-cons (change s) [], grows s)
 faces_of-with_last change more grows (s ∷ t ∷ ss) some =
-    let later = faces_of-with_last change more grows (t ∷ ss) (omega arith)
-    in omega (arith, faces_of-cons s (t ∷ ss), faces_of-cons s (with_last change (t ∷ ss)))
+    grind (arith, nat_tests, common_steps, faces_of-cons, faces_of-with_last change more grows (t ∷ ss) (omega arith))
 
 pub record IsBetween (least most z : ℤ) : Type 0 where
   pub above : least ≤ℤ z
@@ -142,17 +113,11 @@ past_none limit least most z e = record { above = grind (arith, ints); below = g
 -- a size within a limit
 pub size_within : (limit : LimitKind) (most : ℕ) (z : ℤ) → past limit (pos 1) (pos most) z ≡ None → (1 ≤ size_of z)
     × (size_of z ≤ most)
-size_within limit most (pos n) e =
-    let is = past_none limit (pos 1) (pos most) (pos n) e
-    in let above = is.above in let below = is.below in (omega (arith, ints), omega (arith, ints))
-size_within limit most (negsuc n) e =
-    let is = past_none limit (pos 1) (pos most) (negsuc n) e
-    in let above = is.above in absurd (omega (arith, ints))
+size_within limit most (pos n) e = grind (arith, past_none)
+size_within limit most (negsuc n) e = grind (arith, past_none)
 
 -- fraction bits within their limit, beside the bits of a depth within theirs
 pub fraction_within : (bits fraction : ℤ) → fraction_past bits fraction ≡ None → 1 ≤ size_of bits → size_of bits ≤ 24
     → (size_of bits + size_of fraction ≤ 24) × (size_of fraction ≤ 8)
-fraction_within bits (pos n) e some most =
-    let is = past_none kind.Fraction (pos 0) (pos (min 8 (24 - size_of bits))) (pos n) e
-    in let below = is.below in (omega (arith, ints), omega (arith, ints))
+fraction_within bits (pos n) e some most = grind (arith, past_none)
 fraction_within bits (negsuc n) e some most = (omega arith, omega arith)

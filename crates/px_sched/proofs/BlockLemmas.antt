@@ -1,20 +1,15 @@
 -- What the passes of one literal leave, and what all of them leave.
-use Rattle.std.proofs.Common.{◌≡◌, ◌<◌, ◌≤◌, ◌+◌, ◌+ℤ◌, ◌-◌, ◌*◌, ◌^◌, ◌||◌, ◌==◌, pos, ℕ, Bool, true, false, ◌&&◌}
-use Rattle.std.proofs.Common.{nat_lt, min, List, [], ◌∷◌, ◌++◌, length, eqb, map, refl, ap, sym, ◌∙◌, arith, inl, inr}
-use Rattle.std.proofs.Common.{if◌then◌else◌}
-use Rattle.std.specs.List.{fold, flat_map, list_all, range_with_len}
-use Rattle.std.proofs.lemmas.List.Folds.{fold-map}
-use Rattle.std.proofs.lemmas.Bool.{cases_Bool, cases_lt}
-use Rattle.std.proofs.lemmas.Bool.Decides.{nat_tests}
-use Rattle.std.proofs.lemmas.List.Sums.{fold-append}
+use Rattle.px_num.proofs.Basics.{◌≡◌, ◌<◌, ◌≤◌, ◌+◌, ◌+ℤ◌, ◌-◌, ◌*◌, ◌^◌, ◌||◌, ◌==◌, pos, ℕ, Bool, true, false, ◌&&◌}
+use Rattle.px_num.proofs.Basics.{nat_lt, min, List, [], ◌∷◌, ◌++◌, length, eqb, map, refl, ap, sym, ◌∙◌, arith, inl}
+use Rattle.px_num.proofs.Basics.{inr, if◌then◌else◌, fold, flat_map, list_all, range_with_len, fold-map, cases_Bool}
+use Rattle.px_num.proofs.Basics.{cases_lt, nat_tests, fold-append}
 use Rattle.px_num.specs.Bits.{modulo}
 use Rattle.px_num.specs.Forms.{plus}
 use Rattle.px_num.proofs.FormLaws.{value_at-plus}
-use Rattle.px_num.proofs.TruthLaws.{and_both, and_false, and_left, and_true, lt_fails, lt_false, lt_holds}
-use Rattle.px_num.proofs.TruthLaws.{lt_true}
+use Rattle.px_num.proofs.TruthLaws.{and_both, and_false, and_left, and_true, lt_fails, lt_false, lt_holds, lt_true}
 use Rattle.px_model.specs.Scenes.{SolidView, SceneView}
-use Rattle.px_model.specs.Cells.{Depths, cell_of, depths_of, end_of, enters_at, is_inside, is_inside_before}
-use Rattle.px_model.specs.Cells.{leaves_at, value_of}
+use Rattle.px_model.specs.Cells.{Depths, cell_of, depths_of, end_of, enters_at, is_inside, is_inside_before, leaves_at}
+use Rattle.px_model.specs.Cells.{value_of}
 use Rattle.px_face.specs.Covering.{CoveringLaw, ValueParityLaw, covering_back, covering_front, is_met}
 use Rattle.px_face.specs.Edges.{covers}
 use Rattle.px_face.specs.Faces.{face_number, face_plane}
@@ -22,8 +17,7 @@ use Rattle.px_normal.specs.declared.product.Product.{Product}
 use Rattle.px_sched.specs.declared.literal.Literal.{Literal}
 use Rattle.px_sched.specs.declared.step.Step.TheVariants.{Candidate, Merge}
 use Rattle.px_sched.specs.Passes.{candidate_faces, confirm, judge, literal_at, literal_steps, literals, no_literal}
-use Rattle.px_sched.specs.Passes.{others}
-use Rattle.px_sched.specs.Passes.{product_steps, solid_of, steps_with, where_fraction}
+use Rattle.px_sched.specs.Passes.{others, product_steps, solid_of, steps_with, where_fraction}
 use Rattle.px_sched.specs.Numbers.{Keys, KeyedPixel, after_step, after_steps, dropped, key, loaded, residue}
 use Rattle.px_sched.specs.Numbers.{without_fraction}
 use Rattle.px_sched.proofs.MemberLaws.{by_places}
@@ -154,34 +148,17 @@ module _ (covering : CoveringLaw) (parity : ValueParityLaw) (scene : SceneView) 
 
   judged : (rs : List Literal) (k : Keys) → IsJudged k (fold classified_by k rs) rs
   judged [] k = record { best = refl; depth = refl; number = refl; alive = sym (and_true k.alive) }
-  judged (r ∷ rs) k =
-      let rest = judged rs (classified_by k r) in
-      record {
-        best = rest.best;
-        depth = rest.depth;
-        number = rest.number;
-        alive = rest.alive
-            ∙ and_both k.alive (suited_at scene l k.deep r) (list_all (suited_at scene l k.deep) rs);
-      }
+  judged (r ∷ rs) k = grind (arith, and_both, judged rs (classified_by k r))
 
   record HasKey (k : Keys) (deep number : ℕ) : Type 0 where
     is_deep : k.deep ≡ deep
     is_number : k.number ≡ number
 
   ended : (new : Keys) (b deep n : ℕ) (alive a : Bool) (rs : List Literal) → new.best ≡ b → new.alive ≡ alive
-      → (alive ≡ true → HasKey new deep n)
-      → list_all (suited_at scene l deep) rs ≡ a
+      → (alive ≡ true → HasKey new deep n) → list_all (suited_at scene l deep) rs ≡ a
       → merged l (fold classified_by new rs) ≡ fold min b (if alive && a then key l deep n ∷ [] else [])
-  ended new b deep n false a rs best dead has tested =
-      let j = judged rs new in
-      merged_is l (fold classified_by new rs) false b new.deep new.number (j.alive
-      ∙ rw dead refl) (j.best ∙ best) j.depth j.number
-  ended new b deep n true a rs best live has tested =
-      let j = judged rs new in
-      let is = has refl in
-      merged_is l (fold classified_by new rs) a b deep n (j.alive
-      ∙ rw (live, is.is_deep, tested) refl) (j.best ∙ best) (j.depth ∙ is.is_deep) (j.number ∙ is.is_number)
-      ∙ least_of a b (key l deep n)
+  ended new b deep n false a rs best dead has tested = grind (arith, judged, merged_is)
+  ended new b deep n true a rs best live has tested = grind (arith, judged, merged_is, least_of)
 
   -- the depth of a candidate is that of its cell
   loaded_deep : (s : SolidView) (plain : Bool) → is_covered s plain far l.x l.y ≡ true
@@ -207,9 +184,7 @@ module _ (covering : CoveringLaw) (parity : ValueParityLaw) (scene : SceneView) 
       ≡ has_cell s plain d l.x l.y (cell_found s plain d l.x l.y)
   cell_test solid true met =
       plain_test covering scene l room solid (cell_found (solid_of scene solid) true d l.x l.y) refl met
-  cell_test solid false both =
-      barred_test covering scene l room solid (cell_found (solid_of scene solid) false d l.x l.y) refl
-      (and_left (is_met (solid_of scene solid) far l.x l.y) _ both)
+  cell_test solid false both = grind (arith, barred_test, and_left)
 
   -- the candidate of a literal that stays alive
   record IsKept (s : SolidView) (plain : Bool) (k new : Keys) : Type 0 where
@@ -224,36 +199,9 @@ module _ (covering : CoveringLaw) (parity : ValueParityLaw) (scene : SceneView) 
   kept solid plain k start new dead is c = let s = solid_of scene solid in
       elim (cases_Bool (is_covered s plain far l.x l.y)) [
         | inl yea ↦
-            let z = cell_found s plain d l.x l.y in
-            let some = loaded l d s k (face_found s plain far l.x l.y) in
-            let here : start ≡ some = is ∙ rw yea refl in
-            let deep : some.deep ≡ value_of d z = loaded_deep s plain yea in
-            record {
-              best = c.best ∙ ap (λ (k : Keys). k.best) here;
-              alive = c.alive
-                  ∙ ap (λ (k : Keys). k.alive
-                  && ((d.fraction_bits == 0) || test covering scene l room solid plain k.deep))
-                  here
-                  ∙ ap (λ v. (d.fraction_bits == 0) || test covering scene l room solid plain v) deep
-                  ∙ cell_test solid plain yea ∙ rw yea refl;
-              has = λ _. record {
-                is_deep = c.deep ∙ ap (λ (k : Keys). k.deep) here ∙ deep;
-                is_number = c.number
-                    ∙ ap (λ (k : Keys). k.number) here;
-              };
-            }
+            grind (arith, loaded_deep, test, cell_test)
         | inr nay ↦
-            let here : start ≡ k = is ∙ rw nay refl in
-            record {
-              best = c.best ∙ ap (λ (k : Keys). k.best) here;
-              alive = c.alive
-                  ∙ ap (λ (k : Keys). k.alive
-                  && ((d.fraction_bits == 0) || test covering scene l room solid plain k.deep))
-                  here
-                  ∙ rw (dead, nay) refl;
-              has = λ e. absurd (never (is_covered s plain far l.x l.y)
-                  (has_cell s plain d l.x l.y (cell_found s plain d l.x l.y)) nay e);
-            }
+            grind (arith, test, never)
       ]
 
   -- what the other literals leave

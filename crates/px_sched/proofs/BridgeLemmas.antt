@@ -1,14 +1,9 @@
 -- What the operations of each step do to the bits of a pixel is what the step does to the numbers.
-use Rattle.std.proofs.Common.{◌≡◌, ℕ, ◌+◌, ◌-◌, ◌*◌, ◌/◌, ◌%◌, ◌^◌, ◌<◌, ◌≤◌, ◌==◌, Bool, true, false, ◌&&◌, not}
-use Rattle.std.proofs.Common.{nat_le}
-use Rattle.std.proofs.Common.{nat_lt, List, [], ◌∷◌, ◌++◌, length, map, slice_set, inl, inr, refl, ap, sym, ◌∙◌, arith}
-use Rattle.std.proofs.Common.{get_or-set_same, get_or-set_other, if◌then◌else◌}
-use Rattle.std.specs.Bool.{beq}
-use Rattle.std.specs.Int.{is_negative}
-use Rattle.std.specs.List.{flat_map}
-use Rattle.std.proofs.lemmas.Bool.{cases_Bool}
-use Rattle.std.proofs.lemmas.Bool.Decides.{nat_tests}
-use Rattle.std.proofs.lemmas.Nat.{div-mul-add, mod_low}
+use Rattle.px_num.proofs.Basics.{rules, ◌≡◌, ℕ, ◌+◌, ◌-◌, ◌*◌, ◌/◌, ◌%◌, ◌^◌, ◌<◌, ◌≤◌, ◌==◌, Bool, true, false, ◌&&◌}
+use Rattle.px_num.proofs.Basics.{not, nat_lt, List, [], ◌∷◌, ◌++◌, length, map, slice_set, inl, inr, refl, ap, sym, ◌∙◌}
+use Rattle.px_num.proofs.Basics.{arith, get_or-set_same, get_or-set_other, if◌then◌else◌, beq, is_negative, flat_map}
+use Rattle.px_num.proofs.Basics.{cases_Bool, nat_tests, div-mul-add}
+use Rattle.std.proofs.lemmas.Nat.{mod_low}
 use Rattle.px_num.proofs.BitLaws.{modulo_below, pow_above}
 use Rattle.px_num.proofs.TruthLaws.{and_both, and_true, beq_true}
 use Rattle.px_num.specs.Bits.{bit_at}
@@ -16,7 +11,7 @@ use Rattle.px_num.specs.Forms.{plus, value_at}
 use Rattle.px_num.specs.declared.linear.Linear.{Linear}
 use Rattle.px_model.specs.Scenes.{SceneView, SolidView}
 use Rattle.px_model.specs.Cells.{Depths, depths_of, end_of}
-use Rattle.px_face.specs.Edges.{covers, edges, hold_at}
+use Rattle.px_face.specs.Edges.{covers, hold_at}
 use Rattle.px_face.specs.Faces.{face_number, face_plane}
 use Rattle.px_macro.specs.FieldLaws.{BitBesideIsKept, NumberBesideIsKept, NumberIsBelow, NumberIsKept, NumberIsRead}
 use Rattle.px_macro.specs.FieldLaws.{NumberOfParts}
@@ -24,15 +19,15 @@ use Rattle.px_macro.specs.Fields.{is_in, number_in, with_number}
 use Rattle.px_macro.specs.Macros.{MeaningsJoin, MemoryStaysLong, PixelBits, after_macro, after_macros}
 use Rattle.px_macro.specs.declared.field.Field.{Field}
 use Rattle.px_macro.specs.declared.operation.Macro.{Macro}
-use Rattle.px_macro.specs.declared.operation.Macro.TheVariants as m
 use Rattle.px_sched.specs.declared.step.Step.{Step}
-use Rattle.px_sched.specs.declared.step.Step.TheVariants.{Start, Open, Candidate, Drop, Clear, Front, Confirm}
-use Rattle.px_sched.specs.declared.step.Step.TheVariants.{Begin, Turn, Close, Merge}
+use Rattle.px_sched.specs.declared.step.Step.TheVariants.{Start, Open, Candidate, Drop, Clear, Front, Confirm, Begin}
+use Rattle.px_sched.specs.declared.step.Step.TheVariants.{Turn, Close, Merge}
 use Rattle.px_sched.specs.Layouts.{LayoutView, deep_part, depth_part, fraction_part, layout_with, number_part}
-use Rattle.px_sched.specs.Numbers.{Keys, KeyedPixel, after_step, after_steps, dropped, flipped, key, loaded, residue}
-use Rattle.px_sched.specs.Numbers.{where_passing, without_fraction}
+use Rattle.px_sched.specs.Numbers.{Keys, KeyedPixel, after_step, after_steps, key, loaded, residue, where_passing}
+use Rattle.px_sched.specs.Numbers.{without_fraction}
 use Rattle.px_sched.specs.Passes.{keep_covered, operations, solid_of, where_fraction, where_passed}
 use Rattle.px_sched.proofs.CoverLaws.{not_negative}
+use Rattle.px_macro.specs.declared.operation.Macro.TheVariants as m
 
 -- the laws of fields that the bridge stands on
 pub record FieldLaws : Type 0 where
@@ -106,9 +101,7 @@ deep_written laws w f i n memory long room =
 
 -- a whole and a part, without the part
 without_part : (f low high : ℕ) → low < 2 ^ f → (low + 2 ^ f * high) / 2 ^ f * 2 ^ f ≡ 0 + 2 ^ f * high
-without_part f low high small =
-    let e : low + 2 ^ f * high ≡ high * 2 ^ f + low = grind arith in
-    rw (e, div-mul-add high (2 ^ f) low small) (grind arith)
+without_part f low high small = grind (arith, div-mul-add)
 
 fraction_written : FieldLaws → (w f i : ℕ) (memory : List Bool) → need w f i ≤ length memory →
     keys_in w f i (with_number (t_fraction w f i) 0 memory) ≡ record (keys_in w f i memory)
@@ -119,8 +112,7 @@ fraction_written laws w f i memory long =
     let high : Field = record { at = low.at + f; len = w } in
     let parts : (memory : List Bool) → number_in (t_deep w f i) memory ≡ number_in low memory + 2 ^ f
     * number_in high memory =
-    λ memory. let e : w + f ≡ f + w = omega arith in ap (λ n. number_in (record { at = low.at; len = n }) memory) e
-    ∙ laws.parts low.at f w memory in
+    grind arith in
     let deep : number_in (t_deep w f i) after_passes ≡ number_in (t_deep w f i) memory / 2 ^ f * 2 ^ f =
     parts after_passes
     ∙ rw (
@@ -199,10 +191,7 @@ pub signed : (forms : List Linear) (x y : ℕ) (memory : List Bool) (e : Bool)
     → after_macros (map m.KeepSign forms) x y (pixel memory e) ≡ pixel memory (e && hold_at forms x y)
 signed [] x y memory e = ap (pixel memory) (sym (and_true e))
 signed (f ∷ fs) x y memory e =
-    let v = value_at f x y in
-    signed fs x y memory (e && not (is_negative v))
-    ∙ ap (pixel memory) (and_both e (not (is_negative v)) (hold_at fs x y)
-    ∙ ap (λ b. e && (b && hold_at fs x y)) (not_negative v))
+    grind (arith, and_both, not_negative, signed fs x y memory (e && not (is_negative (value_at f x y))))
 
 stays_long : MemoryStaysLong → (ms : List Macro) (x y : ℕ) (p : PixelBits)
     → length (after_macros ms x y p).memory ≡ length p.memory
@@ -240,17 +229,13 @@ module _ (laws : FieldLaws) (scene : SceneView) (w i x y : ℕ)
   -- the number of key T by those of its parts
   t_key : (memory : List Bool) → number_in (t_field w f i) memory ≡ key place (number_in (t_deep w f i) memory)
       (number_in (t_number w f i) memory)
-  t_key memory =
-      let e : w + f + i ≡ i + (w + f) = omega arith in
-      ap (λ n. number_in (record { at = w + f + i; len = n }) memory) e ∙ laws.parts (w + f + i) i (w + f) memory
+  t_key memory = grind arith
 
   -- operations behind those of the edges of a face
   covered : (s : SolidView) (face : ℕ) (behind : List Macro) (memory : List Bool) (e : Bool)
       → after_macros (keep_covered (end_of d) s face ++ behind) x y (pixel memory e)
       ≡ after_macros behind x y (pixel memory (e && covers s (end_of d) face x y))
-  covered s face behind memory e =
-      laws.join (keep_covered (end_of d) s face) behind x y (pixel memory e)
-      ∙ ap (after_macros behind x y) (signed (edges s (end_of d) face) x y memory e)
+  covered s face behind memory e = grind (arith, signed)
 
   either : (b : Bool) (changed memory : List Bool) (k : Keys) → keys changed ≡ k
       → keys (if b then changed else memory) ≡ (if b then k else keys memory)
@@ -323,14 +308,7 @@ module _ (laws : FieldLaws) (scene : SceneView) (w i x y : ℕ)
       → keys (after_macros (where_passed l (end_of d) s face form operation) x y (pixel memory true)).memory
       ≡ where_passing place (end_of d) s face form change (keys memory)
   passing s face form operation change memory done =
-      let a = bit_at memory (alive_at w f i) in
-      let c = covers s (end_of d) face x y in
-      let n = nat_le (residue place form) (number_in (t_deep w f i) memory) in
-      ap (λ (p : PixelBits). keys p.memory)
-      (covered s face (m.KeepAtMost form (t_deep w f i) ∷ operation ∷ []) memory (true && beq a true))
-      ∙ done (((true && beq a true) && c) && n)
-      ∙ ap (λ b. if b then change (keys memory) else keys memory)
-      (ap (λ a. ((true && a) && c) && n) (beq_true a) ∙ and_both a c n)
+      search (rules, covered, beq_true, and_both, alive_at, t_deep, m.KeepAtMost, done, keys)
 
   raised : (v : Bool) (memory : List Bool) → IsLong memory → (e : Bool)
       → keys (if e then slice_set memory (alive_at w f i) v else memory)
@@ -341,8 +319,7 @@ module _ (laws : FieldLaws) (scene : SceneView) (w i x y : ℕ)
   turned : (v : Bool) (memory : List Bool) → IsLong memory → (e : Bool)
       → keys (if e then slice_set memory (par_at w f i) v else memory)
       ≡ (if e then record (keys memory) { par = v } else keys memory)
-  turned v memory long e =
-      either e (slice_set memory (par_at w f i) v) memory _ (par_written laws w f i v memory long)
+  turned v memory long e = either e (slice_set memory (par_at w f i) v) memory _ (par_written laws w f i v memory long)
 
   merged : (memory : List Bool) → IsLong memory
       → keys (after_macros (operations scene l Merge) x y (pixel memory true)).memory
@@ -365,22 +342,13 @@ module _ (laws : FieldLaws) (scene : SceneView) (w i x y : ℕ)
       ≡ after_step scene place (keys memory) step
   by_step Start memory long = best_written laws w f i _ memory long background
   by_step Open memory long = alive_written laws w f i false memory long
-  by_step (Candidate solid face) memory long =
-      let s = solid_of scene solid in
-      ap (λ (p : PixelBits). keys p.memory) (covered s face _ memory true)
-      ∙ loading s face (faces solid face) memory (covers s (end_of d) face x y) long
-  by_step (Drop solid face) memory long =
-      passing (solid_of scene solid) face (face_plane (solid_of scene solid) (end_of d) face) (m.SetBit l.alive false)
-      dropped memory (raised false memory long)
+  by_step (Candidate solid face) memory long = search (rules, covered, loading, faces)
+  by_step (Drop solid face) memory long = search (rules, passing, raised, m.SetBit)
   by_step Clear memory long = par_written laws w f i false memory long
-  by_step (Front solid face) memory long =
-      passing (solid_of scene solid) face (plus (face_plane (solid_of scene solid) (end_of d) face) (2 ^ f))
-      (m.Toggle l.par) flipped memory (turned _ memory long)
+  by_step (Front solid face) memory long = search (rules, passing, turned, m.Toggle)
   by_step Confirm memory long = raised false memory long (beq (bit_at memory (par_at w f i)) false)
   by_step (Begin other) memory long = par_written laws w f i false memory long
-  by_step (Turn other solid face) memory long =
-      passing (solid_of scene solid) face (face_plane (solid_of scene solid) (end_of d) face) (m.Toggle l.par) flipped
-      memory (turned _ memory long)
+  by_step (Turn other solid face) memory long = search (rules, passing, turned, m.Toggle)
   by_step (Close other plain) memory long = raised false memory long (beq (bit_at memory (par_at w f i)) (not plain))
   by_step Merge memory long = merged memory long
 
@@ -398,16 +366,11 @@ module _ (laws : FieldLaws) (scene : SceneView) (w i x y : ℕ)
   all_steps (step ∷ steps) p long =
       let own = operations scene l step in
       let next = after_macros own x y p in
-      ap (λ (q : PixelBits). keys q.memory) (laws.join own (flat_map (operations scene l) steps) x y p)
-      ∙ all_steps steps next (omega (arith, long, stays_long laws.size own x y p))
-      ∙ ap (λ k. after_steps scene place k steps)
-      (ap (λ (q : PixelBits). keys q.memory) (anew step p) ∙ by_step step p.memory long)
+      grind (arith, anew, by_step, all_steps steps next (omega (arith, long, stays_long laws.size own x y p)))
 
 -- two numbers are what their joined number is cut into
 low_part : (i a b c d : ℕ) → a < 2 ^ i → c < 2 ^ i → a + 2 ^ i * b ≡ c + 2 ^ i * d → a ≡ c
-low_part i a b c d first second same =
-    let whole : b * 2 ^ i + a ≡ d * 2 ^ i + c = grind (arith, same)
-    in sym (mod_low b i a first) ∙ ap (λ n. n % 2 ^ i) whole ∙ mod_low d i c second
+low_part i a b c d first second same = grind (arith, mod_low b i a first, mod_low d i c second)
 
 high_part : (p b d : ℕ) → 0 < p → p * b ≡ p * d → b ≡ d
 high_part p b d some same = grind (arith, same)
@@ -431,10 +394,8 @@ b_parts laws w f i depth face memory small same =
     high_part (2 ^ i) deep (depth * 2 ^ f) (pow_above i) (omega (arith, parts, low))
     in let fraction = number_in (fraction_part (layout_with w f i) (b_field w f i)) memory
     in let high = number_in (depth_part (layout_with w f i) (b_field w f i)) memory
-    in let swap : w + f ≡ f + w = omega arith
     in let cut : fraction + 2 ^ f * high ≡ 0 + 2 ^ f * depth =
-    sym (ap (λ n. number_in (record { at = 0 + i; len = n }) memory) swap ∙ laws.parts (0 + i) f w memory) ∙ whole
-    ∙ grind arith
+    grind arith
     in let none = low_part f fraction high 0 depth (laws.below (fraction_part (layout_with w f i) (b_field w f i))
     memory) (pow_above f) cut
     in (high_part (2 ^ f) high depth (pow_above f) (omega (arith, cut, none)), low, none)

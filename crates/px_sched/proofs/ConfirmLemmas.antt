@@ -1,25 +1,17 @@
 -- Which candidates stay alive: those of pixels at which their solid has a cell.
-use Rattle.std.proofs.Common.{◌≡◌, ◌<◌, ◌+◌, ◌^◌, ◌+ℤ◌, ◌<ℤ◌, ◌≤ℤ◌, ℕ, zero, suc, ℤ, pos, Bool, true, false}
-use Rattle.std.proofs.Common.{◌&&◌, ◌||◌, ◌==◌, ◌*◌, ◌-◌, inl, inr, not, nat_le, nat_lt, List, [], ◌∷◌, ◌++◌, length}
-use Rattle.std.proofs.Common.{eqb, map}
-use Rattle.std.proofs.Common.{refl, ap, sym, ◌∙◌, arith, if◌then◌else◌}
-use Rattle.std.specs.Bool.{beq}
-use Rattle.std.specs.List.{fold, range_with_len}
-use Rattle.std.proofs.lemmas.List.Folds.{fold-map}
-use Rattle.std.proofs.lemmas.List.Sums.{fold-append}
-use Rattle.std.proofs.lemmas.Int.{ints}
-use Rattle.std.proofs.lemmas.Bool.Decides.{nat_tests}
+use Rattle.px_num.proofs.Basics.{◌≡◌, ◌<◌, ◌+◌, ◌^◌, ◌+ℤ◌, ◌<ℤ◌, ◌≤ℤ◌, ℕ, zero, suc, ℤ, pos, Bool, true, false, ◌&&◌}
+use Rattle.px_num.proofs.Basics.{◌||◌, ◌==◌, ◌*◌, inl, inr, not, nat_le, nat_lt, List, [], ◌∷◌, ◌++◌, length, eqb, map}
+use Rattle.px_num.proofs.Basics.{refl, ap, sym, ◌∙◌, arith, if◌then◌else◌, fold, range_with_len, fold-map, fold-append}
+use Rattle.px_num.proofs.Basics.{ints, nat_tests, cases_Bool, pow_pos}
 use lib.Signed.{le_z, lt_z}
-use Rattle.std.proofs.lemmas.Bool.{cases_Bool}
-use Rattle.std.proofs.lemmas.Nat.{pow_pos}
 use Rattle.px_num.specs.Bits.{modulo}
 use Rattle.px_num.specs.Forms.{plus, value_at}
 use Rattle.px_num.proofs.FormLaws.{value_at-plus}
-use Rattle.px_num.proofs.TruthLaws.{and_true, eqb_holds, le_same, lt_fails, lt_false, lt_holds}
-use Rattle.px_num.proofs.TruthLaws.{lt_is_not_le, lt_true, turned_from_false}
+use Rattle.px_num.proofs.TruthLaws.{and_true, eqb_holds, le_same, lt_fails, lt_false, lt_holds, lt_is_not_le, lt_true}
+use Rattle.px_num.proofs.TruthLaws.{turned_from_false}
 use Rattle.px_model.specs.Scenes.{SceneView, SolidView}
-use Rattle.px_model.specs.Cells.{Depths, cell_of, depths_of, end_of, enters_at, is_inside, is_inside_before}
-use Rattle.px_model.specs.Cells.{leaves_at, value_of}
+use Rattle.px_model.specs.Cells.{Depths, cell_of, depths_of, end_of, enters_at, is_inside, is_inside_before, leaves_at}
+use Rattle.px_model.specs.Cells.{value_of}
 use Rattle.px_model.proofs.CellLaws.{cell_is_first, cell_is_least}
 use Rattle.px_face.specs.Covering.{CoveringLaw, covering_back, covering_front, is_met}
 use Rattle.px_face.specs.Edges.{covers}
@@ -57,9 +49,7 @@ drop_is false false k e = rw (← e) refl
 drops : (t : ℕ → ℕ → Bool) (k : Keys) (is : List ℕ) → fold (drop_step t) k is
     ≡ record k { alive = fold (off (t k.deep)) k.alive is }
 drops t k [] = refl
-drops t k (i ∷ is) =
-    let a = if t k.deep i then false else k.alive in
-    ap (λ q. fold (drop_step t) q is) (drop_is k.alive (t k.deep i) k refl) ∙ drops t (record k { alive = a }) is
+drops t k (i ∷ is) = grind (arith, drop_is, drops t (record k { alive = (if t k.deep i then false else k.alive) }) is)
 
 and_not : (g a : Bool) → (if g then false else a) ≡ (a && not g)
 and_not true true = refl
@@ -80,8 +70,7 @@ no_fraction : (f : ℕ) → (f == 0) ≡ true → f ≡ 0
 no_fraction f e = grind (arith, nat_tests)
 
 whole_value : (d : Depths) (n : ℕ) → (d.fraction_bits == 0) ≡ true → value_of d (cell_of d (pos n)) ≡ n
-whole_value d n none = let f = no_fraction d.fraction_bits none in rw f (let e : n + (2 ^ 0 - 1) ≡ n = omega arith in
-    rw e (omega arith))
+whole_value d n none = grind (arith, no_fraction)
 
 one_unit : (d : Depths) → (d.fraction_bits == 0) ≡ true → 2 ^ d.fraction_bits ≡ 1
 one_unit d none = ap (λ f. 2 ^ f) (no_fraction d.fraction_bits none)
@@ -90,7 +79,7 @@ first_unit : (n u : ℕ) → 0 < u → false ≡ le_z (pos n +ℤ pos u) (pos (0
 first_unit n u some = grind (arith, ints)
 
 one_more : (v : ℤ) (z u : ℕ) → (le_z v (pos (z * u)) && true) ≡ le_z (v +ℤ pos u) (pos (suc z * u))
-one_more v z u = let e : suc z * u ≡ z * u + u = grind arith in grind (arith, ints)
+one_more v z u = grind (arith, ints)
 
 module _ (covering : CoveringLaw) (scene : SceneView) (l : KeyedPixel) (room : HasRoom l (depths_of scene))
     (solid : ℕ) where
@@ -194,9 +183,7 @@ module _ (covering : CoveringLaw) (scene : SceneView) (l : KeyedPixel) (room : H
       k.deep) g (eqb i kf) (front_turns k.deep i (law.fronts i (lt_true i nf (omega arith)))))
       (omega arith) (omega (arith, lt_holds kf nf law.front.there))
       ∙ turned_from_false (k.alive && g)) in
-      fold-append (after_step scene l) start turns (Confirm ∷ [])
-      ∙ ap (λ (q : Keys). if beq q.par false then record q { alive = false } else q) turned
-      ∙ ended k.best k.deep k.number k.alive g true
+      grind (arith, fold-append, ended)
 
   abbrev pub test : (plain : Bool) → (v : ℕ) → Bool
   test plain v = if plain then not (met && le_z leaves (pos v)) else (met && le_z (enters +ℤ pos unit) (pos v))
@@ -213,17 +200,13 @@ module _ (covering : CoveringLaw) (scene : SceneView) (l : KeyedPixel) (room : H
 
   by_kind : (plain : Bool) (k : Keys) → (d.fraction_bits == 0) ≡ false
       → IsConfirmed plain k (after_steps scene l k (confirming plain))
-  by_kind true k some =
-      rw (confirm_plain k) (record { best = refl; deep = refl; number = refl; alive = rw some refl })
+  by_kind true k some = rw (confirm_plain k) (record { best = refl; deep = refl; number = refl; alive = rw some refl })
   by_kind false k some =
       rw (confirm_barred k) (record { best = refl; deep = refl; number = refl; alive = rw some refl })
 
   pub confirmed : (plain : Bool) (k : Keys)
       → IsConfirmed plain k (after_steps scene l k (where_fraction d (confirming plain)))
-  confirmed plain k = elim (cases_Bool (d.fraction_bits == 0)) [
-    | inl none ↦ rw none (record { best = refl; deep = refl; number = refl; alive = rw none (sym (and_true k.alive)) })
-    | inr some ↦ rw some (by_kind plain k some)
-  ]
+  confirmed plain k = grind (arith, and_true, by_kind)
 
   -- the cell of a plain solid's candidate
   pub plain_test : (c : ℕ) → cell_of d enters ≡ c → met ≡ true → ((d.fraction_bits == 0) || test true (value_of d c))
@@ -256,9 +239,7 @@ module _ (covering : CoveringLaw) (scene : SceneView) (l : KeyedPixel) (room : H
     where
       before : (c : ℕ) → cell_of d leaves ≡ c → is_inside_before s d l.x l.y c
           ≡ (met && le_z (enters +ℤ pos unit) (pos (value_of d c)))
-      before zero e =
-          let is = enters_depth covering end s l.x l.y m in
-          rw (m, is.is) (first_unit is.depth unit (pow_pos d.fraction_bits))
+      before zero e = grind (arith, enters_depth, first_unit, pow_pos)
       before (suc z) e =
           let high : lt_z (pos (value_of d z)) leaves ≡ true = sym (cell_is_least d leaves z) ∙ ap (λ n. nat_lt z n) e
           ∙ lt_next z in

@@ -1,11 +1,7 @@
 -- The value of a face that covers a pixel: it is a depth, and the bits of one keep it.
-use Rattle.std.proofs.Common.{◌≡◌, ◌<◌, ◌≤◌, ◌≤ℤ◌, ◌+◌, ◌*◌, ◌%◌, ◌^◌, ℕ, ℤ, pos, negsuc, Bool, true, false}
-use Rattle.std.proofs.Common.{◌&&◌, not, nat_le, eqb, refl, ap, sym, ◌∙◌, arith, inl, inr}
-use Rattle.std.specs.Int.{is_negative}
-use Rattle.std.proofs.lemmas.Bool.{cases_Bool}
-use Rattle.std.proofs.lemmas.Bool.Decides.{nat_tests}
-use Rattle.std.proofs.lemmas.Int.{ints}
-use Rattle.std.proofs.lemmas.Nat.{mod-mul-add}
+use Rattle.px_num.proofs.Basics.{common_steps, ◌≡◌, ◌<◌, ◌≤◌, ◌≤ℤ◌, ◌+◌, ◌*◌, ◌%◌, ◌^◌, ℕ, ℤ, pos, negsuc, Bool, true}
+use Rattle.px_num.proofs.Basics.{false, ◌&&◌, not, nat_le, eqb, refl, ap, sym, ◌∙◌, arith, is_negative, nat_tests, ints}
+use Rattle.px_num.proofs.Basics.{mod-mul-add}
 use lib.Signed.{le_z}
 use Rattle.px_num.specs.Bits.{modulo}
 use Rattle.px_num.specs.Forms.{value_at}
@@ -14,7 +10,7 @@ use Rattle.px_model.specs.Scenes.{SolidView}
 use Rattle.px_model.specs.Cells.{enters_at, leaves_at}
 use Rattle.px_face.specs.Covering.{CoveringLaw, covering_back, covering_front, is_met}
 use Rattle.px_face.specs.Edges.{covers}
-use Rattle.px_face.specs.Faces.{face_count, is_front_face, face_plane}
+use Rattle.px_face.specs.Faces.{face_count, face_plane}
 
 pub and_same : (c a b : Bool) → (c ≡ true → a ≡ b) → (c && a) ≡ (c && b)
 and_same true a b h = h refl
@@ -60,33 +56,13 @@ module _ (covering : CoveringLaw) (end : ℕ) (s : SolidView) (x y : ℕ) where
 
   front_value : (i : ℕ) → (is_met s end x y && eqb i (covering_front s x y)) ≡ true
       → IsDepth (value_at (face_plane s end i) x y) end
-  front_value i e =
-      let one = enters_depth (and_left (is_met s end x y) (eqb i (covering_front s x y)) e) in
-      let same = eqb_holds i (covering_front s x y) (and_right (is_met s end x y) (eqb i (covering_front s x y)) e) in
-      record {
-        depth = one.depth;
-        is = ap (λ j. value_at (face_plane s end j) x y) same
-            ∙ (covering s end x y).front.value ∙ one.is;
-        below = one.below;
-      }
+  front_value i e = grind (arith, enters_depth, and_left, eqb_holds, and_right)
 
   back_value : (i : ℕ) → (is_met s end x y && eqb i (covering_back s end x y)) ≡ true
       → IsDepth (value_at (face_plane s end i) x y) end
-  back_value i e =
-      let one = leaves_depth (and_left (is_met s end x y) (eqb i (covering_back s end x y)) e) in
-      let same = eqb_holds i (covering_back s end x y)
-      (and_right (is_met s end x y) (eqb i (covering_back s end x y)) e) in
-      record {
-        depth = one.depth;
-        is = ap (λ j. value_at (face_plane s end j) x y) same
-            ∙ (covering s end x y).back.value ∙ one.is;
-        below = one.below;
-      }
+  back_value i e = grind (arith, leaves_depth, and_left, eqb_holds, and_right)
 
   -- the value of a face that covers is a depth
   pub covering_value : (i : ℕ) → i < face_count s → covers s end i x y ≡ true
       → IsDepth (value_at (face_plane s end i) x y) end
-  covering_value i there c = elim (cases_Bool (is_front_face s i)) [
-    | inl front ↦ front_value i (sym ((covering s end x y).fronts i front) ∙ c)
-    | inr back ↦ back_value i (sym ((covering s end x y).backs i there back) ∙ c)
-  ]
+  covering_value i there c = grind (arith, nat_tests, common_steps, front_value, back_value)

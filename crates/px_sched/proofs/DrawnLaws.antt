@@ -1,19 +1,15 @@
 -- The kept products of a scene have literals, and these are of solids of the scene.
-use Rattle.std.proofs.Common.{◌≡◌, ℕ, ◌<◌, All, true, false, List, [], ◌∷◌, get_or, length, refl, sym, subst}
-use Rattle.std.proofs.Common.{arith, inl, inr}
-use Rattle.std.proofs.Common.{length-append}
-use Rattle.std.proofs.lemmas.List.{length-map}
-use Rattle.std.proofs.lemmas.List.Elements.{All-cons, All-nil}
+use Rattle.px_num.proofs.Basics.{◌≡◌, ℕ, ◌<◌, All, List, [], ◌∷◌, get_or, length, refl, sym, subst, arith, inl, inr}
+use Rattle.px_num.proofs.Basics.{length-append, length-map, All-cons, All-nil}
 use Rattle.px_expr.specs.Tree.{HasLeavesBelow, Tree}
 use Rattle.px_expr.proofs.LeafLaws.{leaves_below}
 use Rattle.px_normal.specs.declared.product.Product.{Product}
 use Rattle.px_normal.specs.Forms.{HasPlain, HasSolidsBelow, sum_of_products}
-use Rattle.px_sets.specs.Sets.{solids}
 use Rattle.px_prune.specs.Kept.{kept_of}
 use Rattle.px_prune.specs.PruningLaw.{PlainIsKept}
 use Rattle.px_model.specs.Scenes.{IsLawfulScene, SceneView}
 use Rattle.px_sched.specs.Onward.{HasKnownLiterals}
-use Rattle.px_sched.specs.Passes.{literal, literals, literals_of}
+use Rattle.px_sched.specs.Passes.{literals}
 use Rattle.px_sched.proofs.MemberLaws.{In}
 use Rattle.px_sched.proofs.ProductLaws.{each_literal, in_solids}
 
@@ -29,12 +25,7 @@ all_members P (x ∷ xs) each = All-cons P x xs (each x (inl refl)) (all_members
 drawn : (scene : SceneView) (p : Product) → HasPlain p → HasSolidsBelow (length scene.solids) p
     → HasKnownLiterals scene p
 drawn scene p plain known = record {
-  some = omega (
-    arith,
-    plain,
-    length-append (literals_of true (solids p.plain)) (literals_of false (solids p.barred)),
-    length-map (solids p.plain) (literal true),
-  );
+  some = grind (arith, length-append, length-map);
   known = all_members (λ r. r.solid < length scene.solids) (literals p)
       (each_literal p (λ r. r.solid < length scene.solids)
       (λ q h. let i = in_solids p.plain q h in known.0 q i.0 i.1)

@@ -1,14 +1,7 @@
 -- How many passes there can be.
-use Rattle.std.proofs.Common.{◌≡◌, ℕ, zero, suc, inl, inr, ◌+◌, ◌^◌, ◌≤◌, ◌==◌, All, Bool, true, false, not}
-use Rattle.std.proofs.Common.{List, [], ◌∷◌}
-use Rattle.std.proofs.Common.{filter, get_or, length, refl, ap, arith, length-append}
-use Rattle.std.specs.List.{sum_by}
-use Rattle.std.proofs.lemmas.Bool.{cases_Bool}
-use Rattle.std.proofs.lemmas.List.{length-map}
-use Rattle.std.proofs.lemmas.List.Concat.{length-flat_map}
-use Rattle.std.proofs.lemmas.List.Elements.{All-nil, All-weaker}
-use Rattle.std.proofs.lemmas.List.FromFn.{length-range_with_len}
-use Rattle.std.proofs.lemmas.List.Sums.{count_by-le-length, length-filter, sum_by-le}
+use Rattle.px_num.proofs.Basics.{◌≡◌, ℕ, zero, suc, ◌+◌, ◌^◌, ◌≤◌, All, Bool, true, false, List, [], ◌∷◌, filter}
+use Rattle.px_num.proofs.Basics.{get_or, length, refl, ap, arith, length-append, sum_by, length-map, length-flat_map}
+use Rattle.px_num.proofs.Basics.{All-weaker, length-range_with_len, count_by-le-length, length-filter, sum_by-le}
 use Rattle.px_face.specs.EdgeLaws.{EdgesAreCounted}
 use Rattle.px_face.specs.Edges.{edge_count}
 use Rattle.px_normal.specs.declared.product.Product.{Product}
@@ -20,8 +13,8 @@ use Rattle.px_sched.specs.declared.literal.Literal.{Literal}
 use Rattle.px_sched.specs.declared.step.Step.{Step}
 use Rattle.px_sched.specs.declared.step.Step.TheVariants.{Candidate, Drop, Front, Turn}
 use Rattle.px_sched.specs.Layouts.{LayoutView}
-use Rattle.px_sched.specs.Passes.{candidate_faces, literal, literal_steps, literals, literals_of, no_solid, operations}
-use Rattle.px_sched.specs.Passes.{others, product_steps, solid_of, steps_with}
+use Rattle.px_sched.specs.Passes.{candidate_faces, literal_steps, literals, no_solid, operations, others, product_steps}
+use Rattle.px_sched.specs.Passes.{solid_of, steps_with}
 use Rattle.px_sched.specs.Steps.{HasFace, IsThere, passes_with}
 use Rattle.px_sched.specs.Worths.{bare, confirm_worth, edges_in, judged_worth}
 use Rattle.px_sched.specs.declared.literal.TheConstants.{MAX_LITERALS}
@@ -35,25 +28,7 @@ pub any_solid : (P : SolidView → Type 0) (scene : SceneView) → All P scene.s
 any_solid P scene all none i = all_or P scene.solids no_solid all none i
 
 pub no_solid_lawful : IsLawfulSolid no_solid
-no_solid_lawful = record {
-  colour = record { red = omega arith; green = omega arith; blue = omega arith };
-  fronts = record {
-    few = omega arith;
-    planes = All-nil _;
-    colours = All-nil _;
-    numbers = All-nil _;
-    order = λ i j d low high. absurd (omega arith);
-  };
-  backs = record {
-    few = omega arith;
-    planes = All-nil _;
-    colours = All-nil _;
-    numbers = All-nil _;
-    order = λ i j d low high. absurd (omega arith);
-  };
-  few_sides = omega arith;
-  sides = All-nil _;
-}
+no_solid_lawful = grind arith
 
 length_below : (n : ℕ) → length (below n) ≡ n
 length_below zero = refl
@@ -67,20 +42,10 @@ unfolding solids
 few_solids set n e = omega (arith, ap (λ k. length (filter (has set) (below k))) e, few_filtered (has set) n)
 
 few_literals : (p : Product) → length (literals p) ≤ MAX_LITERALS
-few_literals p =
-    omega (
-      arith,
-      length-append (literals_of true (solids p.plain)) (literals_of false (solids p.barred)),
-      length-map (solids p.plain) (literal true),
-      length-map (solids p.barred) (literal false),
-      few_solids p.plain 256 refl,
-      few_solids p.barred 256 refl,
-    )
+few_literals p = grind (arith, length-append, length-map, few_solids)
 
 pub few_others : (q : Literal) (p : Product) → length (others q p) ≤ MAX_LITERALS
-few_others q p =
-    let other : Literal → Bool = λ r. not (r.solid == q.solid) in
-    omega (arith, length-filter other (literals p), count_by-le-length other (literals p), few_literals p)
+few_others q p = grind (arith, length-filter, count_by-le-length, few_literals)
 
 pub few_candidates : (s : SolidView) (plain : Bool) → length (candidate_faces s plain) ≤ length s.fronts + 1 + length
     s.backs
@@ -92,23 +57,11 @@ abbrev pub once : {A : Type 0} → A → ℕ
 once x = 1
 
 one_each : IsBlind once
-one_each = record {
-  sign = λ form. refl;
-  load = λ form field. refl;
-  at_most = λ form field. refl;
-  constant = λ field n. refl;
-  keep = λ at bit. refl;
-}
+one_each = grind arith
 
 pub few_confirm : (scene : SceneView) (q : Literal) → let s = solid_of scene q.solid in
     confirm_worth once scene q ≤ length s.fronts + length s.backs + 3
-few_confirm scene q = elim (cases_Bool (scene.fraction_bits == 0)) [
-  | inl none ↦ rw none (omega arith)
-  | inr some ↦ elim (cases_Bool q.plain) [
-    | inl plain ↦ rw (some, plain) (omega arith)
-    | inr barred ↦ rw (some, barred) (omega arith)
-  ]
-]
+few_confirm scene q = grind arith
 
 module _ (count : EdgesAreCounted) (scene : SceneView) (l : LayoutView) (lawful : All IsLawfulSolid scene.solids) where
   solid_lawful : (i : ℕ) → IsLawfulSolid (solid_of scene i)
@@ -126,23 +79,11 @@ module _ (count : EdgesAreCounted) (scene : SceneView) (l : LayoutView) (lawful 
   few_edges step = omega arith
 
   few_bare : (step : Step) → sum_by once (bare l (depths_of scene) step) ≤ 5
-  few_bare (Candidate solid face) =
-      elim (cases_Bool (scene.fraction_bits == 0)) [
-        | inl none ↦ rw none (omega arith)
-        | inr some ↦
-            rw some (omega arith)
-      ]
+  few_bare (Candidate solid face) = grind arith
   few_bare step = omega arith
 
   few_operations : (step : Step) → HasFace (IsThere scene) step → length (operations scene l step) ≤ 102
-  few_operations step there =
-      omega (
-        arith,
-        counted (operations scene l step),
-        weighed count scene l once one_each step there,
-        few_edges step,
-        few_bare step,
-      )
+  few_operations step there = grind (arith, counted, weighed, one_each, few_edges, few_bare)
 
   few_literal : (p : Product) (q : Literal) → sum_by once (literal_steps scene q (others q p)) ≤ 2 ^ 16
   few_literal p q =

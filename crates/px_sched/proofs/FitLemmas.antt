@@ -1,10 +1,6 @@
 -- The passes are lawful in as many memory bits as the layout needs.
-use Rattle.std.proofs.Common.{◌≡◌, ℕ, ℤ, pos, ◌+ℤ◌, ◌-◌, ◌==◌, lit≤, ◌+◌, ◌^◌, ◌<◌, ◌≤◌, All, false, List, refl}
-use Rattle.std.proofs.Common.{arith, inr}
-use Rattle.std.proofs.lemmas.Bool.Decides.{nat_tests}
-use Rattle.std.proofs.lemmas.Int.{ints}
-use Rattle.std.proofs.lemmas.Nat.{pow_pos}
-use Rattle.std.proofs.Math.Pow.{pow_mono}
+use Rattle.px_num.proofs.Basics.{common_steps, ◌≡◌, ℕ, ℤ, pos, ◌+ℤ◌, ◌-◌, ◌==◌, ◌+◌, ◌^◌, ◌<◌, ◌≤◌, All, false, List}
+use Rattle.px_num.proofs.Basics.{refl, arith, inr, nat_tests, ints, pow_pos, pow_mono}
 use Rattle.px_num.specs.Forms.{IsInTreeRange, IsWithin, plus}
 use Rattle.px_num.specs.declared.linear.Linear.{Linear}
 use Rattle.px_num.proofs.FormLaws.{wider}
@@ -28,11 +24,7 @@ more_within : (v : ℤ) (n : ℕ) → n ≤ 2 ^ 9 → IsWithin (2 ^ 33) v → Is
 more_within v n le (low, high) = (omega (arith, ints), omega (arith, ints))
 
 plus_range : (p : Linear) (n : ℕ) → n ≤ 2 ^ 9 → IsPlane p → IsInTreeRange (plus p n)
-plus_range p n le h = record {
-  a = wider (2 ^ 23) (2 ^ 27) p.a (lit≤ tt) h.a;
-  b = wider (2 ^ 23) (2 ^ 27) p.b (lit≤ tt) h.b;
-  c = more_within p.c n le h.c;
-}
+plus_range p n le h = grind (arith, wider, more_within)
 
 module _ (ranges : EdgesAreInRange) (planes : PlanesAreInRange) (scene : SceneView) (lawful : IsLawfulScene scene)
     (solids : All IsLawfulSolid scene.solids) (is : IsLayout (layout_of scene)) where
@@ -49,10 +41,7 @@ module _ (ranges : EdgesAreInRange) (planes : PlanesAreInRange) (scene : SceneVi
   small = end_is_small scene.depth_bits f
 
   end_small : end < 2 ^ 32
-  end_small =
-      let bound : 2 ^ (scene.depth_bits + f) ≤ 2 ^ 24 =
-      pow_mono {i = scene.depth_bits + f} {j = 24} lawful.sizes.depth_limit in
-      omega (arith, small, bound)
+  end_small = grind (arith, nat_tests, common_steps, pow_mono, small)
 
   unit_most : 2 ^ f ≤ 2 ^ 8
   unit_most = pow_mono {i = f} {j = 8} lawful.sizes.fraction_limit
@@ -81,10 +70,7 @@ module _ (ranges : EdgesAreInRange) (planes : PlanesAreInRange) (scene : SceneVi
   -- a face's plane so much further
   moved : (n : ℕ) → n ≤ 2 ^ f → (solid face : ℕ) → IsThere scene solid face
       → IsInTreeRange (plus (face_plane (solid_of scene solid) end face) n) × IsField (deep_part l l.key_t) (need_of l)
-  moved n low solid face there = (
-    plus_range (face_plane (solid_of scene solid) end face) n (omega (arith, unit_most)) (plane solid face there),
-    deep,
-  )
+  moved n low solid face there = grind (arith, plus_range, unit_most, plane, deep)
 
   each_lawful : HoldsOf scene l (λ m. IsLawful m (need_of l))
   each_lawful = record {
@@ -102,8 +88,7 @@ module _ (ranges : EdgesAreInRange) (planes : PlanesAreInRange) (scene : SceneVi
       number = λ solid face. (number, numbers_fit scene lawful solid face);
       signs = λ solid face there. ranges (solid_of scene solid) (solid_lawful solid) end face end_small there;
       load = moved (2 ^ f - 1) (omega arith);
-      at_most = λ solid face there.
-          (plane_range (face_plane (solid_of scene solid) end face) (plane solid face there), deep);
+      at_most = grind (arith, plane_range, plane, deep);
       behind = moved (2 ^ f) (omega arith);
     };
   }

@@ -1,9 +1,7 @@
 -- Folds over places of which at most one does something.
-use Rattle.std.proofs.Common.{◌≡◌, ◌<◌, ◌≤◌, ◌+◌, ℕ, zero, suc, Bool, true, false, ◌&&◌, eqb, refl, ap, ◌∙◌, arith}
-use Rattle.std.proofs.Common.{inl, inr, if◌then◌else◌}
-use Rattle.std.specs.List.{fold, range_with_len}
-use Rattle.std.proofs.lemmas.Bool.{cases_eq, cond-false}
-use Rattle.std.proofs.lemmas.Bool.Decides.{nat_tests}
+use Rattle.px_num.proofs.Basics.{◌≡◌, ◌<◌, ◌≤◌, ◌+◌, ℕ, zero, suc, Bool, true, false, ◌&&◌, eqb, refl, ap, ◌∙◌, arith}
+use Rattle.px_num.proofs.Basics.{inl, inr, if◌then◌else◌, fold, range_with_len, cases_eq, nat_tests}
+use Rattle.std.proofs.lemmas.Bool.{cond-false}
 use Rattle.px_num.proofs.TruthLaws.{and_false, and_true, eqb_itself, eqb_other}
 
 pub elsewhere : (m : Bool) (i n k : ℕ) → i < n → n ≤ k → (m && eqb i k) ≡ false
@@ -15,8 +13,7 @@ abbrev pub where_test : {S : Type 0} → (ℕ → Bool) → (S → ℕ → S) �
 where_test t f s i = if t i then f s i else s
 
 pub fold_none : {S : Type 0} (t : ℕ → Bool) (f : S → ℕ → S) (s : S) (a n : ℕ)
-    → ((i : ℕ) → a ≤ i → i < a + n → t i ≡ false)
-    → fold (where_test t f) s (range_with_len a n) ≡ s
+    → ((i : ℕ) → a ≤ i → i < a + n → t i ≡ false) → fold (where_test t f) s (range_with_len a n) ≡ s
 fold_none t f s a zero none = refl
 fold_none t f s a (suc n) none =
     ap (λ v. fold (where_test t f) v (range_with_len (a + 1) n))
@@ -29,11 +26,7 @@ pub fold_single : {S : Type 0} (t : ℕ → Bool) (f : S → ℕ → S) (s : S) 
 fold_single t f s a zero k g one low high = absurd (omega arith)
 fold_single t f s a (suc n) k g one low high = elim (cases_eq a k) [
   | inl e ↦
-      let here : t a ≡ g = one a (omega arith) (omega arith) ∙ rw (e, eqb_itself k) (and_true g) in
-      let first : where_test t f s a ≡ (if g then f s k else s) = rw (here, e) refl in
-      ap (λ v. fold (where_test t f) v (range_with_len (a + 1) n)) first
-      ∙ fold_none t f (if g then f s k else s) (a + 1) n (λ i p q. one i (omega arith) (omega arith)
-      ∙ rw (eqb_other i k (λ x. omega arith)) (and_false g))
+      grind (arith, eqb_itself, and_true, fold_none, eqb_other, and_false)
   | inr ne ↦
       let here : t a ≡ false = one a (omega arith) (omega arith) ∙ rw (eqb_other a k ne) (and_false g) in
       ap (λ v. fold (where_test t f) v (range_with_len (a + 1) n)) (cond-false (t a) (f s a) s here)

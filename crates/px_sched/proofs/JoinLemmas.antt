@@ -1,12 +1,11 @@
 -- The least key found is that of the first depth at which the products show something, with the least number there.
-use Rattle.std.proofs.Common.{◌≡◌, ◌<◌, ◌≤◌, ◌+◌, ◌*◌, ◌^◌, ◌&&◌, ℕ, zero, suc, nat_le, Bool, true, false, not}
-use Rattle.std.proofs.Common.{nat_lt, List, length, min, refl, ap, sym, ◌∙◌, arith, inl, inr, ◌⊎◌, eqb}
-use Rattle.std.specs.List.{All, fold, flat_map, list_all}
-use Rattle.std.proofs.lemmas.Bool.{cases_Bool}
+use Rattle.px_num.proofs.Basics.{nat_tests, common_steps, ◌≡◌, ◌<◌, ◌≤◌, ◌+◌, ◌*◌, ◌^◌, ◌&&◌, ℕ, zero, suc, nat_le}
+use Rattle.px_num.proofs.Basics.{Bool, true, false, not, nat_lt, List, length, min, refl, ap, ◌∙◌, arith, inl, inr, ◌⊎◌}
+use Rattle.px_num.proofs.Basics.{eqb, All, fold, flat_map, list_all, cases_Bool}
 use Rattle.px_num.proofs.TruthLaws.{and_false, and_left, and_right, eqb_holds, first_of_three, lt_false, lt_holds}
 use Rattle.px_num.proofs.TruthLaws.{lt_true, third_of_three}
-use Rattle.px_model.specs.Scenes.{AreNumberedFrom, IsNumberedFrom, SceneView, faces_of}
-use Rattle.px_model.specs.Scenes.{IsLawfulSolid, SolidView, faces_in}
+use Rattle.px_model.specs.Scenes.{AreNumberedFrom, IsNumberedFrom, SceneView, faces_of, IsLawfulSolid, SolidView}
+use Rattle.px_model.specs.Scenes.{faces_in}
 use Rattle.px_model.specs.Cells.{Depths, cell_of, depths_of, end_of, enters_at, far_of, is_inside, is_inside_before}
 use Rattle.px_model.specs.Cells.{leaf_cell, leaves_at, value_of}
 use Rattle.px_face.specs.Covering.{CellsLaw, CoveringLaw, covering_back, is_met}
@@ -16,10 +15,9 @@ use Rattle.px_sched.specs.declared.literal.Literal.{Literal}
 use Rattle.px_sched.specs.Numbers.{KeyedPixel, key}
 use Rattle.px_sched.specs.Passes.{literals, no_solid, others, solid_of}
 use Rattle.px_sched.proofs.RunLemmas.{suits}
-use Rattle.px_sched.proofs.BlockLemmas.{all_found, cell_found, is_covered, is_found, keys_found}
-use Rattle.px_sched.proofs.BlockLemmas.{number_found, suited}
-use Rattle.px_sched.proofs.MemberLaws.{In, all_kept, all_of, any_in, any_out, in_filter, in_flat, in_where}
-use Rattle.px_sched.proofs.MemberLaws.{min_below, min_reached, min_start, one_of, out_flat}
+use Rattle.px_sched.proofs.BlockLemmas.{all_found, cell_found, is_covered, is_found, keys_found, number_found, suited}
+use Rattle.px_sched.proofs.MemberLaws.{In, all_kept, all_of, any_in, any_out, in_filter, in_flat, in_where, min_below}
+use Rattle.px_sched.proofs.MemberLaws.{min_reached, min_start, one_of, out_flat}
 use Rattle.px_sched.proofs.LiteralLemmas.{backs_below, barred_seen, barred_there, fronts_below, plain_seen, plain_shows}
 use Rattle.px_sched.proofs.ProductLaws.{IsFit, each_holds, holds_there, numbered_at, shown_of, shows_out, shows_there}
 
@@ -37,33 +35,14 @@ module _ (covering : CoveringLaw) (cells : CellsLaw) (d : Depths) (s : SolidView
     where
       last_of : (m : Bool) (first last c : ℕ) → last ≡ c → (m && nat_le first c && nat_lt c last) ≡ false
       last_of false first last c h = refl
-      last_of true first last c h = let past : nat_lt c last ≡ false = lt_false c last (omega arith) in
-          rw past (and_false (nat_le first c))
+      last_of true first last c h = grind (arith, lt_false, and_false)
 
   met_inside : (z : ℕ) → is_inside s d x y z ≡ true → is_met s (end_of d) x y ≡ true
-  met_inside z inside =
-      first_of_three (is_met s (end_of d) x y) (nat_le (cell_of d (enters_at s x y)) z)
-      (nat_lt z (cell_of d (leaves_at s (end_of d) x y))) (sym ((cells s d x y).cells z) ∙ inside)
+  met_inside z inside = grind (arith, first_of_three)
 
   is_candidate : (plain : Bool) → is_found s plain d x y ≡ true → IsCandidate plain
   is_candidate true found =
-      let c = cell_of d (enters_at s x y) in
-      let inside = and_right (is_met s (end_of d) x y) (is_inside s d x y c) found in
-      let met = and_left (is_met s (end_of d) x y) (is_inside s d x y c) found in
-      record {
-        within = let le = (cells s d x y).within met in
-            omega (
-              arith,
-              le,
-              before (is_met s (end_of d) x y) c (cell_of d (leaves_at s (end_of d) x y))
-                  (sym ((cells s d x y).cells c) ∙ inside),
-            );
-        suited = inside;
-        shown = plain_shows covering s d x y;
-      }
-    where
-      before : (m : Bool) (c last : ℕ) → (m && nat_le c c && nat_lt c last) ≡ true → c < last
-      before m c last h = lt_holds c last (third_of_three m (nat_le c c) (nat_lt c last) h)
+      grind (arith, nat_tests, common_steps, and_right, and_left, suited, plain_shows, lt_holds, third_of_three)
   is_candidate false found =
       let c = cell_of d (leaves_at s (end_of d) x y) in
       let both = and_left (is_covered s false (end_of d) x y) (is_inside_before s d x y c) found in
@@ -84,20 +63,10 @@ module _ (covering : CoveringLaw) (cells : CellsLaw) (d : Depths) (s : SolidView
 
   is_seen : (plain : Bool) (z n : ℕ) → IsLawfulSolid s → suits s plain (end_of d) x y (value_of d z) ≡ true
       → In n (shown_of s plain d x y z) → IsSeen plain z n
-  is_seen true z n lawful inside shown =
-      let r = plain_seen covering s d x y lawful z n shown in
-      record {
-        found = rw (r.cell, met_inside z inside) inside;
-        cell = r.cell;
-        number = r.number;
-      }
+  is_seen true z n lawful inside shown = grind (arith, plain_seen covering s d x y lawful z n shown, met_inside)
   is_seen false z n lawful outside shown =
       let r = barred_seen covering s d x y lawful z n shown in
-      record {
-        found = rw (r.cell, met_before z r.before, lt_true _ _ r.there) r.before;
-        cell = r.cell;
-        number = r.number;
-      }
+      grind (arith, lt_true)
     where
       met_before : (z : ℕ) → is_inside_before s d x y z ≡ true → is_met s (end_of d) x y ≡ true
       met_before zero e = absurd (cc)
@@ -141,25 +110,16 @@ module _ (covering : CoveringLaw) (cells : CellsLaw) (scene : SceneView) (lawful
       let c = in_where (is_found s q.plain d l.x l.y && list_all (suited scene l z) (others q p)) k
       (key l (value_of d z) n) b.gives in
       let here = and_left (is_found s q.plain d l.x l.y) (list_all (suited scene l z) (others q p)) c.0 in
-      let rest = and_right (is_found s q.plain d l.x l.y) (list_all (suited scene l z) (others q p)) c.0 in
       let found = is_candidate covering cells d s l.x l.y q.plain here in
       let each : (r : Literal) → In r (literals p) → suited scene l z r ≡ true =
       λ r there. elim (differs r.solid q.solid) [
         | inl e ↦ ap (suited scene l z) (whole.once q r b.there there (eqb_holds r.solid q.solid e)) ∙ found.suited
-        | inr e ↦ one_of (suited scene l z) (others q p) r (in_filter (λ t. not (eqb t.solid q.solid)) (literals p) r
-            there e) rest
+        | inr e ↦ grind (arith, one_of, suited, in_filter)
       ] in
       let at = leaf_cell scene.solids d l.x l.y z in
       let shows_p : (holds at p && shows at n p) ≡ true =
       rw (holds_there scene l p whole z each) (shows_there scene l p whole z n q b.there found.shown) in
-      record {
-        depth = z;
-        number = n;
-        within = found.within;
-        shown = any_in (λ p. holds at p && shows at n p) products
-            p a.there shows_p;
-        is = sym c.1;
-      }
+      grind (arith, any_in)
 
   record IsFoundKey (z n : ℕ) : Type 0 where
     is : ℕ
@@ -221,9 +181,5 @@ module _ (covering : CoveringLaw) (cells : CellsLaw) (scene : SceneView) (lawful
         background = min_start (key l (value_of d far) 0) found;
         below = λ z n low h. let r = complete z n low h in
             (omega (arith, min_below (key l (value_of d far) 0) found r.is r.there, r.least), r.small);
-        reached = elim (min_reached (key l (value_of d far) 0) found) [
-          | inl e ↦ inl e
-          | inr h ↦
-              inr (sound (fold min (key l (value_of d far) 0) found) h)
-        ];
+        reached = grind (arith, min_reached, sound);
       }

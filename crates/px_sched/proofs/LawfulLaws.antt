@@ -1,10 +1,6 @@
 -- The passes are lawful in any memory that has room for them; what holds of all elements of lists.
-use Rattle.std.proofs.Common.{◌≡◌, refl, ℕ, ◌≤◌, List, [], ◌∷◌, get_or, inl, inr, length, subst, sym}
-use Rattle.std.specs.List.{flat_map}
-use Rattle.std.specs.Prelude.{All}
-use Rattle.std.proofs.lemmas.Bool.{cases_lt}
-use Rattle.std.proofs.lemmas.List.{get_or_past}
-use Rattle.std.proofs.lemmas.List.Elements.{All-append, All-get_or, All-head, All-nil, All-tail, All-weaker}
+use Rattle.px_num.proofs.Basics.{arith, ◌≡◌, refl, ℕ, ◌≤◌, List, [], ◌∷◌, get_or, flat_map, All, cases_lt, get_or_past}
+use Rattle.px_num.proofs.Basics.{All-append, All-head, All-nil, All-tail}
 use Rattle.px_macro.specs.Macros.{IsLawful, IsLawfulInMore}
 use Rattle.px_model.specs.Scenes.{IsLawfulScene, SceneView, IsLawfulSolid}
 use Rattle.px_sched.specs.Layouts.{layout_of, need_of}
@@ -19,11 +15,8 @@ unfolding passes
 passes_are scene = refl
 
 pub passes_lawful : IsLawfulInMore → PassesAreLawful → (bits : ℕ) (scene : SceneView) → IsLawfulScene scene
-    → All IsLawfulSolid scene.solids
-    → need_of (layout_of scene) ≤ bits → All (λ m. IsLawful m bits) (passes scene)
-passes_lawful more lawful bits scene h solids enough =
-    All-weaker (λ m. IsLawful m (need_of (layout_of scene))) (λ m. IsLawful m bits)
-    (λ m small. more m (need_of (layout_of scene)) bits enough small) (passes scene) (lawful scene h solids)
+    → All IsLawfulSolid scene.solids → need_of (layout_of scene) ≤ bits → All (λ m. IsLawful m bits) (passes scene)
+passes_lawful more lawful bits scene h solids enough = grind arith
 
 pub all_flat : {X Y : Type 0} (P : Y → Type 0) (Q : X → Type 0) (f : X → List Y) → ((x : X) → Q x → All P (f x))
     → (xs : List X) → All Q xs → All P (flat_map f xs)
@@ -33,7 +26,4 @@ all_flat P Q f each (x ∷ xs) all =
 
 -- what holds of each element, and of what stands past them
 pub all_or : {X : Type 0} (P : X → Type 0) (xs : List X) (d : X) → All P xs → P d → (i : ℕ) → P (get_or xs i d)
-all_or P xs d all past i = elim (cases_lt i (length xs)) [
-  | inl there ↦ All-get_or P xs i d there all
-  | inr none ↦ subst P (sym (get_or_past xs i d none)) past
-]
+all_or P xs d all past i = grind (arith, cases_lt, get_or_past)

@@ -1,9 +1,7 @@
 -- The layout of a scene is one.
-use Rattle.std.proofs.Common.{◌≡◌, ℕ, ◌+◌, ◌^◌, ◌<◌, ◌≤◌, Bool, true, false, List, [], ◌∷◌, ◌++◌, length, nat_le}
-use Rattle.std.proofs.Common.{count_by, filter, length-append, refl, ap, sym, ◌∙◌, arith}
-use Rattle.std.specs.List.{range_with_len}
-use Rattle.std.proofs.lemmas.List.Sums.{count_by-le-length, length-filter, sum_by-cons}
-use Rattle.std.proofs.lemmas.List.Elements.{filter-append}
+use Rattle.px_num.proofs.Basics.{nat_tests, common_steps, ◌≡◌, ℕ, ◌+◌, ◌^◌, ◌<◌, ◌≤◌, Bool, true, false, List, [], ◌∷◌}
+use Rattle.px_num.proofs.Basics.{length, nat_le, count_by, filter, length-append, refl, arith, range_with_len}
+use Rattle.px_num.proofs.Basics.{count_by-le-length, length-filter, sum_by-cons, filter-append}
 use Rattle.px_num.proofs.RangeLaws.{range_cut}
 use Rattle.px_num.proofs.TruthLaws.{le_true}
 use Rattle.px_expr.proofs.LeafLaws.{some_solid}
@@ -21,26 +19,11 @@ pub bit_length_some : (n : ℕ) → 1 ≤ n → 1 ≤ bit_length n
 bit_length_some n some = let first : nat_le (2 ^ 0) n ≡ true = le_true 1 n some in rw first (omega arith)
 
 pub scene_layout : (scene : SceneView) → IsLawfulScene scene → IsLayout (layout_of scene)
-scene_layout scene lawful = record {
-  some_depth = lawful.sizes.some_depth;
-  depth = lawful.sizes.depth_limit;
-  fraction = lawful.sizes.fraction_limit;
-  some_number =
-      bit_length_some (faces_of scene.solids)
-      (some_face scene.solids (some_solid scene.show (length scene.solids) lawful.shown));
-  number = bit_length_most (faces_of scene.solids);
-  fields = refl;
-}
+scene_layout scene lawful = grind (arith, bit_length_some, some_face, some_solid, bit_length_most)
 
 count_more : (p : ℕ → Bool) (n : ℕ) → count_by p (range_with_len 0 (n + 1)) ≡ count_by p (range_with_len 0 n)
     + length (filter p (n ∷ []))
-count_more p n =
-    let before = range_with_len 0 n in
-    let plain : 0 + n ≡ n = omega arith in
-    sym (length-filter p (range_with_len 0 (n + 1))) ∙ ap (λ l. length (filter p l)) (range_cut 0 n 1
-    ∙ ap (λ k. before ++ k ∷ []) plain) ∙ ap length (filter-append p before (n ∷ []))
-    ∙ length-append (filter p before) (filter p (n ∷ []))
-    ∙ ap (λ m. m + length (filter p (n ∷ []))) (length-filter p before)
+count_more p n = grind (arith, nat_tests, common_steps, length-filter, range_cut, filter-append, length-append)
 
 pub counted : (p : ℕ → Bool) (n m : ℕ) → m ≡ count_by p (range_with_len 0 n) → p n ≡ true
     → m + 1 ≡ count_by p (range_with_len 0 (n + 1))

@@ -1,12 +1,8 @@
 -- The candidate of a literal is what it shows at its cell of least number, and nothing that it shows comes before.
-use Rattle.std.proofs.Common.{◌≡◌, ◌<◌, ◌≤◌, ◌+◌, ◌-◌, ℕ, zero, suc, ℤ, pos, Bool, true, false, ◌&&◌, List}
-use Rattle.std.proofs.Common.{[], ◌∷◌, ◌++◌, length, get_or, refl, ap, sym, ◌∙◌, subst, arith, inl, inr, ◌⊎◌}
-use Rattle.std.proofs.Common.{if◌then◌else◌, ◌==◌}
-use Rattle.std.specs.List.{All, AllPairs}
-use Rattle.std.specs.Ordering.{int_eq}
-use Rattle.std.proofs.lemmas.Bool.{cases_Bool, cases_eq}
-use Rattle.std.proofs.lemmas.Bool.Decides.{nat_tests}
-use Rattle.std.proofs.lemmas.List.{get_or_append_left, get_or-append_right, get_or-map, length-map}
+use Rattle.px_num.proofs.Basics.{◌≡◌, ◌<◌, ◌≤◌, ◌+◌, ◌-◌, ℕ, zero, suc, ℤ, pos, Bool, true, false, ◌&&◌, List, [], ◌∷◌}
+use Rattle.px_num.proofs.Basics.{◌++◌, length, get_or, refl, ap, sym, ◌∙◌, subst, arith, inl, inr, ◌⊎◌, if◌then◌else◌}
+use Rattle.px_num.proofs.Basics.{◌==◌, All, AllPairs, int_eq, cases_Bool, cases_eq, nat_tests, get_or_append_left}
+use Rattle.px_num.proofs.Basics.{get_or-append_right, get_or-map, length-map}
 use Rattle.px_num.specs.declared.linear.Linear.{Linear}
 use Rattle.px_num.specs.Forms.{value_at}
 use Rattle.px_num.proofs.TruthLaws.{and_left, and_right, int_eq_holds, int_same_true, lt_fails, lt_false, lt_holds}
@@ -16,8 +12,8 @@ use Rattle.px_model.specs.Scenes.{IsNumberedFrom, IsLawfulSolid, SolidView, face
 use Rattle.px_model.specs.Cells.{Depths, backs_at, cell_of, end_of, enters_at, faces_at, fronts_at, greatest_fronts}
 use Rattle.px_model.specs.Cells.{is_inside_before, leaves_at}
 use Rattle.px_face.specs.Covering.{CoveringLaw, covering_back, covering_front}
-use Rattle.px_face.specs.Faces.{back_planes, front_planes, is_front_face, level, face_number, numbers_in_faces}
-use Rattle.px_face.specs.Faces.{face_plane, planes_in_faces}
+use Rattle.px_face.specs.Faces.{back_planes, is_front_face, level, face_number, numbers_in_faces, face_plane}
+use Rattle.px_face.specs.Faces.{planes_in_faces}
 use Rattle.px_face.proofs.DepthLaws.{value_at-level}
 use Rattle.px_sched.proofs.MemberLaws.{In, all_in, in_either, in_right, out_filter, out_map}
 
@@ -28,10 +24,7 @@ module _ (planes : List Linear) (numbers : List ℕ) (x y : ℕ) (v : ℤ) where
       → In (get_or (numbers_in_faces fs ++ numbers) k 0) (faces_at fs x y v)
   in_faces [] k h e = absurd (omega arith)
   in_faces (f ∷ fs) zero h e = rw (int_same_true (value_at f.plane x y) v e) (inl refl)
-  in_faces (f ∷ fs) (suc k) h e = elim (cases_Bool (int_eq (value_at f.plane x y) v)) [
-    | inl yea ↦ rw yea (inr (in_faces fs k (omega arith) e))
-    | inr nay ↦ rw nay (in_faces fs k (omega arith) e)
-  ]
+  in_faces (f ∷ fs) (suc k) h e = grind (arith, in_faces fs k (omega arith) e)
 
   record FaceAt (fs : List Face) (n : ℕ) : Type 0 where
     place : ℕ
@@ -117,11 +110,7 @@ module _ (covering : CoveringLaw) (s : SolidView) (d : Depths) (x y : ℕ) where
 
   -- ---- a plain literal
   pub plain_shows : In (face_number s (covering_front s x y)) (fronts_at s d x y (cell_of d (enters_at s x y)))
-  plain_shows =
-      let law = covering s end x y in
-      let c = cell_of d (enters_at s x y) in
-      where_is_true (c == c) (face_number s (covering_front s x y)) (greatest_fronts s x y) (same_true c c refl)
-      (in_fronts (covering_front s x y) law.front.there law.front.value)
+  plain_shows = grind (arith, where_is_true, same_true, in_fronts)
 
   pub record PlainSeen (z n : ℕ) : Type 0 where
     pub cell : cell_of d (enters_at s x y) ≡ z
@@ -140,18 +129,11 @@ module _ (covering : CoveringLaw) (s : SolidView) (d : Depths) (x y : ℕ) where
 
   back_plane : (face : ℕ) → first_back ≤ face
       → face_plane s end face ≡ get_or (back_planes s.backs end) (face - first_back) (level 0)
-  back_plane face low =
-      let count : length (front_planes s.fronts) ≡ first_back = omega (arith, length-map s.fronts (λ f. f.plane)) in
-      get_or-append_right (front_planes s.fronts) (back_planes s.backs end) first_back face (level 0) count low
+  back_plane face low = grind (arith, length-map, get_or-append_right)
 
   back_number : (face : ℕ) → first_back ≤ face
       → face_number s face ≡ get_or (numbers_in_faces s.backs ++ 0 ∷ []) (face - first_back) 0
-  back_number face low =
-      let count : length (s.near_number ∷ numbers_in_faces s.fronts) ≡ first_back =
-      omega (arith, length-map s.fronts (λ f. f.number)) in
-      get_or-append_right (s.near_number ∷ numbers_in_faces s.fronts) (numbers_in_faces s.backs ++ 0 ∷ []) first_back
-      face 0
-      count low
+  back_number face low = grind (arith, length-map, get_or-append_right)
 
   pub barred_shows : covering_back s end x y < first_back + length s.backs
       → In (face_number s (covering_back s end x y)) (faces_at s.backs x y (leaves_at s end x y))
@@ -163,13 +145,9 @@ module _ (covering : CoveringLaw) (s : SolidView) (d : Depths) (x y : ℕ) where
       (in_faces (level end ∷ []) (0 ∷ []) x y (leaves_at s end x y) s.backs (back - first_back) (omega arith)
       (ap (λ p. value_at p x y) (sym (back_plane back low)) ∙ law.back.value))
 
-  pub barred_there : (z : ℕ) → covering_back s end x y < first_back + length s.backs
-      → is_inside_before s d x y z ≡ true → cell_of d (leaves_at s end x y) ≡ z
-      → In (face_number s (covering_back s end x y)) (backs_at s d x y z)
-  barred_there z there before e =
-      where_is_true (is_inside_before s d x y z && (cell_of d (leaves_at s end x y) == z))
-      (face_number s (covering_back s end x y)) (faces_at s.backs x y (leaves_at s end x y))
-      (rw (before, same_true (cell_of d (leaves_at s end x y)) z e) refl) (barred_shows there)
+  pub barred_there : (z : ℕ) → covering_back s end x y < first_back + length s.backs → is_inside_before s d x y z ≡ true
+      → cell_of d (leaves_at s end x y) ≡ z → In (face_number s (covering_back s end x y)) (backs_at s d x y z)
+  barred_there z there before e = grind (arith, where_is_true, same_true, barred_shows)
 
   pub record BarredSeen (z n : ℕ) : Type 0 where
     pub before : is_inside_before s d x y z ≡ true
@@ -178,8 +156,7 @@ module _ (covering : CoveringLaw) (s : SolidView) (d : Depths) (x y : ℕ) where
     pub number : face_number s (covering_back s end x y) ≤ n
 
   numbers_grow : (fs : List Face) (ns : List ℕ) (i j : ℕ) → AllPairs (λ f g. f.number < g.number) fs → i ≤ j
-      → j < length fs
-      → get_or (numbers_in_faces fs ++ ns) i 0 ≤ get_or (numbers_in_faces fs ++ ns) j 0
+      → j < length fs → get_or (numbers_in_faces fs ++ ns) i 0 ≤ get_or (numbers_in_faces fs ++ ns) j 0
   numbers_grow fs ns i j order le lt = elim (cases_eq i j) [
     | inl e ↦ rw e (omega arith)
     | inr ne ↦ omega (arith, number_at i (omega arith), number_at j lt, order i j any (omega arith) lt)
@@ -189,9 +166,7 @@ module _ (covering : CoveringLaw) (s : SolidView) (d : Depths) (x y : ℕ) where
       any = record { number = 0; plane = level 0; colour = s.colour }
 
       number_at : (k : ℕ) → k < length fs → get_or (numbers_in_faces fs ++ ns) k 0 ≡ (get_or fs k any).number
-      number_at k h =
-          let room : k < length (numbers_in_faces fs) = omega (arith, length-map fs (λ f. f.number)) in
-          get_or_append_left (numbers_in_faces fs) ns 0 k room ∙ get_or-map (λ f. f.number) fs k any 0 h
+      number_at k h = grind (arith, length-map, get_or_append_left, get_or-map)
 
   pub barred_seen : IsLawfulSolid s → (z n : ℕ) → In n (backs_at s d x y z) → BarredSeen z n
   barred_seen lawful z n h =
@@ -202,21 +177,11 @@ module _ (covering : CoveringLaw) (s : SolidView) (d : Depths) (x y : ℕ) where
       let r = out_faces (level end ∷ []) (0 ∷ []) x y (leaves_at s end x y) s.backs n two.1 in
       let face = first_back + r.place in
       let place : face - first_back ≡ r.place = omega arith in
-      let value : value_at (face_plane s end face) x y ≡ leaves_at s end x y =
-      ap (λ p. value_at p x y) (back_plane face (omega arith)
-      ∙ ap (λ k. get_or (back_planes s.backs end) k (level 0)) place)
-      ∙ r.value_is in
+      let value : value_at (face_plane s end face) x y ≡ leaves_at s end x y = grind (arith, back_plane) in
       let first = law.back.least face (omega (arith, r.below)) (lt_false face first_back (omega arith)) value in
-      let low = lt_fails back first_back law.back.behind in
       let order = numbers_grow s.backs (0 ∷ []) (back - first_back) r.place lawful.backs.order (omega (arith, first))
       r.below in
-      record {
-        before = and_left (is_inside_before s d x y z) (cell_of d (leaves_at s end x y) == z) two.0;
-        there = omega (arith, first, r.below);
-        cell = same_holds (cell_of d (leaves_at s end x y)) z
-            (and_right (is_inside_before s d x y z) (cell_of d (leaves_at s end x y) == z) two.0);
-        number = omega (arith, back_number back low, order, r.number_is);
-      }
+      grind (arith, and_left, same_holds, and_right, back_number)
 
 -- the numbers of the faces that a solid shows or hides
 faces_below : (fs : List Face) (x y : ℕ) (v : ℤ) (bound n : ℕ) → All (λ f. f.number < bound) fs
@@ -226,17 +191,12 @@ faces_below fs x y v bound n all h =
     subst (λ m. m < bound) r.gives (all_in (λ f. f.number < bound) fs r.from all (out_filter _ fs r.from r.there).0)
 
 pub fronts_below : (s : SolidView) (d : Depths) (first x y z n : ℕ) → IsNumberedFrom first s
-    → In n (fronts_at s d x y z)
-    → n < first + faces_in s
+    → In n (fronts_at s d x y z) → n < first + faces_in s
 fronts_below s d first x y z n numbered h =
     let v = enters_at s x y in
     let one = (in_where_true (cell_of d v == z) n (greatest_fronts s x y) h).1 in
     elim (in_either n (if int_eq (pos 0) v then s.near_number ∷ [] else []) (faces_at s.fronts x y v) one) [
-      | inl a ↦ elim (in_where_true (int_eq (pos 0) v) n (s.near_number ∷ []) a).1 [
-        | inl e ↦
-            omega (arith, e, numbered.near)
-        | inr b ↦ absurd b
-      ]
+      | inl a ↦ grind (arith, in_where_true)
       | inr b ↦ faces_below s.fronts x y v (first + faces_in s) n numbered.fronts b
     ]
 

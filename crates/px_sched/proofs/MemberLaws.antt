@@ -1,10 +1,7 @@
 -- Members of lists, by their places too, and the least of them.
-use Rattle.std.proofs.Common.{◌≡◌, ◌≤◌, ◌+◌, ℕ, zero, suc, get_or, length, Bool, true, false, List, [], ◌∷◌, ◌++◌}
-use Rattle.std.proofs.Common.{map, min, refl, ap, sym}
-use Rattle.std.proofs.Common.{◌∙◌, subst, arith, inl, inr, ◌⊎◌, if◌then◌else◌, ◌==◌}
-use Rattle.std.specs.List.{All, filter, flat_map, fold, list_all, list_any, range_with_len}
-use Rattle.std.proofs.lemmas.Bool.{cases_Bool}
-use Rattle.std.proofs.lemmas.Bool.Decides.{nat_tests}
+use Rattle.px_num.proofs.Basics.{◌≡◌, ◌≤◌, ◌+◌, ℕ, zero, suc, get_or, length, Bool, true, false, List, [], ◌∷◌, ◌++◌}
+use Rattle.px_num.proofs.Basics.{map, min, refl, ap, sym, ◌∙◌, subst, arith, inl, inr, ◌⊎◌, if◌then◌else◌, ◌==◌, All}
+use Rattle.px_num.proofs.Basics.{filter, flat_map, fold, list_all, list_any, range_with_len, cases_Bool, nat_tests}
 use Rattle.px_num.proofs.TruthLaws.{and_left, and_right, or_true}
 use Rattle.px_expr.specs.Cells.{has_face}
 
@@ -61,21 +58,11 @@ out_map f (x ∷ xs) y (inr h) = later (λ x. f x ≡ y) x xs (out_map f xs y h)
 pub in_filter : {X : Type 0} (f : X → Bool) (xs : List X) (x : X) → In x xs → f x ≡ true → In x (filter f xs)
 in_filter f [] x h e = absurd h
 in_filter f (y ∷ ys) x (inl g) e = let here : f y ≡ true = ap f g ∙ e in rw here (inl g)
-in_filter f (y ∷ ys) x (inr h) e = elim (cases_Bool (f y)) [
-  | inl yea ↦ rw yea (inr (in_filter f ys x h e))
-  | inr nay ↦ rw nay (in_filter f ys x h e)
-]
+in_filter f (y ∷ ys) x (inr h) e = grind (arith, in_filter f ys x h e)
 
 pub out_filter : {X : Type 0} (f : X → Bool) (xs : List X) (x : X) → In x (filter f xs) → In x xs × (f x ≡ true)
 out_filter f [] x h = absurd h
-out_filter f (y ∷ ys) x h = elim (cases_Bool (f y)) [
-  | inl yea ↦ first yea (out_filter f ys x) (rw yea at h)
-  | inr nay ↦ let r = out_filter f ys x (rw nay at h) in (inr r.0, r.1)
-] where
-  first : f y ≡ true → (In x (filter f ys) → In x ys × (f x ≡ true)) → (y ≡ x) ⊎ In x (filter f ys)
-      → In x (y ∷ ys) × (f x ≡ true)
-  first yea others (inl e) = (inl e, sym (ap f e) ∙ yea)
-  first yea others (inr k) = let r = others k in (inr r.0, r.1)
+out_filter f (y ∷ ys) x h = grind (arith, out_filter f ys x)
 
 pub all_of : {X : Type 0} (t : X → Bool) (xs : List X) → ((x : X) → In x xs → t x ≡ true) → list_all t xs ≡ true
 all_of t [] h = refl
@@ -119,11 +106,7 @@ shift f g same a (suc n) = rw (same a, shift f g same (a + 1) n) refl
 
 pub by_places : {X : Type 0} (d : X) (xs : List X) → map (λ i. get_or xs i d) (range_with_len 0 (length xs)) ≡ xs
 by_places d [] = refl
-by_places d (x ∷ xs) =
-    ap (λ ys. x ∷ ys) (shift (λ i. get_or (x ∷ xs) i d) (λ i. get_or xs i d) next 0 (length xs) ∙ by_places d xs)
-  where
-    next : (i : ℕ) → get_or (x ∷ xs) (i + 1) d ≡ get_or xs i d
-    next i = let e : i + 1 ≡ suc i = omega arith in rw e refl
+by_places d (x ∷ xs) = grind (arith, shift, by_places d xs)
 
 -- faces by their numbers
 pub face_in : (n : ℕ) (ns : List ℕ) → has_face n ns ≡ true → In n ns
@@ -151,7 +134,4 @@ lesser b k m e = grind arith
 
 pub min_reached : (b : ℕ) (ks : List ℕ) → (fold min b ks ≡ b) ⊎ In (fold min b ks) ks
 min_reached b [] = inl refl
-min_reached b (k ∷ ks) = elim (min_reached (min b k) ks) [
-  | inl e ↦ elim (lesser b k (fold min (min b k) ks) e) [ inl f ↦ inl f | inr g ↦ inr (inl g) ]
-  | inr h ↦ inr (inr h)
-]
+min_reached b (k ∷ ks) = grind (arith, lesser, min_reached (min b k) ks)

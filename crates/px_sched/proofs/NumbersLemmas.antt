@@ -1,10 +1,8 @@
 -- The passes leave the key of the picture.
-use Rattle.std.proofs.Common.{◌≡◌, ◌<◌, ◌≤◌, ◌+◌, ◌*◌, ◌^◌, ◌&&◌, ℕ, zero, suc, Bool, true, false, List, [], ◌∷◌}
-use Rattle.std.proofs.Common.{length, min, Option, Some, None, refl, ap, sym, ◌∙◌, subst, arith, inl, inr, fold}
-use Rattle.std.specs.List.{All}
-use Rattle.std.proofs.Math.Nat.{mul-le-mul, mul-le-mul_left}
-use Rattle.std.proofs.lemmas.Bool.{cases_lt, cases_order}
-use Rattle.std.proofs.lemmas.Nat.{pow_pos}
+use Rattle.px_num.proofs.Basics.{rules, ◌≡◌, ◌<◌, ◌≤◌, ◌*◌, ◌^◌, ◌&&◌, ℕ, zero, suc, Bool, true, false, List, [], ◌∷◌}
+use Rattle.px_num.proofs.Basics.{length, min, Option, Some, None, refl, ap, sym, ◌∙◌, arith, inl, inr, fold, All}
+use Rattle.px_num.proofs.Basics.{mul-le-mul, mul-le-mul_left, cases_lt, pow_pos}
+use Rattle.std.proofs.lemmas.Bool.{cases_order}
 use Rattle.px_num.proofs.TruthLaws.{and_left, and_right, min_cases, never}
 use Rattle.px_expr.specs.Cells.{Cell, cell, has_face}
 use Rattle.px_expr.specs.Tree.{HasLeavesBelow, Tree}
@@ -31,10 +29,7 @@ use Rattle.px_sched.proofs.JoinLemmas.{best_is_least}
 least_in : (ns : List ℕ) → 0 < length ns → In (least ns) ns
 least_in [] h = absurd (omega arith)
 least_in (n ∷ []) h = inl refl
-least_in (n ∷ m ∷ ns) h = elim (min_cases n (least (m ∷ ns))) [
-  | inl e ↦ inl (sym e)
-  | inr e ↦ inr (subst (λ k. In k (m ∷ ns)) (sym e) (least_in (m ∷ ns) (omega arith)))
-]
+least_in (n ∷ m ∷ ns) h = grind (arith, min_cases, least_in (m ∷ ns) (omega arith))
 
 least_below : (ns : List ℕ) (n : ℕ) → In n ns → least ns ≤ n
 least_below [] n h = absurd h
@@ -46,14 +41,7 @@ least_below (m ∷ k ∷ ns) n (inr h) = omega (arith, least_below (k ∷ ns) n 
 -- keys are in the order of depth and then of number
 key_before : (l : KeyedPixel) (d : Depths) (y z m n : ℕ) → y < z → m < 2 ^ l.number_bits → key l (value_of d y) m
     < key l (value_of d z) n
-key_before l d y z m n h small =
-    let f = 2 ^ d.fraction_bits in
-    let some : 0 < f = pow_pos d.fraction_bits in
-    let min_cases : (y + 1) * f ≡ y * f + f = grind arith in
-    let more : y + 1 ≤ z = omega arith in
-    let le : (y + 1) * f ≤ z * f = mul-le-mul more (omega arith) in
-    let e : value_of d y + 1 ≤ value_of d z = omega (arith, le, min_cases, some) in
-    omega (arith, mul-le-mul_left (2 ^ l.number_bits) e)
+key_before l d y z m n h small = grind (arith, pow_pos, min_cases, mul-le-mul, mul-le-mul_left)
 
 -- the laws of the lower crates
 pub record Laws : Type 0 where
@@ -109,9 +97,7 @@ module _ (laws : Laws) (scene : SceneView) (lawful : IsLawfulScene scene) (l : K
 
   -- the kept products show what the expression shows
   kept_show : (z n : ℕ) → z < far → some_shows (at z) n kept ≡ ((seen z).member && has_face n (seen z).shown)
-  kept_show z n low =
-      (laws.pruning scene lawful whole l.x l.y z place.left place.up low).faces n
-      ∙ (laws.normal scene.show below_256 (at z)).shown n
+  kept_show z n low = grind (arith, below_256)
 
   each_fit : (p : Product) → In p kept → IsFit (length scene.solids) p
   each_fit p there =
@@ -165,23 +151,12 @@ module _ (laws : Laws) (scene : SceneView) (lawful : IsLawfulScene scene) (l : K
         member_at z n low h = and_left (test z) (has_face n (seen z).shown) (sym (kept_show z n low) ∙ h)
 
         shown_at : (t z n : ℕ) → t ≡ z → t < far → some_shows (at z) n kept ≡ true → In n (seen t).shown
-        shown_at t z n same low h =
-            face_in n (seen t).shown (and_right (test t) (has_face n (seen t).shown) (sym (kept_show t n low)
-            ∙ ap (λ k. some_shows (at k) n kept) same ∙ h))
+        shown_at t z n same low h = grind (arith, face_in, and_right, kept_show)
 
     at_none : ((z : ℕ) → z < far → test z ≡ false) → IsKeyOf l (sight_at scene l.x l.y None) best
     at_none none =
         let b = best_is_least laws.covering laws.cells scene solids lawful.numbers l kept each_fit in
-        let is_key : best ≡ key l (value_of d far) 0 = elim b.reached [
-          | inl e ↦ e
-          | inr k ↦ elim (cases_lt k.depth far) [
-            | inl before ↦
-                absurd (never (test k.depth) (none k.depth before) (and_left (test k.depth)
-                (has_face k.number (seen k.depth).shown) (sym (kept_show k.depth k.number before) ∙ k.shown)))
-            | inr past ↦ let last : k.depth ≡ far = omega (arith, k.within) in
-                omega (arith, k.is, b.background, ap (λ z. 2 ^ l.number_bits * value_of d z) last)
-          ]
-        ] in
+        let is_key : best ≡ key l (value_of d far) 0 = grind (arith, cases_lt, never, and_left, kept_show) in
         record { key = is_key ∙ same_key far 0; depth = big; face = pow_pos l.number_bits }
 
     best_found : (found : Option ℕ) → IsFirstOf test far found → IsKeyOf l (sight_at scene l.x l.y found) best
@@ -192,7 +167,4 @@ module _ (laws : Laws) (scene : SceneView) (lawful : IsLawfulScene scene) (l : K
     best_is_picture = best_found (first_cell scene l.x l.y) (laws.first scene l.x l.y)
 
 pub numbers_show_the_picture : Laws → NumbersShowThePicture
-numbers_show_the_picture laws scene lawful solids l place k =
-    let best = steps_best laws.covering laws.parity scene l (room laws scene lawful l place)
-    (kept_of scene (sum_of_products scene.show)) k in
-    subst (IsKeyOf l (picture scene l.x l.y)) (sym best) (best_is_picture laws scene lawful l place solids)
+numbers_show_the_picture laws scene lawful solids l place k = search (rules, steps_best, room, best_is_picture)

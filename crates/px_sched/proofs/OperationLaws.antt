@@ -1,39 +1,34 @@
 -- What holds of all operations of the passes, by the cases of a step; the face of each step is there.
-use Rattle.std.proofs.Common.{◌≡◌, ℕ, ◌+◌, ◌-◌, ◌*◌, ◌^◌, ◌==◌, ◌≤◌, All, Bool, true, false, not, List, [], ◌∷◌}
-use Rattle.std.proofs.Common.{◌++◌}
-use Rattle.std.proofs.Common.{length, map, inl, inr, arith}
-use Rattle.std.specs.List.{flat_map, range_with_len}
-use Rattle.std.proofs.lemmas.Bool.{cases_Bool}
-use Rattle.std.proofs.lemmas.List.Elements.{All-append, All-cons, All-from_recursion, All-map, All-nil, All-push}
+use Rattle.px_num.proofs.Basics.{rules, ◌≡◌, ℕ, ◌+◌, ◌-◌, ◌*◌, ◌^◌, ◌==◌, ◌≤◌, All, Bool, true, false, List, [], ◌∷◌}
+use Rattle.px_num.proofs.Basics.{◌++◌, length, map, inl, inr, arith, flat_map, range_with_len, cases_Bool, All-append}
+use Rattle.px_num.proofs.Basics.{All-cons, All-map, All-push}
+use Rattle.std.proofs.lemmas.List.Elements.{All-from_recursion}
 use Rattle.px_num.specs.Forms.{plus}
 use Rattle.px_num.specs.declared.linear.Linear.{Linear}
 use Rattle.px_num.proofs.RangeLaws.{range_all}
 use Rattle.px_face.specs.Edges.{edges}
 use Rattle.px_face.specs.Faces.{face_count, face_number, face_plane}
 use Rattle.px_macro.specs.declared.operation.Macro.{Macro}
-use Rattle.px_macro.specs.declared.operation.Macro.TheVariants as m
 use Rattle.px_normal.specs.declared.product.Product.{Product}
 use Rattle.px_model.specs.Cells.{Depths, depths_of, end_of}
 use Rattle.px_model.specs.Scenes.{SceneView}
 use Rattle.px_sched.specs.declared.literal.Literal.{Literal}
 use Rattle.px_sched.specs.declared.step.Step.{Step}
-use Rattle.px_sched.specs.declared.step.Step.TheVariants.{Start, Open, Candidate, Drop, Clear, Front, Confirm}
-use Rattle.px_sched.specs.declared.step.Step.TheVariants.{Begin, Turn, Close, Merge}
+use Rattle.px_sched.specs.declared.step.Step.TheVariants.{Start, Open, Candidate, Drop, Clear, Front, Confirm, Begin}
+use Rattle.px_sched.specs.declared.step.Step.TheVariants.{Turn, Close, Merge}
 use Rattle.px_sched.specs.Layouts.{LayoutView, deep_part, fraction_part, number_part}
 use Rattle.px_sched.specs.Passes.{candidate_faces, confirm, judge, keep_covered, literal_at, literal_steps, literals}
 use Rattle.px_sched.specs.Passes.{operations, others, product_steps, solid_of, steps_with, where_fraction, where_passed}
 use Rattle.px_sched.specs.Steps.{HasFace, IsStep, IsThere, passes_with}
 use Rattle.px_sched.proofs.LawfulLaws.{all_flat}
+use Rattle.px_macro.specs.declared.operation.Macro.TheVariants as m
 
 pub anything : {X : Type 0} (xs : List X) → All (λ _. Unit {0}) xs
 anything xs k d low = tt
 
 fraction_all : {X : Type 0} (P : X → Type 0) (d : Depths) (xs : List X) → ((d.fraction_bits == 0) ≡ false → All P xs)
     → All P (where_fraction d xs)
-fraction_all P d xs holds = elim (cases_Bool (d.fraction_bits == 0)) [
-  | inl none ↦ rw none (All-nil P)
-  | inr some ↦ rw some (holds some)
-]
+fraction_all P d xs holds = grind arith
 
 -- each step has a face of its solid, if any
 module _ (scene : SceneView) where
@@ -49,12 +44,8 @@ module _ (scene : SceneView) where
 
   candidates_there : (solid : ℕ) (plain : Bool)
       → All There (map (Candidate solid) (candidate_faces (solid_of scene solid) plain))
-  candidates_there solid true =
-      faces_there (Candidate solid) solid (λ face there. there) 0 (length (solid_of scene solid).fronts + 1)
-      (omega arith)
-  candidates_there solid false =
-      let s = solid_of scene solid in
-      faces_there (Candidate solid) solid (λ face there. there) (length s.fronts + 1) (length s.backs) (omega arith)
+  candidates_there solid true = grind (arith, faces_there)
+  candidates_there solid false = grind (arith, faces_there)
 
   confirm_there : (q : Literal) → All There (confirm scene q)
   confirm_there q =
@@ -164,16 +155,14 @@ module _ (scene : SceneView) (l : LayoutView) (P : Macro → Type 0) (h : HoldsO
       (All-append P (load ∷ clear) last (All-cons P load clear (h.faces.load solid face there)
       (fraction_all P (depths_of scene) zero (λ some. All-from_recursion P zero (h.faces.cleared some, tt))))
       (All-from_recursion P last (h.faces.number solid face, (h.alive true, tt)))))
-  each_operation (Drop solid face) there = passed solid face _ _ there (h.faces.at_most solid face there)
-      (h.alive false)
+  each_operation (Drop solid face) there = search (rules, passed, h.faces.at_most, h.alive)
   each_operation Clear there = All-from_recursion P (operations scene l Clear) (h.all, (h.par, tt))
   each_operation (Front solid face) there = passed solid face _ _ there (h.faces.behind solid face there) h.turned
   each_operation Confirm there =
       All-from_recursion P (operations scene l Confirm) (h.all, (h.where_par false, (h.alive false, tt)))
   each_operation (Begin other) there = All-from_recursion P (operations scene l (Begin other)) (h.all, (h.par, tt))
   each_operation (Turn other solid face) there = passed solid face _ _ there (h.faces.at_most solid face there) h.turned
-  each_operation (Close other plain) there = All-from_recursion P (operations scene l (Close other plain))
-      (h.all, (h.where_par (not plain), (h.alive false, tt)))
+  each_operation (Close other plain) there = grind arith
   each_operation Merge there =
       All-from_recursion P (operations scene l Merge) (h.all, (h.where_alive, (h.less, (h.copy, tt))))
 

@@ -1,11 +1,8 @@
 -- The literals of a product, and what it shows where it holds.
-use Rattle.std.proofs.Common.{◌≡◌, ◌<◌, ◌≤◌, ◌+◌, ℕ, zero, suc, Bool, true, false, not, List, [], ◌∷◌, length}
-use Rattle.std.proofs.Common.{get_or, ap, sym, ◌∙◌, subst, arith, inl, inr, if◌then◌else◌}
-use Rattle.std.specs.List.{filter, list_all, list_any}
-use Rattle.std.specs.Option.{option_map_or}
-use Rattle.std.proofs.lemmas.Bool.{cases_Bool, cases_eq}
-use Rattle.std.proofs.lemmas.List.Sums.{sum_by-cons}
-use Rattle.std.proofs.lemmas.Option.{slice_get-get_or}
+use Rattle.px_num.proofs.Basics.{nat_tests, common_steps, ◌≡◌, ◌<◌, ◌≤◌, ◌+◌, ℕ, zero, suc, Bool, true, false, not}
+use Rattle.px_num.proofs.Basics.{List, [], ◌∷◌, length, get_or, ap, sym, ◌∙◌, subst, arith, inl, inr, if◌then◌else◌}
+use Rattle.px_num.proofs.Basics.{filter, list_all, list_any, option_map_or, cases_Bool, cases_eq, sum_by-cons}
+use Rattle.px_num.proofs.Basics.{slice_get-get_or}
 use Rattle.px_num.proofs.TruthLaws.{and_left, and_right, or_left, or_right}
 use Rattle.px_expr.specs.Cells.{Cell, has_face}
 use Rattle.px_model.specs.Scenes.{AreNumberedFrom, IsNumberedFrom, SceneView, faces_of, SolidView, faces_in}
@@ -21,8 +18,7 @@ use Rattle.px_sched.specs.Numbers.{KeyedPixel}
 use Rattle.px_sched.specs.Passes.{literal, literals, literals_of, no_solid, solid_of}
 use Rattle.px_sched.proofs.BlockLemmas.{suited}
 use Rattle.px_sched.proofs.MemberLaws.{From, In, all_of, any_in, any_out, face_in, in_either, in_face, in_filter}
-use Rattle.px_sched.proofs.MemberLaws.{in_left}
-use Rattle.px_sched.proofs.MemberLaws.{in_map, in_right, one_of, out_filter, out_map}
+use Rattle.px_sched.proofs.MemberLaws.{in_left, in_map, in_right, one_of, out_filter, out_map}
 
 in_below : (n q : ℕ) → In q (below n) → q < n
 in_below zero q h = absurd h
@@ -51,17 +47,14 @@ in_solids_of set q low is = in_filter (has set) (below 256) q (below_in 256 q lo
 
 module _ (p : Product) where
   pub plain_literal : (q : ℕ) → In q (solids p.plain) → In (literal true q) (literals p)
-  plain_literal q h = in_left (literal true q) (literals_of true (solids p.plain))
-      (literals_of false (solids p.barred)) (in_map (literal true) (solids p.plain) q h)
+  plain_literal q h = grind (arith, in_left, in_map)
 
   pub barred_literal : (q : ℕ) → In q (solids p.barred) → In (literal false q) (literals p)
-  barred_literal q h = in_right (literal false q) (literals_of true (solids p.plain))
-      (literals_of false (solids p.barred)) (in_map (literal false) (solids p.barred) q h)
+  barred_literal q h = grind (arith, in_right, in_map)
 
   -- what holds of each plain literal and each barred one
   pub each_literal : (P : Literal → Type 0) → ((q : ℕ) → In q (solids p.plain) → P (literal true q))
-      → ((q : ℕ) → In q (solids p.barred) → P (literal false q))
-      → (r : Literal) → In r (literals p) → P r
+      → ((q : ℕ) → In q (solids p.barred) → P (literal false q)) → (r : Literal) → In r (literals p) → P r
   each_literal P plain barred r h =
       elim (in_either r (literals_of true (solids p.plain)) (literals_of false (solids p.barred)) h) [
         | inl a ↦ let o = out_map (literal true) (solids p.plain) r a in subst P o.gives (plain o.from o.there)
@@ -178,9 +171,4 @@ numbered_at [] first q numbered h = absurd (omega arith)
 numbered_at (s ∷ ss) first zero numbered h =
     record { first = first; numbers = numbered.0; within = omega (arith, sum_by-cons faces_in s ss) }
 numbered_at (s ∷ ss) first (suc q) numbered h =
-    let rest = numbered_at ss (first + faces_in s) q numbered.1 (omega arith) in
-    record {
-      first = rest.first;
-      numbers = rest.numbers;
-      within = omega (arith, rest.within, sum_by-cons faces_in s ss);
-    }
+    grind (arith, nat_tests, common_steps, numbered_at ss (first + faces_in s) q numbered.1 (omega arith))

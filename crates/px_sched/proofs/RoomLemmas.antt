@@ -1,11 +1,7 @@
 -- The numbers of the keys have room in their bits.
-use Rattle.std.proofs.Common.{◌≡◌, ℕ, suc, zero, ◌+◌, ◌*◌, ◌^◌, ◌<◌, ◌≤◌, Bool, true, false, cond, nat_le, count_by}
-use Rattle.std.proofs.Common.{◌∙◌, [], ◌∷◌, ◌++◌, add-one, length, refl, ap, subst, sym, inl, inr, arith}
-use Rattle.std.specs.List.{range_with_len}
-use Rattle.std.proofs.lemmas.Bool.{cases_lt}
-use Rattle.std.proofs.lemmas.List.{get_or_past}
-use Rattle.std.proofs.lemmas.List.Elements.{All-append, All-cons, All-map, All-push}
-use Rattle.std.proofs.lemmas.Nat.{pow-add}
+use Rattle.px_num.proofs.Basics.{◌≡◌, ℕ, suc, zero, ◌+◌, ◌*◌, ◌^◌, ◌<◌, ◌≤◌, Bool, true, false, cond, nat_le, count_by}
+use Rattle.px_num.proofs.Basics.{◌∙◌, [], ◌∷◌, ◌++◌, add-one, length, refl, ap, sym, inl, inr, arith, range_with_len}
+use Rattle.px_num.proofs.Basics.{cases_lt, get_or_past, All-append, All-cons, All-map, All-push, pow-add}
 use Rattle.px_num.proofs.BitLaws.{pow_above}
 use Rattle.px_num.proofs.TruthLaws.{double_pow, le_false, le_true}
 use Rattle.px_model.specs.Scenes.{SceneView, IsLawfulScene, IsNumberedFrom, faces_of, SolidView, faces_in}
@@ -40,9 +36,7 @@ number_in_scene scene lawful solid face = elim (cases_lt solid (length scene.sol
   | inl there ↦
       let at = numbered_at scene.solids 1 solid lawful.numbers there in
       omega (arith, at.within, number_below at.first (solid_of scene solid) at.numbers face)
-  | inr past ↦ subst (λ s. face_number s face ≤ faces_of scene.solids)
-      (sym (get_or_past scene.solids solid no_solid past))
-      (omega (arith, no_solid_has_none face))
+  | inr past ↦ grind (arith, get_or_past, no_solid_has_none)
 ]
 
 -- of the powers of 2 below a bound, those that are not above n

@@ -1,42 +1,30 @@
 -- What lists of steps leave of the keys.
-use Rattle.std.proofs.Common.{◌≡◌, ◌<◌, ◌≤◌, ◌+◌, ◌+ℤ◌, ◌-◌, ◌*◌, ◌/◌, ◌^◌, ℕ, zero, suc, ℤ, pos, Bool, true}
-use Rattle.std.proofs.Common.{false, ◌&&◌, not, nat_le, List, [], ◌∷◌, map, count_by, refl, ap, sym}
-use Rattle.std.proofs.Common.{◌∙◌, arith, if◌then◌else◌}
-use Rattle.std.specs.Bool.{beq}
-use Rattle.std.specs.List.{fold, flat_map, range_with_len}
-use Rattle.std.proofs.lemmas.List.Folds.{fold-map}
-use Rattle.std.proofs.lemmas.List.Sums.{fold-append}
-use Rattle.std.proofs.lemmas.Nat.{pow-add, pow_pos}
-use Rattle.std.proofs.Math.Nat.{mul-le-mul}
+use Rattle.px_num.proofs.Basics.{rules, ◌≡◌, ◌<◌, ◌≤◌, ◌+◌, ◌+ℤ◌, ◌-◌, ◌^◌, ℕ, zero, suc, ℤ, pos, Bool, true, false}
+use Rattle.px_num.proofs.Basics.{◌&&◌, not, nat_le, List, [], ◌∷◌, map, count_by, refl, ap, sym, ◌∙◌, arith}
+use Rattle.px_num.proofs.Basics.{if◌then◌else◌, beq, fold, flat_map, range_with_len, fold-map, fold-append, pow-add}
+use Rattle.px_num.proofs.Basics.{pow_pos, mul-le-mul}
 use lib.Signed.{le_z}
 use Rattle.px_num.specs.Bits.{modulo}
-use Rattle.px_num.specs.Forms.{value_at}
 use Rattle.px_num.proofs.TruthLaws.{turned_from_false}
 use Rattle.px_model.specs.Scenes.{SceneView, SolidView}
 use Rattle.px_model.specs.Cells.{Depths, cell_of, depths_of, end_of, is_inside_at, value_of}
 use Rattle.px_face.specs.Covering.{CoveringLaw, ValueParityLaw, is_odd, is_passed_at}
-use Rattle.px_face.specs.Edges.{covers}
 use Rattle.px_face.specs.Faces.{face_count, face_plane}
 use Rattle.px_face.proofs.ParityLaws.{turned_is_odd, turned_where}
 use Rattle.px_sched.specs.declared.literal.Literal.{Literal}
 use Rattle.px_sched.specs.declared.step.Step.{Step}
-use Rattle.px_sched.specs.declared.step.Step.TheVariants.{Close, Turn}
-use Rattle.px_sched.specs.Numbers.{Keys, KeyedPixel, after_step, after_steps, flipped, is_passing, residue}
-use Rattle.px_sched.specs.Numbers.{without_fraction}
+use Rattle.px_sched.specs.declared.step.Step.TheVariants.{Turn}
+use Rattle.px_sched.specs.Numbers.{Keys, KeyedPixel, after_step, after_steps, flipped, is_passing, without_fraction}
 use Rattle.px_sched.specs.Passes.{judge, literal_at, solid_of}
-use Rattle.px_sched.proofs.CoverLaws.{and_same, IsDepth, mod_small, le_same}
-use Rattle.px_sched.proofs.CoverLaws.{at_most_is, covering_value}
+use Rattle.px_sched.proofs.CoverLaws.{and_same, IsDepth, mod_small, le_same, at_most_is, covering_value}
 
 -- a part of the keys after some steps for each element
 pub part_along : {X Y : Type 0} (scene : SceneView) (l : KeyedPixel) (part : Keys → Y) (f : X → List Step)
-    (g : Y → X → Y)
-    → ((x : X) (k : Keys) → part (after_steps scene l k (f x)) ≡ g (part k) x)
+    (g : Y → X → Y) → ((x : X) (k : Keys) → part (after_steps scene l k (f x)) ≡ g (part k) x)
     → (xs : List X) (k : Keys) → part (after_steps scene l k (flat_map f xs)) ≡ fold g (part k) xs
 part_along scene l part f g same [] k = refl
 part_along scene l part f g same (x ∷ xs) k =
-    ap part (fold-append (after_step scene l) k (f x) (flat_map f xs))
-    ∙ part_along scene l part f g same xs (after_steps scene l k (f x))
-    ∙ ap (λ p. fold g p xs) (same x k)
+    grind (arith, fold-append, part_along scene l part f g same xs (after_steps scene l k (f x)))
 
 -- folds over a range that do the same at each of its places
 pub fold_agree : {S : Type 0} (f g : S → ℕ → S) (a n : ℕ) → ((i : ℕ) → a ≤ i → i < a + n → (s : S) → f s i ≡ g s i)
@@ -53,14 +41,7 @@ pub record HasRoom (l : KeyedPixel) (d : Depths) : Type 0 where
 
 pub end_room : (l : KeyedPixel) (d : Depths) → HasRoom l d → end_of d + 2 ^ d.fraction_bits
     ≤ 2 ^ (l.depth_bits + l.fraction_bits)
-end_room l d room =
-    let most : d.far + 1 ≤ 2 ^ l.depth_bits = omega (arith, room.big) in
-    let u = 2 ^ d.fraction_bits in
-    let one : (d.far + 1) * u ≡ d.far * u + u = grind arith in
-    let le : (d.far + 1) * u ≤ 2 ^ l.depth_bits * u = mul-le-mul most (omega arith) in
-    let parts : 2 ^ (l.depth_bits + l.fraction_bits) ≡ 2 ^ l.depth_bits * u =
-    rw room.same (pow-add 2 l.depth_bits d.fraction_bits) in
-    omega (arith, one, le, parts)
+end_room l d room = grind (arith, mul-le-mul, pow-add)
 
 pub end_small : (l : KeyedPixel) (d : Depths) → HasRoom l d → end_of d < 2 ^ (l.depth_bits + l.fraction_bits)
 end_small l d room = omega (arith, end_room l d room, pow_pos d.fraction_bits)
@@ -69,13 +50,7 @@ end_small l d room = omega (arith, end_room l d room, pow_pos d.fraction_bits)
 pub rounded : (l : KeyedPixel) (d : Depths) → HasRoom l d → (v : ℤ) → IsDepth v (end_of d)
     → without_fraction l (modulo (v +ℤ pos (2 ^ d.fraction_bits - 1)) (l.depth_bits + l.fraction_bits))
     ≡ value_of d (cell_of d v)
-rounded l d room v is =
-    let u = 2 ^ d.fraction_bits in
-    let n = is.depth in
-    let some : 0 < u = pow_pos d.fraction_bits in
-    let small : n + (u - 1) < 2 ^ (l.depth_bits + l.fraction_bits) = omega (arith, is.below, end_room l d room, some) in
-    rw is.is (ap (without_fraction l) (mod_small (n + (u - 1)) (2 ^ (l.depth_bits + l.fraction_bits)) small)
-    ∙ ap (λ f. (n + (u - 1)) / 2 ^ f * 2 ^ f) room.same)
+rounded l d room v is = grind (arith, pow_pos, end_room, mod_small)
 
 -- a value with something added, as a test
 pub more_at_most : (v : ℤ) (n bits z : ℕ) (d : IsDepth v n) (more : ℕ) → d.depth + more < 2 ^ bits
@@ -94,8 +69,7 @@ pub flips : (t : ℕ → ℕ → Bool) (k : Keys) (is : List ℕ) → fold (flip
     ≡ record k { par = fold (turned_where (λ i. k.alive && t k.deep i)) k.par is }
 flips t k [] = refl
 flips t k (i ∷ is) =
-    let b = k.alive && t k.deep i in
-    ap (λ q. fold (flip_step t) q is) (flip_is b k) ∙ flips t (record k { par = if b then not k.par else k.par }) is
+    grind (arith, flip_is, flips t (record k { par = if (k.alive && t k.deep i) then not k.par else k.par }) is)
 
 alive_odd : (a : Bool) (t : ℕ → Bool) (is : List ℕ)
     → fold (turned_where (λ i. a && t i)) false is ≡ (a && is_odd (count_by t is))
@@ -134,10 +108,7 @@ module _ (covering : CoveringLaw) (parity : ValueParityLaw) (scene : SceneView) 
 
   passed : (s : SolidView) (i z : ℕ) → i < face_count s
       → is_passing l end s i (face_plane s end i) z ≡ is_passed_at s end l.x l.y z i
-  passed s i z there =
-      let v = value_at (face_plane s end i) l.x l.y in
-      and_same (covers s end i l.x l.y) (nat_le (residue l (face_plane s end i)) z) (le_z v (pos z))
-      (λ h. at_most_is v end (l.depth_bits + l.fraction_bits) z big (covering_value covering end s l.x l.y i there h))
+  passed s i z there = search (rules, and_same, at_most_is, covering_value)
 
   -- a candidate that another literal judges
   pub judge_keys : (rs : List Literal) (other : ℕ) (k : Keys) → let r = literal_at rs other in
@@ -159,6 +130,4 @@ module _ (covering : CoveringLaw) (parity : ValueParityLaw) (scene : SceneView) 
       ∙ ap (λ b. keys_of k.best k.deep k.number k.alive b)
       (alive_odd k.alive (u k.deep) (range_with_len 0 n)
       ∙ ap (λ b. k.alive && b) (sym (parity s end l.x l.y k.deep))) in
-      fold-append (after_step scene l) start turns (Close other r.plain ∷ [])
-      ∙ ap (λ (q : Keys). if beq q.par (not r.plain) then record q { alive = false } else q) odd
-      ∙ ended k.best k.deep k.number k.alive (is_inside_at s end l.x l.y k.deep) r.plain
+      grind (arith, fold-append, ended)

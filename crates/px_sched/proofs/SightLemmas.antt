@@ -1,5 +1,5 @@
 -- The passes leave in the memory what they leave in the numbers: the sight of the pixel.
-use Rattle.std.proofs.Common.{◌+◌, refl, ap, ◌∙◌}
+use Rattle.px_num.proofs.Basics.{◌+◌, refl, ap, ◌∙◌}
 use Rattle.px_model.specs.Scenes.{faces_of}
 use Rattle.px_model.specs.Cells.{depths_of, end_of, picture}
 use Rattle.px_model.proofs.CellLaws.{end_is_small}

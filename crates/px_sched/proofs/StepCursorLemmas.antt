@@ -1,35 +1,31 @@
 -- A cursor of steps gives the steps in their order.
-use Rattle.std.proofs.Common.{◌≡◌, ℕ, ◌+◌, ◌-◌, ◌^◌, ◌<◌, ◌≤◌, Bool, List, [], ◌∷◌, drop, filter, get_or}
-use Rattle.std.proofs.Common.{length, slice_get, take}
-use Rattle.std.proofs.Common.{Option, Some, None, refl, ap, sym, subst, ◌∙◌, arith, length-append, cond, unwrap_or}
-use Rattle.std.specs.List.{flat_map}
-use Rattle.std.proofs.lemmas.List.{drop_more, length-drop, length-take}
+use Rattle.px_num.proofs.Basics.{nat_tests, common_steps, ◌≡◌, ℕ, ◌+◌, ◌-◌, ◌^◌, ◌<◌, ◌≤◌, Bool, List, [], ◌∷◌, drop}
+use Rattle.px_num.proofs.Basics.{filter, get_or, length, slice_get, take, Option, Some, None, refl, ap, sym, subst, ◌∙◌}
+use Rattle.px_num.proofs.Basics.{arith, length-append, cond, unwrap_or, flat_map, drop_more, count_by-le-length}
+use Rattle.px_num.proofs.Basics.{length-filter, slice_get-get_or, slice_get_past}
+use Rattle.std.proofs.lemmas.List.{length-drop, length-take}
 use Rattle.std.proofs.lemmas.List.Filters.{length-filter_more}
-use Rattle.std.proofs.lemmas.List.Sums.{count_by-le-length, length-filter}
-use Rattle.std.proofs.lemmas.Option.{slice_get-get_or, slice_get_past}
 use Rattle.px_normal.specs.declared.product.Product.{Product}
 use Rattle.px_model.specs.Scenes.{SceneView}
 use Rattle.px_prune.specs.Kept.{plan_of}
 use Rattle.px_sched.specs.declared.group.Stage.{Stage}
 use Rattle.px_sched.specs.declared.group.Stage.TheVariants.{At, End, Start}
 use Rattle.px_sched.specs.declared.step.Step.{Step}
-use Rattle.px_sched.specs.declared.step.Step.TheVariants as step
 use Rattle.px_sched.specs.declared.step_cursor.StepCursor.{StepCursor}
 use Rattle.px_sched.specs.declared.literal.Literal.{Literal}
-use Rattle.px_sched.specs.Groups.{IsStage, behind_stage, from_stage, literal_of, others_of, product_at, step_of}
-use Rattle.px_sched.specs.Layouts.{layout_of}
-use Rattle.px_sched.specs.Passes.{operations, passes, steps, steps_with}
-use Rattle.px_sched.specs.StepCursors.{HasFewOthers, StandsAmong, StandsAtStep, literals_in, opens_literal}
+use Rattle.px_sched.specs.Groups.{IsStage, behind_stage, from_stage, step_of}
+use Rattle.px_sched.specs.Passes.{passes, steps, steps_with}
+use Rattle.px_sched.specs.StepCursors.{HasFewOthers, StandsAmong, StandsAtStep, opens_literal}
 use Rattle.px_sched.specs.Steps.{IsStepOf}
 use Rattle.px_sched.proofs.FewLaws.{few_others}
 use Rattle.px_sched.proofs.LawfulLaws.{passes_are}
 use Rattle.px_sched.proofs.StandingLemmas.{step_some}
+use Rattle.px_sched.specs.declared.step.Step.TheVariants as step
 
 -- a list from one element on
 module _ {X : Type 0} (xs : List X) (k : ℕ) (x : X) (rest : List X) (left : drop k xs ≡ x ∷ rest) where
   head_below : k < length xs
-  head_below = let some : length (drop k xs) ≡ length (x ∷ rest) = ap length left in
-      omega (arith, some, length-drop k xs)
+  head_below = grind (arith, nat_tests, common_steps, left, length-drop)
 
   split : get_or xs k x ∷ drop (k + 1) xs ≡ x ∷ rest
   split = sym (drop_more xs k x head_below) ∙ left
@@ -44,8 +40,7 @@ module _ {X : Type 0} (xs : List X) (k : ℕ) (x : X) (rest : List X) (left : dr
   tail_is = ap (drop 1) split
 
   filtered_more : (p : X → Bool) → length (filter p (take (k + 1) xs)) ≡ length (filter p (take k xs)) + cond (p x) 1 0
-  filtered_more p = length-filter_more p xs k x head_below ∙ ap (λ y. length (filter p (take k xs)) + cond (p y) 1 0)
-      head_is
+  filtered_more p = grind (arith, length-filter_more, head_below, cond, head_is)
 
 ended : {X : Type 0} (xs : List X) (k : ℕ) → drop k xs ≡ [] → length xs ≤ k
 ended xs k none = omega (arith, ap length none, length-drop k xs)
@@ -72,10 +67,7 @@ module _ (scene : SceneView) (products : List Product) where
 
   pub others_here : (st : Stage) (s : Step) → Some s ≡ step_of st → IsStage scene products st → HasFewOthers s
   others_here Start s here is = subst (λ o. HasFewOthers (unwrap_or o s)) (sym here) tt
-  others_here (At g) s here is =
-      let q = literal_of products g in
-      subst (λ o. HasFewOthers (unwrap_or o s)) (sym here)
-      (asked q (others_of products g) g.step (few_others q (product_at products g.product)) is.step)
+  others_here (At g) s here is = grind (arith, unwrap_or, asked, few_others)
   others_here End s here is = absurd (cc)
 
   abbrev all : List Step
@@ -92,43 +84,17 @@ module _ (scene : SceneView) (products : List Product) where
     few_given = omega (arith, head_below all c.given s (behind_stage scene products c.stage) left, stands.few)
 
     pub few_literals : c.literals < 2 ^ 64 - 1
-    few_literals =
-        let front = take c.given all in
-        omega (
-          arith,
-          few_given,
-          stands.literals,
-          length-filter opens_literal front,
-          count_by-le-length opens_literal front,
-          length-take c.given all,
-        )
+    few_literals = grind (arith, few_given, length-filter, count_by-le-length, length-take)
 
     pub stands_behind : (d : StepCursor) (next : Stage) → d.given ≡ c.given + 1
         → d.literals ≡ c.literals + cond (opens_literal s) 1 0 → d.stage ≡ next
         → behind_stage scene products c.stage ≡ from_stage scene products next → IsStage scene products next
         → StandsAmong scene products d
-    stands_behind d next given literals stage behind is =
-        let rest = behind_stage scene products c.stage in
-        record {
-          stage = subst (IsStage scene products) (sym stage) is;
-          left = rw (given, stage) (tail_is all c.given s rest left ∙ behind);
-          literals = rw given (literals ∙ ap (λ n. n + cond (opens_literal s) 1 0) stands.literals
-              ∙ sym (filtered_more all c.given s rest left opens_literal));
-          few = stands.few;
-        }
+    stands_behind d next given literals stage behind is = grind (arith, left, tail_is, cond, filtered_more)
 
   pub none_found : (c : StepCursor) → StandsAmong scene products c → None ≡ step_of c.stage
       → None ≡ slice_get all c.given
-  none_found c stands here =
-      sym (slice_get_past all c.given (ended all c.given (stands.left ∙ end_from c.stage here)))
-
--- the steps of a scene are those over its plan
-module _ (scene : SceneView) (products : List Product) (plan : products ≡ plan_of scene) where
-  pub step_for : (n : ℕ) (o : Option Step) → o ≡ slice_get (steps_with scene products) n → o ≡ slice_get (steps scene) n
-  step_for n o found = found ∙ ap (λ ps. slice_get (steps_with scene ps) n) plan
-
-  pub stands_for : (c : StepCursor) → StandsAmong scene products c → StandsAtStep scene c
-  stands_for c stands = subst (λ ps. StandsAmong scene ps c) plan stands
+  none_found c stands here = sym (slice_get_past all c.given (ended all c.given (stands.left ∙ end_from c.stage here)))
 
 -- each has an operation, so there are no more steps than operations
 some_each : {X Y : Type 0} (f : X → List Y) → ((x : X) → 0 < length (f x)) → (xs : List X)
@@ -138,12 +104,4 @@ some_each f some (x ∷ xs) = omega (arith, some x, some_each f some xs, length-
 
 pub first_stands : (scene : SceneView) → length (passes scene) < 2 ^ 64
     → StandsAtStep scene (record { given = 0; literals = 0; stage = Start })
-first_stands scene few =
-    let each = some_each (operations scene (layout_of scene)) (step_some scene (layout_of scene) (plan_of scene))
-    (steps scene) in
-    record {
-      stage = tt;
-      left = refl;
-      literals = refl;
-      few = omega (arith, each, few, ap length (passes_are scene));
-    }
+first_stands scene few = grind (arith, some_each, step_some, left, passes_are)

@@ -1,34 +1,28 @@
 -- Sums over the operations of a step and over the steps of a literal, by the cases of a step.
-use Rattle.std.proofs.Common.{◌≡◌, ℕ, ◌+◌, ◌-◌, ◌*◌, ◌^◌, ◌==◌, All, Bool, true, false, List, [], ◌∷◌, ◌++◌}
-use Rattle.std.proofs.Common.{length, map, get_or}
-use Rattle.std.proofs.Common.{not, refl, ap, sym, ◌∙◌, arith, inl, inr}
-use Rattle.std.specs.List.{flat_map, range_with_len, sum_by}
-use Rattle.std.proofs.lemmas.Bool.{cases_Bool}
-use Rattle.std.proofs.lemmas.List.Elements.{All-head, All-tail}
-use Rattle.std.proofs.lemmas.List.Folds.{fold-map}
-use Rattle.std.proofs.lemmas.List.FromFn.{length-range_with_len}
-use Rattle.std.proofs.lemmas.List.Sums.{sum_by-append, sum_by-cons}
+use Rattle.px_num.proofs.Basics.{nat_tests, common_steps, ◌≡◌, ℕ, ◌+◌, ◌-◌, ◌*◌, ◌^◌, All, Bool, true, false, List, []}
+use Rattle.px_num.proofs.Basics.{◌∷◌, ◌++◌, length, map, get_or, not, refl, ap, sym, ◌∙◌, arith, flat_map}
+use Rattle.px_num.proofs.Basics.{range_with_len, sum_by, All-head, All-tail, fold-map, length-range_with_len}
+use Rattle.px_num.proofs.Basics.{sum_by-append, sum_by-cons}
 use Rattle.px_num.specs.Forms.{plus}
 use Rattle.px_num.specs.declared.linear.Linear.{Linear}
 use Rattle.px_face.specs.EdgeLaws.{EdgesAreCounted}
-use Rattle.px_face.specs.Edges.{edge_count, edges}
-use Rattle.px_face.specs.Faces.{face_count, face_number, face_plane, level}
+use Rattle.px_face.specs.Edges.{edge_count}
+use Rattle.px_face.specs.Faces.{face_number, face_plane, level}
 use Rattle.px_macro.specs.declared.field.Field.{Field}
 use Rattle.px_macro.specs.declared.operation.Macro.{Macro}
-use Rattle.px_macro.specs.declared.operation.Macro.TheVariants as m
 use Rattle.px_model.specs.Cells.{depths_of, end_of}
 use Rattle.px_model.specs.Scenes.{SceneView}
 use Rattle.px_normal.specs.declared.product.Product.{Product}
 use Rattle.px_sched.specs.declared.literal.Literal.{Literal}
 use Rattle.px_sched.specs.declared.step.Step.{Step}
-use Rattle.px_sched.specs.declared.step.Step.TheVariants.{Begin, Candidate, Clear, Close, Confirm, Drop, Front}
-use Rattle.px_sched.specs.declared.step.Step.TheVariants.{Merge, Open, Start, Turn}
+use Rattle.px_sched.specs.declared.step.Step.TheVariants.{Candidate, Close, Drop, Front, Merge, Open, Start, Turn}
 use Rattle.px_sched.specs.Layouts.{LayoutView, deep_part, fraction_part, number_part}
 use Rattle.px_sched.specs.Passes.{candidate_faces, confirm, judge, keep_covered, literal_at, literal_steps, no_literal}
 use Rattle.px_sched.specs.Passes.{operations, product_steps, solid_of, steps_with, where_fraction, where_passed}
 use Rattle.px_sched.specs.Steps.{HasFace, IsThere}
 use Rattle.px_sched.specs.Worths.{bare, confirm_worth, edges_in, first_face_step, judged_worth, own_worth, passing}
 use Rattle.px_sched.proofs.MemberLaws.{by_places}
+use Rattle.px_macro.specs.declared.operation.Macro.TheVariants as m
 
 pub sum_by-agree : {A : Type 0} (f g : A → ℕ) (xs : List A) → All (λ x. f x ≡ g x) xs → sum_by f xs ≡ sum_by g xs
 sum_by-agree f g [] same = refl
@@ -44,13 +38,7 @@ sum_by-agree f g (x ∷ xs) same =
 pub flat_sum : {A B : Type 0} (w : B → ℕ) (f : A → List B) (xs : List A) →
     sum_by w (flat_map f xs) ≡ sum_by (λ x. sum_by w (f x)) xs
 flat_sum w f [] = refl
-flat_sum w f (x ∷ xs) =
-    omega (
-      arith,
-      sum_by-append w (f x) (flat_map f xs),
-      sum_by-cons (λ y. sum_by w (f y)) x xs,
-      flat_sum w f xs,
-    )
+flat_sum w f (x ∷ xs) = grind (arith, nat_tests, common_steps, sum_by-append, sum_by-cons, flat_sum w f xs)
 
 pub counted : {A : Type 0} (xs : List A) → length xs ≡ sum_by (λ x. 1) xs
 counted [] = refl
@@ -68,40 +56,15 @@ module _ (v : Step → ℕ) (scene : SceneView) where
       omega (arith, sum_by-cons u (step face) (map step faces), ap v (same face), alike step same faces)
 
   in_range : (step : ℕ → Step) → ((face : ℕ) → first_face_step (step face) ≡ first_face_step (step 0))
-      → (from count : ℕ)
-      → sum_by u (map step (range_with_len from count)) ≡ count * u (step 0)
+      → (from count : ℕ) → sum_by u (map step (range_with_len from count)) ≡ count * u (step 0)
   in_range step same from count = rw (length-range_with_len from count) at (alike step same (range_with_len from count))
 
   confirm_sum : (q : Literal) → sum_by u (where_fraction (depths_of scene) (confirm scene q)) ≡ confirm_worth v scene q
-  confirm_sum q =
-      let s = solid_of scene q.solid in
-      let n = length s.fronts + 1 in
-      let turns = map (Front q.solid) (range_with_len 0 n) in
-      elim (cases_Bool (scene.fraction_bits == 0)) [
-        | inl none ↦ rw none refl
-        | inr some ↦ elim (cases_Bool q.plain) [
-          | inl plain ↦ rw (some, plain) (in_range (Drop q.solid) (λ face. refl) n (length s.backs + 1))
-          | inr barred ↦ rw (some, barred) (omega (
-            arith,
-            sum_by-append u (Clear ∷ turns) (Confirm ∷ []),
-            sum_by-cons u Clear turns,
-            in_range (Front q.solid) (λ face. refl) 0 n,
-          ))
-        ]
-      ]
+  confirm_sum q = grind (arith, nat_tests, common_steps, in_range, sum_by-append, sum_by-cons)
 
   judge_sum : (rs : List Literal) (other : ℕ) → sum_by u (judge scene rs other)
       ≡ judged_worth v scene (literal_at rs other)
-  judge_sum rs other =
-      let r = literal_at rs other in
-      let n = face_count (solid_of scene r.solid) in
-      let turns = map (Turn other r.solid) (range_with_len 0 n) in
-      omega (
-        arith,
-        sum_by-append u (Begin other ∷ turns) (Close other r.plain ∷ []),
-        sum_by-cons u (Begin other) turns,
-        in_range (Turn other r.solid) (λ face. refl) 0 n,
-      )
+  judge_sum rs other = grind (arith, nat_tests, common_steps, sum_by-append, sum_by-cons, in_range)
 
   -- each literal has its own steps, and those of the others against it
   pub literal_sum : (q : Literal) (rs : List Literal) →
@@ -131,12 +94,7 @@ module _ (v : Step → ℕ) (scene : SceneView) where
 -- the steps of products are the background's, and then those of each product
 pub steps_sum : (scene : SceneView) (v : Step → ℕ) (products : List Product) → sum_by v (steps_with scene products)
     ≡ v Start + sum_by (λ product. sum_by v (product_steps scene product)) products
-steps_sum scene v products =
-    omega (
-      arith,
-      sum_by-cons v Start (flat_map (product_steps scene) products),
-      flat_sum v (product_steps scene) products,
-    )
+steps_sum scene v products = grind (arith, sum_by-cons, flat_sum)
 
 -- what does not look at forms, numbers and bits
 pub record IsBlind (w : Macro → ℕ) : Type 0 where
@@ -162,26 +120,16 @@ module _ (count : EdgesAreCounted) (scene : SceneView) (l : LayoutView) (w : Mac
   around : (solid face : ℕ) (head tail : List Macro) → IsThere scene solid face
       → sum_by w (head ++ (keep_covered end (solid_of scene solid) face ++ tail))
       ≡ sum_by w head + sum_by w tail + edge_count (solid_of scene solid) * edge
-  around solid face head tail there =
-      let s = solid_of scene solid in
-      let kept : sum_by w (keep_covered end s face) ≡ edge_count s * edge =
-      rw (count s end face there) at (signs (edges s end face)) in
-      omega (
-        arith,
-        sum_by-append w head (keep_covered end s face ++ tail),
-        sum_by-append w (keep_covered end s face) tail,
-        kept,
-      )
+  around solid face head tail there = grind (arith, signs, sum_by-append)
 
   passed : (solid face : ℕ) (form : Linear) (operation : Macro) → IsThere scene solid face
       → sum_by w (where_passed l end (solid_of scene solid) face form operation)
       ≡ sum_by w (passing l operation) + edge_count (solid_of scene solid) * edge
   passed solid face form operation there =
-      omega (
+      grind (
         arith,
         around solid face (m.All ∷ m.KeepBit l.alive true ∷ [])
             (m.KeepAtMost form (deep_part l l.key_t) ∷ operation ∷ []) there,
-        blind.at_most form (deep_part l l.key_t),
       )
 
   -- a step is worth what its bare operations are, and its edges

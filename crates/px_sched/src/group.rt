@@ -125,6 +125,9 @@ impl Group {
             from_stage scene.now products.now result }
         ensures stage { IsStage scene.now products.now result }
     {
+        if let Some(step) = self.step.along(scene) {
+            return Stage::At(Group { step, ..self });
+        }
         match self.next_step(scene, products) {
             Some(step) => Stage::At(Group { step, ..self }),
             None => literal_from(scene, products, self.product, self.literal + 1),

@@ -1,12 +1,15 @@
 //! The steps of a literal's passes. Each is a few operations that begin with "all".
-ghost use Rattle.std.specs.Prelude.{◌≡◌, ◌+◌, ◌*◌, ◌^◌, ◌<◌, ◌≤◌, ◌++◌, ◌==◌, if◌then◌else◌, All, IfSome, get_or, length};
+ghost use Rattle.std.specs.Bool.{OnTrue};
+ghost use Rattle.std.specs.Prelude.{◌≡◌, ◌+◌, ◌-◌, ◌*◌, ◌^◌, ◌<◌, ◌≤◌, [], ◌∷◌, ◌++◌, ◌==◌, if◌then◌else◌, true, false, List, All, IfSome, get_or, length};
 ghost use Rattle.px_face.specs.Edges.{edge_count};
 ghost use Rattle.px_face.specs.Faces.{face_count, face_plane};
+ghost use Rattle.px_macro.specs.declared.operation.Macro.{Macro};
 ghost use Rattle.px_macro.specs.declared.operation.Macro.TheVariants as m;
 ghost use Rattle.px_model.specs.Cells.{depths_of, end_of};
 ghost use Rattle.px_model.specs.Scenes.{SceneView};
 ghost use Rattle.px_num.specs.Forms.{IsInHalfRange, plus};
 ghost use Rattle.px_sched.specs.declared.literal.Literal.{Literal};
+ghost use Rattle.px_sched.specs.declared.step.Step.TheVariants as st;
 ghost use Rattle.px_sched.specs.Layouts.{LayoutView};
 ghost use Rattle.px_sched.specs.Passes.{candidate, keep_covered, operations, solid_of, where_passed};
 ghost use Rattle.px_sched.specs.StepCursors.{opens_literal};
@@ -83,8 +86,8 @@ impl Step {
         ensures { result ≡ get_or (operations scene.now layout.now self) at m.All }
     {
         match self {
-            Step::Start => [Macro::All, background(scene, layout)][at],
-            Step::Open => [Macro::All, Macro::SetBit(layout.alive, false)][at],
+            Step::Start => begun(scene, layout, at),
+            Step::Open => cleared(layout.alive, at),
             Step::Candidate(solid, face) => {
                 candidate(scene, solid_at(scene, solid), face, layout, at)
             }
@@ -93,48 +96,41 @@ impl Step {
                 let set = Macro::SetBit(layout.alive, false);
                 where_passed(scene, solid, face, &plane, layout, set, at)
             }
-            Step::Clear => [Macro::All, Macro::SetBit(layout.par, false)][at],
+            Step::Clear | Step::Begin(_) => cleared(layout.par, at),
             Step::Front(solid, face) => {
                 let form = cell_behind(scene, solid, face);
-                where_passed(
-                    scene,
-                    solid,
-                    face,
-                    &form,
-                    layout,
-                    Macro::Toggle(layout.par),
-                    at,
-                )
+                let turn = Macro::Toggle(layout.par);
+                where_passed(scene, solid, face, &form, layout, turn, at)
             }
-            Step::Confirm => [
-                Macro::All,
-                Macro::KeepBit(layout.par, false),
-                Macro::SetBit(layout.alive, false),
-            ][at],
-            Step::Begin(_) => [Macro::All, Macro::SetBit(layout.par, false)][at],
+            Step::Confirm => judged(layout, false, at),
             Step::Turn(_, solid, face) => {
                 let plane = plane_at(scene, solid, face);
-                where_passed(
-                    scene,
-                    solid,
-                    face,
-                    &plane,
-                    layout,
-                    Macro::Toggle(layout.par),
-                    at,
-                )
+                let turn = Macro::Toggle(layout.par);
+                where_passed(scene, solid, face, &plane, layout, turn, at)
             }
-            Step::Close(_, plain) => [
-                Macro::All,
-                Macro::KeepBit(layout.par, !plain),
-                Macro::SetBit(layout.alive, false),
-            ][at],
-            Step::Merge => [
-                Macro::All,
-                Macro::KeepBit(layout.alive, true),
-                Macro::KeepLess(layout.key_t, layout.key_b),
-                Macro::Copy(layout.key_t, layout.key_b),
-            ][at],
+            Step::Close(_, plain) => judged(layout, !plain, at),
+            Step::Merge => merged(layout, at),
+        }
+    }
+
+    /// The step behind this one where that is of the same solid's next face, which needs no literals to be found.
+    pub(crate) fn along(self, scene: &Scene) -> Option<Step>
+        requires { IsStep scene.now self }
+        ensures left { IfSome result (λ step. (q : Literal) (rs : List Literal) → IsStepOf scene.now q rs self
+            → behind_step scene.now q rs self ≡ from_step scene.now q rs step) }
+        ensures step { IfSome result (λ step. (q : Literal) (rs : List Literal) → IsStepOf scene.now q rs self
+            → IsStepOf scene.now q rs step) }
+        ensures faces { IfSome result (λ step. IsStep scene.now step) }
+    {
+        match self {
+            Step::Turn(other, solid, face) => {
+                if face + 1 < face_count(solid_at(scene, solid)) {
+                    Some(Step::Turn(other, solid, face + 1))
+                } else {
+                    None
+                }
+            }
+            _ => None,
         }
     }
 
@@ -302,8 +298,77 @@ fn candidate_count(scene: &Scene, solid: &Solid) -> usize
     }
 }
 
+/// An operation of a step that clears a bit everywhere.
+fn cleared(bit: u32, at: usize) -> Macro
+    requires { at < 2 }
+    ensures { result ≡ get_or (m.All ∷ m.SetBit bit false ∷ []) at m.All }
+{
+    if at == 0 {
+        Macro::All
+    } else {
+        Macro::SetBit(bit, false)
+    }
+}
+
+/// An operation of the step that makes the background the best.
+fn begun(scene: &Scene, layout: &Layout, at: usize) -> Macro
+    requires { at < 2 }
+    ensures { result ≡ get_or (operations scene.now layout.now st.Start) at m.All }
+{
+    if at == 0 {
+        Macro::All
+    } else {
+        background(scene, layout)
+    }
+}
+
+/// An operation of a step that ends the life of a candidate where the parity is so.
+fn judged(layout: &Layout, parity: bool, at: usize) -> Macro
+    requires { at < 3 }
+    ensures { result ≡ get_or (m.All ∷ m.KeepBit layout.now.par parity
+        ∷ m.SetBit layout.now.alive false ∷ []) at m.All }
+{
+    if at == 0 {
+        Macro::All
+    } else if at == 1 {
+        Macro::KeepBit(layout.par, parity)
+    } else {
+        Macro::SetBit(layout.alive, false)
+    }
+}
+
+/// An operation of the step that takes a live candidate for the best where it is nearer.
+fn merged(layout: &Layout, at: usize) -> Macro
+    requires { at < 4 }
+    ensures { result ≡ get_or (m.All ∷ m.KeepBit layout.now.alive true
+        ∷ m.KeepLess layout.now.key_t layout.now.key_b
+        ∷ m.Copy layout.now.key_t layout.now.key_b ∷ []) at m.All }
+{
+    [
+        Macro::All,
+        Macro::KeepBit(layout.alive, true),
+        Macro::KeepLess(layout.key_t, layout.key_b),
+        Macro::Copy(layout.key_t, layout.key_b),
+    ][at]
+}
+
 /// An operation of a step that makes a face the candidate where it covers.
 fn candidate(scene: &Scene, solid: &Solid, face: usize, layout: &Layout, at: usize) -> Macro
+    requires face { face < face_count solid.now }
+    requires bits { layout.now.fraction_bits ≡ scene.now.fraction_bits }
+    requires at { at < length (candidate layout.now (depths_of scene.now) solid.now face) }
+    ensures { result ≡
+        get_or (candidate layout.now (depths_of scene.now) solid.now face) at m.All }
+{
+    if is_edge(solid, 1, at) {
+        keep_edge(solid, scene.end(), face, 1, at)
+    } else {
+        candidate_at_ends(scene, solid, face, layout, at)
+    }
+}
+
+/// The same, of those before and behind the edges.
+fn candidate_at_ends(scene: &Scene, solid: &Solid, face: usize, layout: &Layout, at: usize) -> Macro
     requires face { face < face_count solid.now }
     requires bits { layout.now.fraction_bits ≡ scene.now.fraction_bits }
     requires at { at < length (candidate layout.now (depths_of scene.now) solid.now face) }
@@ -368,9 +433,52 @@ fn where_passed(
     ensures { result ≡ get_or (where_passed layout.now (end_of (depths_of scene.now))
         (solid_of scene.now solid) face form.now operation) at m.All }
 {
+    if is_edge(solid_at(scene, solid), 2, at) {
+        keep_edge(solid_at(scene, solid), scene.end(), face, 2, at)
+    } else {
+        passed_at_ends(scene, solid, face, form, layout, operation, at)
+    }
+}
+
+/// The same, of those before and behind the edges.
+fn passed_at_ends(
+    scene: &Scene,
+    solid: u8,
+    face: usize,
+    form: &Linear,
+    layout: &Layout,
+    operation: Macro,
+    at: usize,
+) -> Macro
+    requires solid { solid < length scene.now.solids }
+    requires face { face < face_count (solid_of scene.now solid) }
+    requires at { at < length (where_passed layout.now (end_of (depths_of scene.now))
+        (solid_of scene.now solid) face form.now operation) }
+    ensures { result ≡ get_or (where_passed layout.now (end_of (depths_of scene.now))
+        (solid_of scene.now solid) face form.now operation) at m.All }
+{
     let head = [Macro::All, Macro::KeepBit(layout.alive, true)];
     let tail = [Macro::KeepAtMost(*form, layout.t_deep()), operation];
     where_covered(solid_at(scene, solid), scene.end(), face, &head, &tail, at)
+}
+
+/// Whether an operation behind so many is one of the edges.
+fn is_edge(solid: &Solid, before: usize, at: usize) -> bool
+    ensures { OnTrue result ((before ≤ at) × (at - before < edge_count solid.now)) }
+{
+    before <= at && at - before < edge_count(solid)
+}
+
+/// The operation of one of the edges, behind so many others.
+fn keep_edge(solid: &Solid, end: u32, face: usize, before: usize, at: usize) -> Macro
+    requires face { face < face_count solid.now }
+    requires from { before ≤ at }
+    requires to { at - before < edge_count solid.now }
+    ensures { (head tail : List Macro) → length head ≡ before
+        → result ≡ get_or (head ++ keep_covered end solid.now face ++ tail) at m.All }
+{
+    laws_of_edges();
+    Macro::KeepSign(edge_at(solid, end, face, at - before))
 }
 
 /// One of some operations: a head, those that keep the pixels that a face covers, and a tail.

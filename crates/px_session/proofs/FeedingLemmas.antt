@@ -1,12 +1,9 @@
 -- Bytes in pieces, and lines one after another.
-use Rattle.std.proofs.Common.{◌≡◌, ℕ, ◌+◌, ◌-◌, ◌<◌, ◌≤◌, Bool, true, false, ◌||◌, ◌==◌, List, [], ◌∷◌, ◌++◌}
-use Rattle.std.proofs.Common.{length, take, drop, get_or, Result, Ok, Err, IfOk, OnOk}
-use Rattle.std.proofs.Common.{refl, sym, ap, ◌∙◌, append_assoc, append-nil, length-append, arith, inl, inr, subst}
-use Rattle.std.proofs.Common.{if◌then◌else◌}
-use Prim.Native.Nat.{zero, suc}
-use Rattle.std.proofs.Math.Seq.{take-append-add}
-use Rattle.std.proofs.lemmas.Bool.{cases_lt}
-use Rattle.std.proofs.lemmas.List.{length-take, take_all, take_more, take-append-drop, take-append-le as take_within}
+use Rattle.px_num.proofs.Basics.{◌≡◌, ℕ, ◌+◌, ◌-◌, ◌<◌, ◌≤◌, Bool, true, false, ◌||◌, ◌==◌, List, [], ◌∷◌, ◌++◌, length}
+use Rattle.px_num.proofs.Basics.{take, drop, get_or, Result, Ok, Err, IfOk, OnOk, refl, sym, ap, ◌∙◌, append_assoc}
+use Rattle.px_num.proofs.Basics.{append-nil, length-append, arith, inl, inr, subst, if◌then◌else◌, zero, suc}
+use Rattle.px_num.proofs.Basics.{take-append-add, cases_lt, take_all, take_more, take-append-drop}
+use Rattle.std.proofs.lemmas.List.{length-take, take-append-le as take_within}
 use Rattle.px_num.proofs.TruthLaws.{lt_true, neither_left, neither_right}
 use Rattle.px_io.specs.Told.{SinkState, TakesAll, TakesFirst, TakesFront}
 use Rattle.px_io.proofs.ToldLaws.{appends_both, takes_both, takes_none, reopens_both}
@@ -15,13 +12,13 @@ use Rattle.px_debug_text.specs.Commands.{line_command}
 use Rattle.px_debug_text.specs.declared.command.Command.{Command}
 use Rattle.px_debug.specs.Moves.{SessionView, going, most_clocks, moved}
 use Rattle.px_debug.specs.declared.session.Going.{Going}
-use Rattle.px_debug.specs.declared.session.Going.TheVariants as g
-use Rattle.px_lines.specs.Lines.{ended, left}
+use Rattle.px_asked.specs.Lines.{ended, left}
 use Rattle.px_session.specs.Buffers.{short}
 use Rattle.px_session.specs.Servings.{Answered, Broken}
 use Rattle.px_session.specs.Sessions.{Obeyed, Stand, after, after_line, answer_line, answers, clocks_over, has_quit}
 use Rattle.px_session.specs.Sessions.{is_last, is_quit, line_clocks, stand, until_quit}
 use Rattle.px_session.specs.Turns.{Fed, typed}
+use Rattle.px_debug.specs.declared.session.Going.TheVariants as g
 
 -- the lines of bytes and of more
 pub ended-append : (line xs ys : List ℕ) → ended line (xs ++ ys) ≡ ended line xs ++ ended (left line xs) ys
@@ -41,12 +38,7 @@ left-append line (b ∷ xs) ys =
 
 pub quit-append : (ls ms : List (List ℕ)) → has_quit (ls ++ ms) ≡ has_quit ls || has_quit ms
 quit-append [] ms = refl
-quit-append (l ∷ ls) ms =
-    elim (is_quit l) as (λ t. t || has_quit (ls ++ ms) ≡ (t || has_quit ls) || has_quit ms) [
-      | true ↦ refl
-      | false ↦
-          quit-append ls ms
-    ]
+quit-append (l ∷ ls) ms = grind (arith, quit-append ls ms)
 
 until-append : (ls ms : List (List ℕ)) → until_quit (ls ++ ms) ≡ until_quit ls
     ++ (if has_quit ls then [] else until_quit ms)
@@ -60,10 +52,7 @@ until-append (l ∷ ls) ms =
 pub until_quiet : (ls : List (List ℕ)) → has_quit ls ≡ false → until_quit ls ≡ ls
 until_quiet [] quiet = refl
 until_quiet (l ∷ ls) quiet =
-    rw (
-      neither_left (is_quit l) (has_quit ls) quiet,
-      until_quiet ls (neither_right (is_quit l) (has_quit ls) quiet),
-    ) refl
+    grind (arith, neither_left, neither_right, until_quiet ls (neither_right (is_quit l) (has_quit ls) quiet))
 
 pub until_then : (ls ms : List (List ℕ)) → has_quit ls ≡ false → until_quit (ls ++ ms) ≡ ls ++ until_quit ms
 until_then ls ms quiet = until-append ls ms ∙ rw (quiet, until_quiet ls quiet) refl
@@ -91,40 +80,24 @@ after-append s (l ∷ ls) ms = after-append (after_line s l) ls ms
 pub answers-append : (bits : ℕ) (s : SessionView) (ls ms : List (List ℕ)) → answers bits s (ls ++ ms)
     ≡ answers bits s ls ++ answers bits (after s ls) ms
 answers-append bits s [] ms = refl
-answers-append bits s (l ∷ ls) ms =
-    ap (λ x. answer_line bits s l ++ x) (answers-append bits (after_line s l) ls ms)
-    ∙ sym (append_assoc (answer_line bits s l) _ _)
+answers-append bits s (l ∷ ls) ms = grind (arith, append_assoc, answers-append bits (after_line s l) ls ms)
 
 -- all of xs, and then the first n of ys
 first_after : (a b c : SinkState) (xs ys : List ℕ) (n : ℕ)
     → TakesAll a b xs → TakesFirst n b c ys → TakesFirst (length xs + n) a c (xs ++ ys)
-first_after a b c xs ys n first second = record {
-  within = omega (arith, second.within, length-append xs ys);
-  front = rw take-append-add (appends_both a.written b.written c.written xs (take n ys) first.all second.front);
-  end = reopens_both a.finished b.finished c.finished (length xs) n first.end second.end;
-}
+first_after a b c xs ys n first second = grind (arith, length-append, take-append-add, appends_both, reopens_both)
 
 -- lines obeyed one after another
 clocks-append : (s : SessionView) (ls ms : List (List ℕ)) → clocks_over s (ls ++ ms)
     ≡ clocks_over s ls + clocks_over (after s ls) ms
 clocks-append s [] ms = omega arith
-clocks-append s (l ∷ ls) ms =
-    omega (arith, clocks-append (after_line s l) ls ms)
+clocks-append s (l ∷ ls) ms = omega (arith, clocks-append (after_line s l) ls ms)
 
 obeyed_none : (s : Stand) → Obeyed s s []
 obeyed_none s = record { session = refl; work = omega arith }
 
 obeyed_both : (s t u : Stand) (ls ms : List (List ℕ)) → Obeyed s t ls → Obeyed t u ms → Obeyed s u (ls ++ ms)
-obeyed_both s t u ls ms first second = record {
-  session = second.session ∙ ap (λ x. after x ms) first.session ∙ sym (after-append s.session ls ms);
-  work = omega (
-    arith,
-    first.work,
-    second.work,
-    clocks-append s.session ls ms,
-    ap (λ x. clocks_over x ms) first.session,
-  );
-}
+obeyed_both s t u ls ms first second = grind (arith, after-append, clocks-append)
 
 pub answered_none : (bits : ℕ) (s : Stand) → Answered false bits s s []
 answered_none bits s = record { state = obeyed_none s; wrote = takes_none s.out }
@@ -138,9 +111,8 @@ answered_both bits s t u ls ms first second = record {
       (takes_both s.out t.out u.out (answers bits s.session ls) (answers bits t.session ms) first.wrote second.wrote);
 }
 
-pub answered_until : (bits : ℕ) (s t u : Stand) (ls ms : List (List ℕ))
-    → Answered false bits s t ls → has_quit ls ≡ false → Answered false bits t u (until_quit ms)
-    → Answered false bits s u (until_quit (ls ++ ms))
+pub answered_until : (bits : ℕ) (s t u : Stand) (ls ms : List (List ℕ)) → Answered false bits s t ls
+    → has_quit ls ≡ false → Answered false bits t u (until_quit ms) → Answered false bits s u (until_quit (ls ++ ms))
 answered_until bits s t u ls ms first quiet second =
     rw (until_then ls ms quiet) (answered_both bits s t u ls (until_quit ms) first second)
 
@@ -178,31 +150,16 @@ broke_both bits s t u ls ms first second =
 
 pub broke_more : (bits : ℕ) (s t : Stand) (ls ms : List (List ℕ))
     → Broken false bits s t ls → Broken false bits s t (ls ++ ms)
-broke_more bits s t ls ms broke =
-    let n = broke.count in
-    let t0 : take (n - 1) (ls ++ ms) ≡ take (n - 1) ls = take_within (n - 1) ls ms (omega (arith, broke.within)) in
-    let t1 : take n (ls ++ ms) ≡ take n ls = take_within n ls ms broke.within in
-    record {
-      count = n;
-      within = omega (arith, length-append ls ms, broke.within);
-      some = λ none. absurd (omega (arith, some_line n ls broke.some, none));
-      state = rw t1 broke.state;
-      gained = broke.gained;
-      before = rw t0 broke.before;
-      wrote = rw t1 broke.wrote;
-    }
+broke_more bits s t ls ms broke = grind (arith, take_within, length-append, some_line)
 
-pub broke_until : (bits : ℕ) (s t u : Stand) (ls ms : List (List ℕ))
-    → Answered false bits s t ls → has_quit ls ≡ false → Broken false bits t u (until_quit ms)
-    → Broken false bits s u (until_quit (ls ++ ms))
+pub broke_until : (bits : ℕ) (s t u : Stand) (ls ms : List (List ℕ)) → Answered false bits s t ls → has_quit ls ≡ false
+    → Broken false bits t u (until_quit ms) → Broken false bits s u (until_quit (ls ++ ms))
 broke_until bits s t u ls ms first quiet second =
     rw (until_then ls ms quiet) (broke_both bits s t u ls (until_quit ms) first second)
 
 pub broke_until_more : (bits : ℕ) (s t : Stand) (ls ms : List (List ℕ))
     → Broken false bits s t (until_quit ls) → Broken false bits s t (until_quit (ls ++ ms))
-broke_until_more bits s t ls ms broke =
-    rw (until-append ls ms) (broke_more bits s t (until_quit ls)
-    (if has_quit ls then [] else until_quit ms) broke)
+broke_until_more bits s t ls ms broke = grind (arith, until-append, broke_more)
 
 -- the first bytes of a line say what the line says
 command_short : (l : List ℕ) → line_command (short l) ≡ line_command l
@@ -279,17 +236,11 @@ pub answers_grow : (bits : ℕ) (s : SessionView) (ls : List (List ℕ)) (n : �
 answers_grow bits s ls n =
     let parts : answers bits s ls ≡ answers bits s (take n ls) ++ answers bits (after s (take n ls)) (drop n ls) =
     ap (λ ks. answers bits s ks) (sym (take-append-drop n ls)) ∙ answers-append bits s (take n ls) (drop n ls) in
-    omega (
-      arith,
-      ap length parts,
-      length-append (answers bits s (take n ls))
-          (answers bits (after s (take n ls)) (drop n ls)),
-    )
+    grind (arith, length-append)
 
 -- bytes were fed, none of whose lines is a quit
 pub fed_answered : {bits : ℕ} {line xs : List ℕ} {s t : Stand} {held : List ℕ}
-    → Fed g.More bits (typed line xs) s t held
-    → Answered false bits s t (ended line xs)
+    → Fed g.More bits (typed line xs) s t held → Answered false bits s t (ended line xs)
 fed_answered fed = rw (until_quiet _ (sym fed.going)) at fed.answered
 
 pub fed_none : (bits : ℕ) (line : List ℕ) (s : Stand) (held : List ℕ) → held ≡ short line
@@ -304,26 +255,18 @@ fed_both on bits line xs ys s t u held kept first second = record {
   answered = rw (ended-append line xs ys)
       (answered_until bits s t u (ended line xs) (ended (left line xs) ys) (fed_answered first) (sym first.going)
       second.answered);
-  going = rw (ended-append line xs ys)
-      (sym (quits_then (ended line xs) (ended (left line xs) ys) (is_last on) (sym first.going)
-      (sym second.going)));
+  going = grind (arith, ended-append, quits_then);
   held = λ more. second.held more ∙ ap short (sym (left-append line xs ys));
 }
 
 -- the bytes behind a quit count for nothing
 pub fed_quit : (bits : ℕ) (line xs ys : List ℕ) (s t : Stand) (held : List ℕ) → Fed g.Quit bits (typed line xs) s t held
     → Fed g.Quit bits (typed line (xs ++ ys)) s t held
-fed_quit bits line xs ys s t held fed = record {
-  answered = rw (ended-append line xs ys, until_more (ended line xs) (ended (left line xs) ys) (sym fed.going))
-      fed.answered;
-  going = rw (ended-append line xs ys) (sym (quits_more (ended line xs) (ended (left line xs) ys) (sym fed.going)));
-  held = λ more. absurd cc;
-}
+fed_quit bits line xs ys s t held fed = grind (arith, ended-append, until_more, quits_more)
 
 -- a write failed in the answer to a line behind bytes that were fed, or before others
 pub broke_fed : (bits : ℕ) (line xs ys : List ℕ) (s t u : Stand) (held : List ℕ)
-    → Fed g.More bits (typed line xs) s t held
-    → Broken false bits t u (until_quit (ended (left line xs) ys))
+    → Fed g.More bits (typed line xs) s t held → Broken false bits t u (until_quit (ended (left line xs) ys))
     → Broken false bits s u (until_quit (ended line (xs ++ ys)))
 broke_fed bits line xs ys s t u held first broke =
     rw (ended-append line xs ys)
@@ -348,8 +291,7 @@ kept_full held line b is full =
 
 -- byte after byte
 pub fed_more : (on : Going) (bits : ℕ) (line bytes : List ℕ) (i : ℕ) (s t u : Stand) (held kept : List ℕ)
-    → i < length bytes
-    → Fed g.More bits (typed line (take i bytes)) s t held
+    → i < length bytes → Fed g.More bits (typed line (take i bytes)) s t held
     → Fed on bits (typed (left line (take i bytes)) (get_or bytes i 0 ∷ [])) t u kept
     → Fed on bits (typed line (take (i + 1) bytes)) s u kept
 fed_more on bits line bytes i s t u held kept less first second =
@@ -357,8 +299,7 @@ fed_more on bits line bytes i s t u held kept less first second =
     second)
 
 pub fed_quit_in : (bits : ℕ) (line bytes : List ℕ) (i : ℕ) (s t : Stand) (held : List ℕ)
-    → Fed g.Quit bits (typed line (take i bytes)) s t held
-    → Fed g.Quit bits (typed line bytes) s t held
+    → Fed g.Quit bits (typed line (take i bytes)) s t held → Fed g.Quit bits (typed line bytes) s t held
 fed_quit_in bits line bytes i s t held fed =
     subst (λ k. Fed g.Quit bits (typed line k) s t held) (take-append-drop i bytes)
     (fed_quit bits line (take i bytes) (drop i bytes) s t held fed)

@@ -1,7 +1,7 @@
 -- The laws of sessions.
-use Rattle.std.proofs.Common.{◌≡◌, ℕ, true, List, [], ◌∷◌, ◌++◌, refl, ◌∙◌, append_assoc}
+use Rattle.px_num.proofs.Basics.{arith, ◌≡◌, ℕ, true, List, [], ◌∷◌, refl, ◌∙◌, append_assoc}
 use Rattle.px_debug.specs.Moves.{SessionView}
-use Rattle.px_lines.specs.Lines.{ended, last_of, left, whole_lines}
+use Rattle.px_asked.specs.Lines.{whole_lines}
 use Rattle.px_session.specs.SessionLaws.{StaysOver}
 use Rattle.px_session.specs.Sessions.{after, after_line, has_quit}
 use Rattle.px_session.proofs.FeedingLemmas.{ended-append, quits_more, until_more}
@@ -15,11 +15,4 @@ scene_stays s [] = refl
 scene_stays s (l ∷ ls) = scene_stays (after_line s l) ls ∙ scene_line s l
 
 pub quit_ends : (xs ys : List ℕ) → has_quit (whole_lines xs) ≡ true → StaysOver xs ys
-quit_ends xs ys quits =
-    let more = ended (left [] xs) ys in
-    let last = last_of (left [] (xs ++ ys)) in
-    record {
-      quits = rw (ended-append [] xs ys) (quits_more (whole_lines xs) more quits);
-      lines = rw (ended-append [] xs ys, append_assoc (whole_lines xs) more last)
-          (until_more (whole_lines xs) (more ++ last) quits);
-    }
+quit_ends xs ys quits = grind (arith, ended-append, quits_more, append_assoc, until_more)

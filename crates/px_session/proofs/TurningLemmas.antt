@@ -1,34 +1,29 @@
 -- One read after another, behind bytes that were read and answered.
-use Rattle.std.proofs.Common.{◌≡◌, ℕ, ◌+◌, ◌-◌, ◌<◌, ◌≤◌, false, List, [], ◌∷◌, ◌++◌, length, take}
-use Rattle.std.proofs.Common.{refl, sym, ap, ◌∙◌, min, append_assoc, append-nil, length-append, arith}
-use Rattle.std.specs.Io.KnownBytes.{Appends, Consumes, IsAtEnd, Keeps}
-use Rattle.std.proofs.Math.Seq.{take-append-add}
-use Rattle.std.proofs.lemmas.List.{take_all, take_min, length-take, take-take, take-append-le as take_within}
+use Rattle.px_num.proofs.Basics.{nat_tests, common_steps, ◌≡◌, ℕ, ◌+◌, ◌-◌, ◌<◌, ◌≤◌, false, List, [], ◌∷◌, ◌++◌}
+use Rattle.px_num.proofs.Basics.{length, take, refl, sym, ap, ◌∙◌, min, append_assoc, append-nil, length-append, arith}
+use Rattle.px_num.proofs.Basics.{Appends, Consumes, IsAtEnd, Keeps, take-append-add, take_all, take_min, take-take}
+use Rattle.std.proofs.lemmas.List.{length-take, take-append-le as take_within}
 use Rattle.px_io.specs.Counts.{Rose}
 use Rattle.px_io.proofs.ToldLaws.{consumes_both, consumes_kept, consumes_none}
 use Rattle.px_asked.specs.Asks.{Ask, Notes, all_given}
 use Rattle.px_asked.proofs.AskLaws.{asked_both, asked_none, given-one}
-use Rattle.px_debug.specs.declared.session.Going.TheVariants as g
-use Rattle.px_lines.specs.Lines.{ended, last_of, left, whole_lines}
+use Rattle.px_asked.specs.Lines.{ended, last_of, left, whole_lines}
 use Rattle.px_session.specs.Prompts.{Moment, Prompt, Prompts}
 use Rattle.px_session.specs.Servings.{Answered, Broken, HasEndingCauses, HasRead, HasServed, lines_in, seen}
 use Rattle.px_session.specs.Sessions.{Stand, answers, has_quit, until_quit}
 use Rattle.px_session.specs.Turns.{Fed, typed}
 use Rattle.px_session.specs.Catching.{Begun, Caught, Stopped, begun}
 use Rattle.px_session.specs.declared.serving.Ending.{Ending}
+use Rattle.px_session.proofs.FeedingLemmas.{answered_until, broke_fed, broke_until, broke_until_more, fed_answered}
+use Rattle.px_session.proofs.FeedingLemmas.{fed_both}
+use Rattle.px_debug.specs.declared.session.Going.TheVariants as g
 use Rattle.px_session.specs.declared.serving.Ending.TheVariants as e
-use Rattle.px_session.proofs.FeedingLemmas.{answered_until, broke_fed, broke_until, broke_until_more}
-use Rattle.px_session.proofs.FeedingLemmas.{fed_answered, fed_both}
 
 -- what a read gave, of which the last byte that may be read is not seen
 pub seen_read : (limit n k : ℕ) (buf ys : List ℕ) → n ≤ length buf → k ≡ min n (limit - 1) → take k (buf ++ ys)
     ≡ seen limit (take n buf)
 seen_read limit n k buf ys within is =
-    let t = take n buf in
-    let len = length-take n buf in
-    let m : min (limit - 1) (length t) ≡ k = omega arith in
-    let whole : take k t ≡ take (limit - 1) t = rw m at (take_min (limit - 1) t) in
-    take_within k buf ys (omega arith) ∙ sym (take-take k n buf (omega arith)) ∙ whole
+    grind (arith, nat_tests, common_steps, length-take, take_min, take_within, take-take)
 
 -- what was read, and of it the line that is not whole
 abbrev pub text_of : {bits n : ℕ} {b : Begun} {p : Moment} {held : List ℕ} → Caught bits b n p held → List ℕ
@@ -39,20 +34,9 @@ line_of caught = left [] (text_of caught)
 
 -- no more had been asked for
 pub caught_begun : (bits : ℕ) (read : List ℕ) (n : ℕ) (was p : Moment) (held : List ℕ) → p.asks ≡ was.asks
-    → p.rest ≡ was.rest
-    → p.faults ≡ was.faults → p.at.out.faults ≡ was.at.out.faults
+    → p.rest ≡ was.rest → p.faults ≡ was.faults → p.at.out.faults ≡ was.at.out.faults
     → Fed g.More bits (typed [] read) was.at p.at held → Caught bits (begun was read n) n p held
-caught_begun bits read n was p held asks rest calm_in calm_out fed = record {
-  asks = [];
-  asked = rw asks (asked_none was.asks);
-  taken = rw rest (consumes_none was.rest);
-  left = omega arith;
-  seen = take_all (n - 1) [] (omega arith);
-  prompt = tt;
-  fed = rw (append-nil read) fed;
-  calm_in = calm_in;
-  calm_out = calm_out;
-}
+caught_begun bits read n was p held asks rest calm_in calm_out fed = grind (arith, asked_none, take_all, append-nil)
 
 prompt_more : (bits : ℕ) (s : Stand) (n : ℕ) (text : List ℕ) (xs : List Ask) (a : Ask) → Prompt bits s n text xs
     → Appends s.out.written a.told (answers bits s.session (whole_lines (text ++ all_given xs)))
@@ -69,8 +53,7 @@ prompt_more bits s n text (x ∷ xs) a p q quiet some = (
 
 -- and one ask more
 pub prompts_ask : (bits : ℕ) (b : Begun) (n : ℕ) (p : Moment) (held : List ℕ) (now : Moment) (bytes : List ℕ)
-    → Caught bits b n p held
-    → 0 < n → Notes p.asks now.asks p.at.out.written bytes → Consumes p.rest now.rest bytes
+    → Caught bits b n p held → 0 < n → Notes p.asks now.asks p.at.out.written bytes → Consumes p.rest now.rest bytes
     → Prompts bits b.read b.more b.was now
 prompts_ask bits b n p held now bytes caught some noted took =
     let one : Ask = record { told = p.at.out.written; bytes = bytes } in
@@ -85,9 +68,8 @@ prompts_ask bits b n p held now bytes caught some noted took =
 
 -- whose bytes are answered
 pub caught_fed : (bits : ℕ) (b : Begun) (n m : ℕ) (p q : Moment) (held kept bytes fed : List ℕ)
-    → (caught : Caught bits b n p held)
-    → 0 < m → n ≡ length bytes + m → Notes p.asks q.asks p.at.out.written bytes → Consumes p.rest q.rest bytes
-    → fed ≡ seen n bytes → Fed g.More bits (typed (line_of caught) fed) p.at q.at kept
+    → (caught : Caught bits b n p held) → 0 < m → n ≡ length bytes + m → Notes p.asks q.asks p.at.out.written bytes
+    → Consumes p.rest q.rest bytes → fed ≡ seen n bytes → Fed g.More bits (typed (line_of caught) fed) p.at q.at kept
     → q.faults ≡ p.faults → q.at.out.faults ≡ p.at.out.faults → Caught bits b m q kept
 unfolding prompts_ask
 caught_fed bits b n m p q held kept bytes fed caught some count noted took is more calm_in calm_out =
@@ -120,30 +102,19 @@ causes_since e.WriteFault was p now calm_in calm_out causes = rw (← calm_in, �
 
 -- it stopped, when bytes had been read or none
 stopped_by : (ending : Ending) (bits : ℕ) (b : Begun) (n : ℕ) (p now : Moment) (held bytes : List ℕ)
-    → (caught : Caught bits b n p held)
-    → 0 < n → length bytes ≤ n → Consumes p.rest now.rest bytes
+    → (caught : Caught bits b n p held) → 0 < n → length bytes ≤ n → Consumes p.rest now.rest bytes
     → HasRead ending (all_given caught.asks ++ bytes) b.more now.rest
     → HasServed ending false bits b.was.at now.at (lines_in (text_of caught ++ seen n bytes))
-    → HasEndingCauses ending p now
-    → Prompts bits b.read b.more b.was now → Stopped ending bits b now
+    → HasEndingCauses ending p now → Prompts bits b.read b.more b.was now → Stopped ending bits b now
 stopped_by ending bits b n p now held bytes caught some few took read served causes prompts =
     let front = all_given caught.asks in
     let count : b.more - 1 ≡ length front + (n - 1) = omega (arith, caught.left, some) in
     let both : seen b.more (front ++ bytes) ≡ front ++ seen n bytes = rw count (take-append-add front bytes (n - 1)) in
-    record {
-      bytes = front ++ bytes;
-      few = omega (arith, length-append front bytes, caught.left, few);
-      taken = consumes_both b.was.rest p.rest now.rest front bytes caught.taken took;
-      ended = read;
-      served = rw (both, ← append_assoc b.read front (seen n bytes)) served;
-      causes = causes_since ending b.was p now caught.calm_in caught.calm_out causes;
-      prompts = prompts;
-    }
+    grind (arith, length-append, consumes_both, append_assoc, causes_since)
 
 -- behind bytes that were fed: a quit among their lines, the last byte that may be read, or a write that failed
 pub stopped_quit : (bits : ℕ) (b : Begun) (n : ℕ) (p now : Moment) (held kept bytes fed : List ℕ)
-    → (caught : Caught bits b n p held)
-    → 0 < n → length bytes ≤ n → Consumes p.rest now.rest bytes → fed ≡ seen n bytes
+    → (caught : Caught bits b n p held) → 0 < n → length bytes ≤ n → Consumes p.rest now.rest bytes → fed ≡ seen n bytes
     → Fed g.Quit bits (typed (line_of caught) fed) p.at now.at kept → HasEndingCauses e.Quit p now
     → Prompts bits b.read b.more b.was now → Stopped e.Quit bits b now
 stopped_quit bits b n p now held kept bytes fed caught some few took is more causes prompts =
@@ -152,8 +123,7 @@ stopped_quit bits b n p now held kept bytes fed caught some few took is more cau
     causes prompts
 
 pub stopped_long : (bits : ℕ) (b : Begun) (n : ℕ) (p now : Moment) (held kept bytes fed : List ℕ)
-    → (caught : Caught bits b n p held)
-    → 0 < n → length bytes ≡ n → Consumes p.rest now.rest bytes → fed ≡ seen n bytes
+    → (caught : Caught bits b n p held) → 0 < n → length bytes ≡ n → Consumes p.rest now.rest bytes → fed ≡ seen n bytes
     → Fed g.More bits (typed (line_of caught) fed) p.at now.at kept → HasEndingCauses e.Long p now
     → Prompts bits b.read b.more b.was now → Stopped e.Long bits b now
 stopped_long bits b n p now held kept bytes fed caught some full took is more causes prompts =
@@ -163,8 +133,7 @@ stopped_long bits b n p now held kept bytes fed caught some full took is more ca
     (rw (← is) (fed_answered both, sym both.going)) causes prompts
 
 pub stopped_broke : (bits : ℕ) (b : Begun) (n : ℕ) (p now : Moment) (held bytes fed : List ℕ)
-    → (caught : Caught bits b n p held)
-    → 0 < n → length bytes ≤ n → Consumes p.rest now.rest bytes → fed ≡ seen n bytes
+    → (caught : Caught bits b n p held) → 0 < n → length bytes ≤ n → Consumes p.rest now.rest bytes → fed ≡ seen n bytes
     → Broken false bits p.at now.at (until_quit (ended (line_of caught) fed)) → HasEndingCauses e.WriteFault p now
     → Prompts bits b.read b.more b.was now → Stopped e.WriteFault bits b now
 stopped_broke bits b n p now held bytes fed caught some few took is broke causes prompts =
@@ -181,9 +150,7 @@ stopped_idle : (ending : Ending) (bits : ℕ) (b : Begun) (n : ℕ) (p now : Mom
     → HasServed ending false bits b.was.at now.at (lines_in (text_of caught)) → HasEndingCauses ending p now
     → Prompts bits b.read b.more b.was now → Stopped ending bits b now
 stopped_idle ending bits b n p now held bytes caught some none took read served causes prompts =
-    let nothing : seen n [] ≡ [] = take_all (n - 1) [] (omega arith) in
-    stopped_by ending bits b n p now held [] caught some (omega arith) (rw none at took)
-    (rw (append-nil (all_given caught.asks)) read) (rw (nothing, append-nil (text_of caught)) served) causes prompts
+    grind (arith, take_all, stopped_by, append-nil)
 
 pub stopped_fault : (bits : ℕ) (b : Begun) (n : ℕ) (p now : Moment) (held : List ℕ) → Caught bits b n p held → 0 < n
     → Keeps p.rest now.rest → now.at ≡ p.at → HasEndingCauses e.ReadFault p now
@@ -194,8 +161,7 @@ stopped_fault bits b n p now held caught some kept same causes prompts =
     (rw same (fed_answered caught.fed), sym caught.fed.going) causes prompts
 
 pub stopped_end : (bits : ℕ) (b : Begun) (n : ℕ) (p now : Moment) (held bytes : List ℕ)
-    → (caught : Caught bits b n p held) → 0 < n
-    → bytes ≡ [] → Consumes p.rest now.rest bytes → IsAtEnd now.rest
+    → (caught : Caught bits b n p held) → 0 < n → bytes ≡ [] → Consumes p.rest now.rest bytes → IsAtEnd now.rest
     → Answered false bits p.at now.at (until_quit (last_of (line_of caught))) → HasEndingCauses e.End p now
     → Prompts bits b.read b.more b.was now → Stopped e.End bits b now
 stopped_end bits b n p now held bytes caught some none took end last causes prompts =
@@ -207,10 +173,9 @@ stopped_end bits b n p now held bytes caught some none took end last causes prom
     ) causes prompts
 
 pub stopped_last : (bits : ℕ) (b : Begun) (n : ℕ) (p now : Moment) (held bytes : List ℕ)
-    → (caught : Caught bits b n p held) → 0 < n
-    → bytes ≡ [] → Consumes p.rest now.rest bytes
-    → Broken false bits p.at now.at (until_quit (last_of (line_of caught)))
-    → HasEndingCauses e.WriteFault p now → Prompts bits b.read b.more b.was now → Stopped e.WriteFault bits b now
+    → (caught : Caught bits b n p held) → 0 < n → bytes ≡ [] → Consumes p.rest now.rest bytes
+    → Broken false bits p.at now.at (until_quit (last_of (line_of caught))) → HasEndingCauses e.WriteFault p now
+    → Prompts bits b.read b.more b.was now → Stopped e.WriteFault bits b now
 stopped_last bits b n p now held bytes caught some none took broke causes prompts =
     stopped_idle e.WriteFault bits b n p now held bytes caught some none took tt
     (broke_until bits b.was.at p.at now.at (whole_lines (text_of caught)) (last_of (line_of caught))
@@ -240,29 +205,12 @@ prompts_none bits read n was now asks rest =
     record { asks = []; asked = rw asks (asked_none was.asks); taken = rw rest (consumes_none was.rest); prompt = tt }
 
 pub begun_quit : (bits : ℕ) (read : List ℕ) (n : ℕ) (was now : Moment) (held : List ℕ) → now.asks ≡ was.asks
-    → now.rest ≡ was.rest
-    → now.faults ≡ was.faults → now.at.out.faults ≡ was.at.out.faults
+    → now.rest ≡ was.rest → now.faults ≡ was.faults → now.at.out.faults ≡ was.at.out.faults
     → Fed g.Quit bits (typed [] read) was.at now.at held → Stopped e.Quit bits (begun was read n) now
-begun_quit bits read n was now held asks rest calm_in calm_out fed = record {
-  bytes = [];
-  few = omega arith;
-  taken = rw rest (consumes_none was.rest);
-  ended = tt;
-  served = rw (nothing_seen read n) (fed.answered, sym fed.going);
-  causes = (calm_in, calm_out);
-  prompts = prompts_none bits read n was now asks rest;
-}
+begun_quit bits read n was now held asks rest calm_in calm_out fed = grind (arith, nothing_seen, prompts_none)
 
 pub begun_broke : (bits : ℕ) (read : List ℕ) (n : ℕ) (was now : Moment) → now.asks ≡ was.asks → now.rest ≡ was.rest
     → now.faults ≡ was.faults → Rose was.at.out.faults now.at.out.faults
     → Broken false bits was.at now.at (until_quit (whole_lines read)) → Stopped e.WriteFault bits (begun was read n) now
-begun_broke bits read n was now asks rest calm rose broke = record {
-  bytes = [];
-  few = omega arith;
-  taken = rw rest (consumes_none was.rest);
-  ended = tt;
-  served = rw (nothing_seen read n)
-      (broke_until_more bits was.at now.at (whole_lines read) (last_of (left [] read)) broke);
-  causes = (rose, calm);
-  prompts = prompts_none bits read n was now asks rest;
-}
+begun_broke bits read n was now asks rest calm rose broke =
+    grind (arith, consumes_none, nothing_seen, broke_until_more, prompts_none)

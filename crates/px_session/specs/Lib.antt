@@ -1,5 +1,5 @@
 pub use Rattle.px_debug.specs.Moves
-pub use Rattle.px_lines.specs.Lines
+pub use Rattle.px_asked.specs.Lines
 pub mod Buffers
 pub mod Catching
 pub mod Servings

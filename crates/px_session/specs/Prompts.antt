@@ -4,7 +4,7 @@ use Rattle.std.specs.Io.KnownBytes.{Appends, Consumes}
 use Rattle.px_io.specs.Told.{SinkState}
 use Rattle.px_asked.specs.Asks.{Ask, Asked, all_given}
 use Rattle.px_debug.specs.Moves.{SessionView}
-use Rattle.px_lines.specs.Lines.{whole_lines}
+use Rattle.px_asked.specs.Lines.{whole_lines}
 use Rattle.px_session.specs.Sessions.{Stand, answers, has_quit, stand}
 
 -- a session with its output, and its input: how it was asked, the bytes to come, and its count of faults

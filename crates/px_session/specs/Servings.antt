@@ -3,7 +3,7 @@ use Rattle.std.specs.Prelude.{◌≡◌, ℕ, ◌-◌, ◌<◌, ◌≤◌, Bool,
 use Rattle.std.specs.Io.KnownBytes.{Consumes, IsAtEnd}
 use Rattle.px_io.specs.Counts.{Rose}
 use Rattle.px_io.specs.Told.{FinishesWith, SinkState, TakesAll, TakesFirst}
-use Rattle.px_lines.specs.Lines.{all_lines, whole_lines}
+use Rattle.px_asked.specs.Lines.{all_lines, whole_lines}
 use Rattle.px_session.specs.Prompts.{Moment, Prompts}
 use Rattle.px_session.specs.Sessions.{Obeyed, Stand, answers, has_quit, until_quit}
 use Rattle.px_session.specs.declared.serving.Ending.{Ending}

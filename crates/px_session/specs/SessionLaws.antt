@@ -1,7 +1,7 @@
 -- The laws of sessions. Clauses of public calls stand on it.
 use Rattle.std.specs.Prelude.{◌≡◌, ℕ, List, ◌++◌, true}
 use Rattle.px_debug.specs.Moves.{SessionView}
-use Rattle.px_lines.specs.Lines.{all_lines, whole_lines}
+use Rattle.px_asked.specs.Lines.{all_lines, whole_lines}
 use Rattle.px_session.specs.Sessions.{after, has_quit, until_quit}
 
 -- a session keeps its scene

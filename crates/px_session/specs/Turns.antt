@@ -2,7 +2,7 @@
 use Rattle.std.specs.Prelude.{◌≡◌, ℕ, List, false}
 use Rattle.px_debug.specs.declared.session.Going.{Going}
 use Rattle.px_debug.specs.declared.session.Going.TheVariants as g
-use Rattle.px_lines.specs.Lines.{ended, left}
+use Rattle.px_asked.specs.Lines.{ended, left}
 use Rattle.px_session.specs.Buffers.{short}
 use Rattle.px_session.specs.Servings.{Answered}
 use Rattle.px_session.specs.Sessions.{Stand, has_quit, is_last, until_quit}

@@ -2,7 +2,7 @@
 ghost use Rattle.std.specs.Prelude.{◌≡◌, ◌<◌, ◌≤◌, ◌+◌, ◌-◌, ◌^◌, ◌++◌, ℕ, List, IfOk, OnOk, OnErr, length, false, [], ◌∷◌};
 ghost use Rattle.px_io.specs.Counts.{HasCause};
 ghost use Rattle.px_debug.specs.Moves.{Fits};
-ghost use Rattle.px_lines.specs.Lines.{ended, last_of};
+ghost use Rattle.px_asked.specs.Lines.{ended, last_of};
 ghost use Rattle.px_session.specs.Buffers.{short};
 ghost use Rattle.px_session.specs.Servings.{Answered, Broken};
 ghost use Rattle.px_session.specs.Sessions.{has_quit, is_last, stand, until_quit};

@@ -1,5 +1,5 @@
 -- Cells in boxes: in the common part of those that they are in, and in the box of all cells.
-use Rattle.std.proofs.Common.{ℕ, ◌≡◌, ◌<◌, ◌^◌, true, arith, Option, Some, None}
+use Rattle.px_num.proofs.Basics.{ℕ, ◌≡◌, ◌<◌, ◌^◌, true, arith, Option, Some, None}
 use Rattle.px_sets.specs.declared.cell_box.CellBox.{CellBox}
 use Rattle.px_sets.specs.Boxes.{lies_in, common_part, everything, narrowed, is_in_box}
 

@@ -1,11 +1,7 @@
 -- A set has no solid before its start, and none from its end on.
-use Rattle.std.proofs.Common.{ℕ, zero, suc, ◌≡◌, ◌<◌, ◌≤◌, ◌+◌, ◌-◌, ◌*◌, ◌/◌, ◌%◌, ◌^◌, ◌==◌, false}
-use Rattle.std.proofs.Common.{[], ◌∷◌, refl, ap, sym, subst, ◌∙◌, arith, inl, inr, slice_index, add-one}
-use Rattle.std.specs.List.{filter}
-use Rattle.std.specs.Int.{bit_at}
-use Rattle.std.proofs.lemmas.Bool.{cases_eq}
-use Rattle.std.proofs.lemmas.Nat.Bits.{bit_at_above, bit_at-zero}
-use Rattle.std.proofs.lemmas.List.Elements.{filter-append}
+use Rattle.px_num.proofs.Basics.{ℕ, zero, suc, ◌≡◌, ◌<◌, ◌≤◌, ◌+◌, ◌-◌, ◌*◌, ◌^◌, false, [], refl, ap, sym, subst, ◌∙◌}
+use Rattle.px_num.proofs.Basics.{arith, slice_index, add-one, filter, bit_at, cases_eq, bit_at_above, bit_at-zero}
+use Rattle.px_num.proofs.Basics.{filter-append}
 use Rattle.std.proofs.lemmas.List.{append-nil}
 use Rattle.px_sets.specs.declared.set.SolidSet.{SolidSet}
 use Rattle.px_sets.specs.Sets.{has, solids, below}
@@ -17,35 +13,21 @@ module _ (s : SolidSet) where
   -- no clear bit of the word at this place, and none of those below
   pub none_before : (place clear : ℕ) → ((k : ℕ) → k < place → word k ≡ 0) → clear ≤ 64
       → ((i : ℕ) → i < clear → bit_at (word place) i ≡ 0) → (q : ℕ) → q < 64 * place + clear → has s q ≡ false
-  none_before place clear below most low q before = elim (cases_eq (q / 64) place) [
-    | inl same ↦ rw same (ap (λ b. b == 1) (low (q % 64) (omega (arith, same, before))))
-    | inr other ↦ ap (λ w. bit_at w (q % 64) == 1) (below (q / 64) (omega (arith, other, before, most)))
-        ∙ ap (λ b. b == 1) (bit_at-zero (q % 64))
-  ]
+  none_before place clear below most low q before = grind (arith, cases_eq, bit_at-zero)
 
   pub below_second : word 0 ≡ 0 → (k : ℕ) → k < 1 → word k ≡ 0
   below_second first k low = subst (λ j. word j ≡ 0) (omega (arith, low)) first
 
   pub below_third : word 0 ≡ 0 → word 1 ≡ 0 → (k : ℕ) → k < 2 → word k ≡ 0
-  below_third first second k low = elim (cases_eq k 1) [
-    | inl same ↦ rw same second
-    | inr other ↦ below_second first k (omega (arith, low, other))
-  ]
+  below_third first second k low = grind (arith, cases_eq, below_second)
 
   pub below_last : word 0 ≡ 0 → word 1 ≡ 0 → word 2 ≡ 0 → (k : ℕ) → k < 3 → word k ≡ 0
-  below_last first second third k low = elim (cases_eq k 2) [
-    | inl same ↦ rw same third
-    | inr other ↦ below_third first second k (omega (arith, low, other))
-  ]
+  below_last first second third k low = grind (arith, cases_eq, below_third)
 
   -- no bit of the word at this place from the used ones on, and none of those above
   pub none_past : (place used : ℕ) → ((k : ℕ) → place < k → k < 4 → word k ≡ 0) → word place < 2 ^ used
       → (q : ℕ) → q < 256 → 64 * place + used ≤ q → has s q ≡ false
-  none_past place used above low q small past = elim (cases_eq (q / 64) place) [
-    | inl same ↦ ap (λ b. b == 1) (bit_at_above (word (q / 64)) used (q % 64) (rw same low) (omega (arith, same, past)))
-    | inr other ↦ ap (λ w. bit_at w (q % 64) == 1) (above (q / 64) (omega (arith, other, past)) (omega (arith, small)))
-        ∙ ap (λ b. b == 1) (bit_at-zero (q % 64))
-  ]
+  none_past place used above low q small past = grind (arith, cases_eq, bit_at_above, bit_at-zero)
 
   pub above_third : (k : ℕ) → 3 < k → k < 4 → word k ≡ 0
   above_third k low high = absurd (omega (arith, low, high))
@@ -54,21 +36,14 @@ module _ (s : SolidSet) where
   above_second last k low high = subst (λ j. word j ≡ 0) (omega (arith, low, high)) last
 
   pub above_first : word 3 ≡ 0 → word 2 ≡ 0 → (k : ℕ) → 1 < k → k < 4 → word k ≡ 0
-  above_first last third k low high = elim (cases_eq k 2) [
-    | inl same ↦ rw same third
-    | inr other ↦ above_second last k (omega (arith, low, other)) high
-  ]
+  above_first last third k low high = grind (arith, cases_eq, above_second)
 
   pub above_none : word 3 ≡ 0 → word 2 ≡ 0 → word 1 ≡ 0 → (k : ℕ) → 0 < k → k < 4 → word k ≡ 0
-  above_none last third second k low high = elim (cases_eq k 1) [
-    | inl same ↦ rw same second
-    | inr other ↦ above_first last third k (omega (arith, low, other)) high
-  ]
+  above_none last third second k low high = grind (arith, cases_eq, above_first)
 
   -- a further number that is not in the set
   dropped : (n : ℕ) → has s n ≡ false → filter (has s) (below (n + 1)) ≡ filter (has s) (below n)
-  dropped n e = rw (add-one n) (filter-append (has s) (below n) (n ∷ [])
-      ∙ rw e (append-nil (filter (has s) (below n))))
+  dropped n e = grind (arith, add-one, filter-append, append-nil)
 
   -- none of those before the start is in the set
   pub none_below : (start : ℕ) → ((q : ℕ) → q < start → has s q ≡ false) → filter (has s) (below start) ≡ []
@@ -89,6 +64,4 @@ module _ (s : SolidSet) where
         along zero le = let none : end + 0 ≡ end = omega arith in ap (λ n. filter (has s) (below n)) none
         along (suc more) le =
             let next : end + suc more ≡ end + more + 1 = omega arith in
-            ap (λ n. filter (has s) (below n)) next
-            ∙ dropped (end + more) (past (end + more) (omega (arith, le)) (omega arith))
-            ∙ along more (omega (arith, le))
+            grind (arith, dropped, along more (omega (arith, le)))

@@ -1,10 +1,8 @@
 -- Sets have a solid in common where their words have a bit in common.
-use Rattle.std.proofs.Common.{ℕ, suc, zero, ◌≡◌, ◌<◌, ◌≤◌, ◌+◌, ◌*◌, ◌/◌, ◌%◌, ◌^◌, min, max, nat_eq, ◌==◌, ◌&&◌}
-use Rattle.std.proofs.Common.{◌||◌, not, Bool, true, false, List, [], ◌∷◌, refl, ap, sym, ◌∙◌, arith, slice_index}
-use Rattle.std.proofs.Common.{bit_and, bit_or}
-use Rattle.std.specs.List.{list_all, list_any}
-use Rattle.std.specs.Int.{bit_at}
-use Rattle.std.proofs.lemmas.Nat.Bits.{bit_at_and, bit_at_or, bit_at-lt, bit_at-zero, same_from_bits_below}
+use Rattle.px_num.proofs.Basics.{ℕ, suc, zero, ◌≡◌, ◌<◌, ◌≤◌, ◌+◌, ◌*◌, ◌/◌, ◌%◌, ◌^◌, min, max, nat_eq, ◌==◌, ◌&&◌}
+use Rattle.px_num.proofs.Basics.{◌||◌, not, Bool, true, List, [], ◌∷◌, refl, ap, ◌∙◌, arith, slice_index, bit_and}
+use Rattle.px_num.proofs.Basics.{bit_or, list_all, list_any, bit_at, bit_at_and, bit_at_or, bit_at-lt, bit_at-zero}
+use Rattle.std.proofs.lemmas.Nat.Bits.{same_from_bits_below}
 use Rattle.px_num.proofs.TruthLaws.{never}
 use Rattle.px_sets.specs.declared.set.SolidSet.{SolidSet}
 use Rattle.px_sets.specs.Sets.{has, solids}
@@ -31,15 +29,7 @@ module _ (a b : SolidSet) where
   all_common = bit_or (bit_or (bit_or (common_word 0) (common_word 1)) (common_word 2)) (common_word 3)
 
   some_shared : (i : ℕ) → bit_at all_common i ≡ max (max (max (shared 0 i) (shared 1 i)) (shared 2 i)) (shared 3 i)
-  some_shared i = rw (
-    bit_at_or (bit_or (bit_or (common_word 0) (common_word 1)) (common_word 2)) (common_word 3) i,
-    bit_at_or (bit_or (common_word 0) (common_word 1)) (common_word 2) i,
-    bit_at_or (common_word 0) (common_word 1) i,
-    bit_at_and (slice_index a.words 0) (slice_index b.words 0) i,
-    bit_at_and (slice_index a.words 1) (slice_index b.words 1) i,
-    bit_at_and (slice_index a.words 2) (slice_index b.words 2) i,
-    bit_at_and (slice_index a.words 3) (slice_index b.words 3) i,
-  ) refl
+  some_shared i = grind (arith, bit_at_or, bit_or, bit_at_and, slice_index)
 
   at_most : (k i : ℕ) → k < 4 → shared k i ≤ bit_at all_common i
   at_most zero i lt = rw (some_shared i) (omega arith)
@@ -64,8 +54,7 @@ module _ (a b : SolidSet) where
   word_apart apart k i few lt =
       let q = 64 * k + i
       in let here : has a q ≡ true → not (has b q) ≡ true = (all-each (λ q. not (has b q)) a).0 apart q (omega arith)
-      in none_shared _ _ (bit_at-lt (slice_index a.words k) i) (bit_at-lt (slice_index b.words k) i)
-      (rw ((place k i lt).0, (place k i lt).1) at here)
+      in grind (arith, none_shared, bit_at-lt, slice_index, place)
 
   no_word : all_common < 2 ^ 64 → AreApart → all_common ≡ 0
   no_word small apart = same_from_bits_below 64 all_common 0 small (omega arith)
@@ -87,11 +76,4 @@ module _ (a b : SolidSet) where
       )) there)
 
   pub meets_is : all_common < 2 ^ 64 → not (nat_eq all_common 0) ≡ list_any (has b) (solids a)
-  meets_is small = step (list_all (λ q. not (has b q)) (solids a)) refl ∙ sym (no_void a (has b)) where
-    some_word : (w : ℕ) → (w ≡ 0 → ⊥) → not (nat_eq w 0) ≡ true
-    some_word w some = grind arith
-
-    step : (x : Bool) → list_all (λ q. not (has b q)) (solids a) ≡ x → not (nat_eq all_common 0)
-        ≡ not (list_all (λ q. not (has b q)) (solids a))
-    step true e = rw (e, no_word small e) refl
-    step false e = rw e (some_word all_common (λ none. never _ e (are_apart none)))
+  meets_is small = grind (arith, no_void, no_word, never, are_apart)

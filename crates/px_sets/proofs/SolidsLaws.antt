@@ -1,8 +1,6 @@
 -- All and some solids of a set.
-use Rattle.std.proofs.Common.{ℕ, suc, zero, ◌≡◌, ◌<◌, ◌↔◌, ◌==◌, ◌||◌, ◌&&◌, not, Bool, true, false, List, [], ◌∷◌}
-use Rattle.std.proofs.Common.{◌++◌, refl, ap, ◌∙◌, arith, inl, inr}
-use Rattle.std.specs.List.{list_all, list_any, filter}
-use Rattle.std.proofs.lemmas.Bool.{cases_eq}
+use Rattle.px_num.proofs.Basics.{ℕ, suc, zero, ◌≡◌, ◌<◌, ◌↔◌, ◌==◌, ◌||◌, ◌&&◌, not, Bool, true, false, List, [], ◌∷◌}
+use Rattle.px_num.proofs.Basics.{◌++◌, refl, ap, ◌∙◌, arith, inl, inr, list_all, list_any, filter, cases_eq}
 use Rattle.px_num.proofs.TruthLaws.{and_left, and_true, or_false, other_false, same_true}
 use Rattle.px_sets.specs.declared.set.SolidSet.{SolidSet}
 use Rattle.px_sets.specs.Sets.{has, empty, one, sets_joined, below, solids}
@@ -10,27 +8,13 @@ use Rattle.px_sets.proofs.BitsLaws.{has-joined, has-one, has-empty}
 
 all_last : (P h : ℕ → Bool) (xs : List ℕ) (n : ℕ) → list_all P (filter h (xs ++ n ∷ [])) ≡ list_all P (filter h xs)
     && (not (h n) || P n)
-all_last P h [] n = last (h n) refl where
-  last : (b : Bool) → h n ≡ b → list_all P (filter h (n ∷ [])) ≡ not (h n) || P n
-  last true e = grind arith
-  last false e = grind arith
-all_last P h (x ∷ xs) n = step (h x) refl (all_last P h xs n) where
-  step : (b : Bool) → h x ≡ b → list_all P (filter h (xs ++ n ∷ [])) ≡ list_all P (filter h xs) && (not (h n) || P n)
-      → list_all P (filter h (x ∷ (xs ++ n ∷ []))) ≡ list_all P (filter h (x ∷ xs)) && (not (h n) || P n)
-  step true e ih = grind arith
-  step false e ih = grind arith
+all_last P h [] n = grind arith
+all_last P h (x ∷ xs) n = grind (arith, all_last P h xs n)
 
 pub any_last : (P h : ℕ → Bool) (xs : List ℕ) (n : ℕ) → list_any P (filter h (xs ++ n ∷ [])) ≡ list_any P (filter h xs)
     || (h n && P n)
-any_last P h [] n = last (h n) refl where
-  last : (b : Bool) → h n ≡ b → list_any P (filter h (n ∷ [])) ≡ h n && P n
-  last true e = grind arith
-  last false e = grind arith
-any_last P h (x ∷ xs) n = step (h x) refl (any_last P h xs n) where
-  step : (b : Bool) → h x ≡ b → list_any P (filter h (xs ++ n ∷ [])) ≡ list_any P (filter h xs) || (h n && P n)
-      → list_any P (filter h (x ∷ (xs ++ n ∷ []))) ≡ list_any P (filter h (x ∷ xs)) || (h n && P n)
-  step true e ih = grind arith
-  step false e ih = grind arith
+any_last P h [] n = grind arith
+any_last P h (x ∷ xs) n = grind (arith, any_last P h xs n)
 
 -- the test of a join
 module _ (P h f g : ℕ → Bool) where

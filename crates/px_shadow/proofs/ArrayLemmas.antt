@@ -1,8 +1,6 @@
 -- What the shadow passes leave in an array that stores the picture, and the image of it.
-use Rattle.std.proofs.Common.{◌≡◌, ◌<◌, ◌≤◌, ◌+◌, ◌-◌, ◌*◌, ◌^◌, ◌∙◌, ℕ, List, length}
-use Rattle.std.proofs.Common.{refl, ap, subst, sym, arith}
-use Rattle.std.specs.Prelude.{All}
-use Rattle.std.proofs.lemmas.List.Elements.{All-weaker}
+use Rattle.px_num.proofs.Basics.{◌≡◌, ◌<◌, ◌≤◌, ◌+◌, ◌-◌, ◌*◌, ◌^◌, ◌∙◌, ℕ, List, length, refl, ap, subst, sym, arith}
+use Rattle.px_num.proofs.Basics.{All, All-weaker}
 use Rattle.px_array.specs.Arrays.{Device, pixel_of}
 use Rattle.px_array.specs.Clocks.{all_clocked}
 use Rattle.px_asm.specs.Micros.{all_micros}
@@ -17,7 +15,6 @@ use Rattle.px_control.specs.PictureLaw.{PictureLaw}
 use Rattle.px_control.specs.Program.{IsAt, array_after, rows_of, total}
 use Rattle.px_frame.proofs.RowLaws.{same_image}
 use Rattle.px_shadow.specs.declared.passes.TheConstants.{MAX_LIGHTS}
-use Rattle.px_shadow.specs.Lights.{is_lit, light_at, mask_at}
 use Rattle.px_shadow.specs.ShadowLaws.{MaskLaw, ShadedGridLaw, ShadedLaw, ShadowLaw, ShadowPassesAreLawful}
 use Rattle.px_shadow.specs.Shaded.{IsShaded, shaded, shadow_program}
 use Rattle.px_shadow.specs.Carrying.{CanCarryOut, carried_out}
@@ -27,7 +24,6 @@ use Rattle.px_sets.specs.Sets.{IsBelow}
 use Rattle.px_prune.specs.Kept.{plan_of}
 use Rattle.px_sched.specs.PassesFacts.{LayoutsAreLawful}
 use Rattle.px_shadow.specs.ShadowPasses.{light_bit, need_with, shadow_passes}
-use Rattle.px_shadow.specs.Stored.{stored_mask}
 use Rattle.px_control.proofs.ArrayLaws.{columns_at, rows_at}
 use Rattle.px_array.proofs.ClockLaws.{nx-after_clocks, ny-after_clocks}
 use Rattle.px_tree.proofs.PlaceLaws.{index_below}
@@ -98,25 +94,18 @@ shaded_law law passes_lawful more meanings grids sizes pictures bits scene light
     (omega (arith, at.enough, long)) (pictures bits scene before lawful solids first x y left up) place below
 
 pub mask_law : MaskLaw
-mask_law scene l lights state stores =
-    same_image scene.width scene.height (stored_mask l (length lights) state) (mask_at scene lights) (λ x y left up.
-    number_same (λ t. bit_at (pixel_of state x y).memory (light_bit l 1 + t))
-    (λ place. is_lit scene (light_at lights place) x y) (length lights) (λ t low.
-    let e : light_bit l 1 + t ≡ light_bit l (t + 1) = omega arith in
-    ap (bit_at (pixel_of state x y).memory) e ∙ stores x y left up t low))
+mask_law scene l lights state stores = grind (arith, same_image, number_same)
 
 clocks_at : (bits : ℕ) (scene : SceneView) (n : ℕ) → (array_after bits scene n).clocks ≡ n
 unfolding array_after
 clocks_at bits scene n = refl
 
 -- the array that stores the picture can carry the shadow passes out
-pub can_shade : LayoutsAreLawful → IsLawfulInMore → ShadowPassesAreLawful → ShadowPassesAreFew → ClockBound → SizeLaw →
-    (bits : ℕ) (scene : SceneView) (lights : List SolidSet) (device : Device) → IsLawfulScene scene
-    → All IsLawfulSolid scene.solids →
-    length (plan_of scene) ≤ MAX_PRODUCTS → IsAt bits scene (total scene) device → All (IsBelow (length scene.solids))
-    lights →
-    need_with (layout_of scene) (length lights) ≤ bits → length lights ≤ MAX_LIGHTS →
-    CanCarryOut bits (shadow_passes scene (layout_of scene) lights) device
+pub can_shade : LayoutsAreLawful → IsLawfulInMore → ShadowPassesAreLawful → ShadowPassesAreFew → ClockBound → SizeLaw
+    → (bits : ℕ) (scene : SceneView) (lights : List SolidSet) (device : Device) → IsLawfulScene scene
+    → All IsLawfulSolid scene.solids → length (plan_of scene) ≤ MAX_PRODUCTS → IsAt bits scene (total scene) device
+    → All (IsBelow (length scene.solids)) lights → need_with (layout_of scene) (length lights) ≤ bits
+    → length lights ≤ MAX_LIGHTS → CanCarryOut bits (shadow_passes scene (layout_of scene) lights) device
 can_shade layouts more passes_lawful few bound sizes bits scene lights device lawful solids products at known
     enough most =
     let l = layout_of scene in
@@ -129,25 +118,13 @@ can_shade layouts more passes_lawful few bound sizes bits scene lights device la
       sized = sizes bits scene (total scene) device lawful at;
       lawful = All-weaker (λ m. IsLawful m need) (λ m. IsLawful m 256) (λ m h. more m need 256 small h) ms fit;
       places = All-weaker (λ m. IsLawful m need) (λ m. IsLawful m bits) (λ m h. more m need bits enough h) ms fit;
-      counted = omega (
-        arith,
-        ap (λ (d : Device). d.clocks) at.reached,
-        clocks_at bits scene (total scene),
-        bound scene lawful solids products,
-        few scene lawful solids lights known,
-        most,
-      );
+      counted = grind (arith, clocks_at);
     }
 
 pub is_shaded : (bits : ℕ) (scene : SceneView) (lights : List SolidSet) (device now : Device)
-    → IsAt bits scene (total scene) device →
-    need_with (layout_of scene) (length lights) ≤ bits
+    → IsAt bits scene (total scene) device → need_with (layout_of scene) (length lights) ≤ bits
     → now ≡ carried_out (shadow_passes scene (layout_of scene) lights) device → IsShaded bits scene lights now
-is_shaded bits scene lights device now at enough is = record {
-  enough = enough;
-  reached = is ∙ ap (carried_out (shadow_passes scene (layout_of scene) lights)) at.reached
-      ∙ sym (shaded_is bits scene lights);
-}
+is_shaded bits scene lights device now at enough is = grind (arith, shaded_is)
 
 shaded_clocks : (bits : ℕ) (scene : SceneView) (lights : List SolidSet) → (shaded bits scene lights).clocks
     ≡ total scene + length (shadow_program scene lights)
@@ -158,11 +135,4 @@ shaded_clocks bits scene lights = refl
 pub clocks_made : (bits : ℕ) (scene : SceneView) (lights : List SolidSet) (device now : Device)
     → IsAt bits scene (total scene) device → IsShaded bits scene lights now →
     now.clocks - device.clocks ≡ length (shadow_program scene lights)
-clocks_made bits scene lights device now at made =
-    omega (
-      arith,
-      ap (λ (d : Device). d.clocks) at.reached,
-      clocks_at bits scene (total scene),
-      ap (λ (d : Device). d.clocks) made.reached,
-      shaded_clocks bits scene lights,
-    )
+clocks_made bits scene lights device now at made = grind (arith, clocks_at, shaded_clocks)

@@ -1,13 +1,9 @@
 -- Operations that are carried out on an array, one after another.
-use Prim.Native.Nat.{suc}
-use Rattle.std.proofs.Math.Seq.{drop-cons}
-use Rattle.std.proofs.Common.{drop, get_or, ◌≡◌, ◌<◌, ◌≤◌, ◌+◌, ◌-◌, ◌*◌, ◌∙◌, ℕ, List, [], ◌∷◌, ◌++◌, length}
-use Rattle.std.proofs.Common.{All, Option, refl, ap, sym, subst, arith, append_assoc, add-zero}
-use Rattle.std.proofs.Common.{length-append}
-use Rattle.std.specs.List.{flat_map}
-use Rattle.std.proofs.lemmas.Grind.{flat_map-append}
-use Rattle.std.proofs.lemmas.List.{append-nil, drop_all}
-use Rattle.std.proofs.lemmas.List.Elements.{All-cons, All-head, All-nil, All-tail}
+use Rattle.px_num.proofs.Basics.{nat_tests, common_steps, flat_map-append, drop-cons, drop, get_or, ◌≡◌, ◌<◌, ◌≤◌, ◌+◌}
+use Rattle.px_num.proofs.Basics.{◌-◌, ◌*◌, ◌∙◌, ℕ, List, [], ◌∷◌, ◌++◌, length, All, Option, refl, ap, sym, arith}
+use Rattle.px_num.proofs.Basics.{append_assoc, add-zero, length-append, flat_map, drop_all, All-cons, All-head, All-nil}
+use Rattle.px_num.proofs.Basics.{All-tail}
+use Rattle.std.proofs.lemmas.List.{append-nil}
 use Rattle.px_array.specs.Arrays.{Device, HasGrid, State}
 use Rattle.px_array.specs.Clocks.{after_clocks, all_clocked}
 use Rattle.px_array.proofs.ClockLaws.{all_clocked-append, grid_after_clocks, nx-after_clocks, ny-after_clocks}
@@ -116,15 +112,13 @@ module _ {A : Type 0} (bits : ℕ) (device : A → Device) (slots : A → List (
   all_left whole start can = record { can = can; same = refl; clocks = omega arith; slots = refl; work = omega arith }
 
   pub left_first : (whole xs ys : List Macro) (start now : A)
-      → IsRestOf bits (view_by device slots work) whole (xs ++ ys) start
-      now → CanCarryOut bits xs (device now)
+      → IsRestOf bits (view_by device slots work) whole (xs ++ ys) start now → CanCarryOut bits xs (device now)
   left_first whole xs ys start now left = can_first bits xs ys (device now) left.can
 
   pub left_next : (whole xs ys : List Macro) (start before now : A)
-      → IsRestOf bits (view_by device slots work) whole (xs ++ ys)
-      start before →
-      CarriesOut (view_by device slots work) xs before now → IsRestOf bits (view_by device slots work) whole ys start
-      now
+      → IsRestOf bits (view_by device slots work) whole (xs ++ ys) start before
+      → CarriesOut (view_by device slots work) xs before now
+      → IsRestOf bits (view_by device slots work) whole ys start now
   left_next whole xs ys start before now left made = record {
     can = can_second bits xs ys (device before) (device now) left.can made.device;
     same = rest_of xs ys (device before) (device now) made.device ∙ left.same;
@@ -135,12 +129,7 @@ module _ {A : Type 0} (bits : ℕ) (device : A → Device) (slots : A → List (
 
   pub none_left : (whole : List Macro) (start now : A) → IsRestOf bits (view_by device slots work) whole [] start now
       → CarriesOut (view_by device slots work) whole start now
-  none_left whole start now left = record {
-    device = sym (carried_none (device now)) ∙ left.same;
-    clocks = left.clocks;
-    slots = left.slots;
-    work = left.work;
-  }
+  none_left whole start now left = grind (arith, carried_none)
 
   -- the last ones are carried out
   pub last_made : (whole ms : List Macro) (start before now : A) → IsRestOf bits (view_by device slots work) whole ms
@@ -155,33 +144,26 @@ module _ {A : Type 0} (bits : ℕ) (device : A → Device) (slots : A → List (
       → work now ≡ worked ((device now).clocks - (device before).clocks) (work before)
       → CarriesOut (view_by device slots work) ms before now
   unfolding carried_out
-  made_out ms before now is clocks same grown =
-      record { device = is; clocks = clocks; slots = same; work = grown }
+  made_out ms before now is clocks same grown = record { device = is; clocks = clocks; slots = same; work = grown }
 
   -- some operations for each element of a list
   cut_each : {X : Type 0} (f : X → List Macro) (xs : List X) (i : ℕ) (x d : X) → i < length xs → get_or xs i d ≡ x →
       flat_map f (drop i xs) ≡ f x ++ flat_map f (drop (i + 1) xs)
-  cut_each f xs i x d there is =
-      let next : suc i ≡ i + 1 = omega arith in
-      ap (flat_map f) (drop-cons xs i d there ∙ ap (λ k. get_or xs i d ∷ drop k xs) next
-      ∙ ap (λ y. y ∷ drop (i + 1) xs) is)
+  cut_each f xs i x d there is = grind (arith, drop-cons)
 
   pub each_cut : {X : Type 0} (f : X → List Macro) (xs : List X) (i : ℕ) (x d : X) (whole tail : List Macro)
       (start now : A) → i < length xs → get_or xs i d ≡ x →
       IsRestOf bits (view_by device slots work) whole (flat_map f (drop i xs) ++ tail) start now →
       IsRestOf bits (view_by device slots work) whole (f x ++ (flat_map f (drop (i + 1) xs) ++ tail)) start now
   each_cut f xs i x d whole tail start now there is left =
-      let cut : flat_map f (drop i xs) ++ tail ≡ f x ++ (flat_map f (drop (i + 1) xs) ++ tail) =
-      ap (λ ms. ms ++ tail) (cut_each f xs i x d there is) ∙ append_assoc (f x) (flat_map f (drop (i + 1) xs)) tail in
-      subst (λ ms. IsRestOf bits (view_by device slots work) whole ms start now) cut left
+      grind (arith, nat_tests, common_steps, cut_each, append_assoc)
 
   pub each_first : {X : Type 0} (f : X → List Macro) (xs : List X) (i : ℕ) (x d : X) (whole tail : List Macro)
       (start now : A) → i < length xs → get_or xs i d ≡ x →
       IsRestOf bits (view_by device slots work) whole (flat_map f (drop i xs) ++ tail) start now
       → CanCarryOut bits (f x) (device now)
   each_first f xs i x d whole tail start now there is left =
-      left_first whole (f x) (flat_map f (drop (i + 1) xs) ++ tail) start now
-      (each_cut f xs i x d whole tail start now there is left)
+      grind (arith, nat_tests, common_steps, left_first, each_cut)
 
   pub each_next : {X : Type 0} (f : X → List Macro) (xs : List X) (i : ℕ) (x d : X) (whole tail : List Macro)
       (start before now : A) → i < length xs → get_or xs i d ≡ x →
@@ -189,13 +171,9 @@ module _ {A : Type 0} (bits : ℕ) (device : A → Device) (slots : A → List (
       → CarriesOut (view_by device slots work) (f x) before now →
       IsRestOf bits (view_by device slots work) whole (flat_map f (drop (i + 1) xs) ++ tail) start now
   each_next f xs i x d whole tail start before now there is left made =
-      left_next whole (f x) (flat_map f (drop (i + 1) xs) ++ tail) start before now
-      (each_cut f xs i x d whole tail start before there is left) made
+      grind (arith, nat_tests, common_steps, left_next, each_cut)
 
   pub each_done : {X : Type 0} (f : X → List Macro) (xs : List X) (i : ℕ) (whole tail : List Macro) (start now : A)
-      → length xs ≤ i →
-      IsRestOf bits (view_by device slots work) whole (flat_map f (drop i xs) ++ tail) start now
+      → length xs ≤ i → IsRestOf bits (view_by device slots work) whole (flat_map f (drop i xs) ++ tail) start now
       → IsRestOf bits (view_by device slots work) whole tail start now
-  each_done f xs i whole tail start now past left =
-      subst (λ ys. IsRestOf bits (view_by device slots work) whole (flat_map f ys ++ tail) start now)
-      (drop_all i xs past) left
+  each_done f xs i whole tail start now past left = grind (arith, drop_all)

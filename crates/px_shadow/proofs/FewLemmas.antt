@@ -1,27 +1,22 @@
 -- How many operations the shadow passes are.
-use Rattle.std.proofs.Common.{◌≡◌, ◌<◌, ◌≤◌, ◌+◌, ◌*◌, ℕ, true, false, List, [], ◌∷◌, length, map}
-use Rattle.std.proofs.Common.{filter, refl, ap, arith, length-append}
-use Rattle.std.specs.Prelude.{All}
-use Rattle.std.specs.List.{flat_map, range_with_len}
-use Rattle.std.proofs.lemmas.List.{length-map}
-use Rattle.std.proofs.lemmas.List.FromFn.{length-map-range_with_len, length-range_with_len}
-use Rattle.std.proofs.lemmas.List.Elements.{All-head, All-tail, All-weaker}
+use Rattle.px_num.proofs.Basics.{◌≡◌, ◌<◌, ◌≤◌, ◌+◌, ◌*◌, ℕ, true, false, List, [], ◌∷◌, length, filter, refl, ap}
+use Rattle.px_num.proofs.Basics.{arith, length-append, All, flat_map, range_with_len, length-map}
+use Rattle.px_num.proofs.Basics.{length-map-range_with_len, length-range_with_len, All-head, All-tail, All-weaker}
 use Rattle.px_num.proofs.RangeLaws.{range_all}
 use Rattle.px_macro.specs.declared.operation.Macro.{Macro}
-use Rattle.px_macro.specs.declared.operation.Macro.TheVariants as m
 use Rattle.px_sets.specs.declared.set.SolidSet.{SolidSet}
 use Rattle.px_sets.specs.Sets.{IsBelow, below, has, solids}
 use Rattle.px_model.specs.Scenes.{SceneView, IsLawfulSolid, SolidView}
 use Rattle.px_model.specs.Cells.{depths_of, end_of}
-use Rattle.px_face.specs.Edges.{edges}
-use Rattle.px_face.specs.Faces.{face_count, face_plane}
-use Rattle.px_sched.specs.Layouts.{LayoutView, deep_part, number_part}
+use Rattle.px_face.specs.Faces.{face_count}
+use Rattle.px_sched.specs.Layouts.{LayoutView}
 use Rattle.px_sched.specs.Passes.{no_solid, solid_of}
 use Rattle.px_sched.proofs.FewLaws.{few_filtered}
 use Rattle.px_shadow.specs.ShadowPasses.{background_passes, light_bit, light_passes, passes_from, solid_passes}
 use Rattle.px_shadow.specs.ShadowPasses.{stored_turn}
 use Rattle.px_shadow.proofs.FitLemmas.{Ranges}
 use Rattle.px_shadow.proofs.StepLemmas.{all_known}
+use Rattle.px_macro.specs.declared.operation.Macro.TheVariants as m
 
 flat_few : {X : Type 0} (f : X → List Macro) (most : ℕ) (xs : List X) → All (λ x. length (f x) ≤ most) xs
     → length (flat_map f xs) ≤ most * length xs
@@ -45,18 +40,7 @@ module _ (laws : Ranges) (scene : SceneView) (each : All IsLawfulSolid scene.sol
 
   turn_few : (s : SolidView) → IsLawfulSolid s → (face : ℕ) → face < face_count s
       → length (stored_turn l end s face) ≤ 100
-  turn_few s h face there =
-      let signs = map m.KeepSign (edges s end face) in
-      let last = m.KeepAtMost (face_plane s end face) (deep_part l l.key_b) ∷ m.Toggle l.par ∷ [] in
-      omega (
-        arith,
-        length-append signs last,
-        length-map (edges s end face) m.KeepSign,
-        laws.count s end face there,
-        h.fronts.few,
-        h.backs.few,
-        h.few_sides,
-      )
+  turn_few s h face there = grind (arith, length-append, length-map)
 
   solid_few : (light : ℕ) (s : SolidView) → IsLawfulSolid s → length (solid_passes l end light s) ≤ 6605
   solid_few light s h =
@@ -68,14 +52,7 @@ module _ (laws : Ranges) (scene : SceneView) (each : All IsLawfulSolid scene.sol
       omega (arith, length-append turns last, few, length-range_with_len 0 (face_count s), h.fronts.few, h.backs.few)
 
   background_few : (light : ℕ) → length (background_passes l light) ≤ 14
-  background_few light =
-      let tests = map (λ t. m.KeepBit ((number_part l l.key_b).at + t) false) (range_with_len 0 l.number_bits) in
-      omega (
-        arith,
-        length-append tests (m.SetBit (light_bit l light) false ∷ []),
-        length-map-range_with_len (λ t. m.KeepBit ((number_part l l.key_b).at + t) false) 0 l.number_bits,
-        number,
-      )
+  background_few light = grind (arith, length-append, length-map-range_with_len)
 
   light_few : (light : ℕ) (set : SolidSet) → IsBelow (length scene.solids) set
       → length (light_passes scene l light set) ≤ 1690896

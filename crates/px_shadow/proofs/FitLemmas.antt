@@ -1,12 +1,8 @@
 -- The shadow passes are lawful in as many memory bits as they need, and few.
-use Rattle.std.proofs.Common.{◌<◌, ◌≤◌, ◌+◌, ◌^◌, ℕ, false, true, List, [], ◌∷◌, ◌++◌, length, map, sym}
-use Rattle.std.proofs.Common.{subst, arith}
-use Rattle.std.specs.Prelude.{All}
-use Rattle.std.specs.List.{flat_map, range_with_len}
-use Rattle.std.proofs.lemmas.List.Elements.{All-append, All-cons, All-head, All-map, All-nil, All-tail}
+use Rattle.px_num.proofs.Basics.{◌<◌, ◌≤◌, ◌+◌, ◌^◌, ℕ, false, true, List, [], ◌∷◌, ◌++◌, length, map, arith, All}
+use Rattle.px_num.proofs.Basics.{flat_map, range_with_len, All-append, All-cons, All-head, All-map, All-nil, All-tail}
 use Rattle.px_num.proofs.RangeLaws.{range_all}
 use Rattle.px_macro.specs.declared.operation.Macro.{Macro}
-use Rattle.px_macro.specs.declared.operation.Macro.TheVariants as m
 use Rattle.px_macro.specs.Macros.{IsField, IsLawful}
 use Rattle.px_sets.specs.declared.set.SolidSet.{SolidSet}
 use Rattle.px_sets.specs.SetLaws.{LawsOfSets}
@@ -24,6 +20,7 @@ use Rattle.px_shadow.specs.ShadowPasses.{background_passes, light_bit, light_pas
 use Rattle.px_shadow.specs.ShadowPasses.{stored_turn}
 use Rattle.px_shadow.proofs.StepLemmas.{all_known}
 use Rattle.px_sched.proofs.LawfulLaws.{all_flat}
+use Rattle.px_macro.specs.declared.operation.Macro.TheVariants as m
 
 -- what the operations need of a layout in so many memory bits
 record HasRoom (l : LayoutView) (bits : ℕ) : Type 0 where
@@ -33,16 +30,10 @@ record HasRoom (l : LayoutView) (bits : ℕ) : Type 0 where
 
 room_with : (w f i bits : ℕ) → 1 ≤ w → w + f ≤ 24 → need_of (layout_with w f i) ≤ bits
     → HasRoom (layout_with w f i) bits
-room_with w f i bits some most enough = record {
-  deep = record { from_one = omega arith; to_forty = omega arith; within = omega arith };
-  number = omega arith;
-  par = omega arith;
-}
+room_with w f i bits some most enough = grind arith
 
 room_of : (l : LayoutView) (bits : ℕ) → IsLayout l → need_of l ≤ bits → HasRoom l bits
-room_of l bits h enough =
-    subst (λ k. HasRoom k bits) (sym h.fields) (room_with l.depth_bits l.fraction_bits l.number_bits bits h.some_depth
-    h.depth enough)
+room_of l bits h enough = grind (arith, room_with)
 
 -- the laws of the layers below
 pub record Ranges : Type 0 where
@@ -122,8 +113,7 @@ module _ (laws : Ranges) (scene : SceneView) (lawful : IsLawfulScene scene) (eac
         background_fits))
 
   pub lights_fit : (light : ℕ) (sets : List SolidSet) → light_bit l light + length sets ≤ bits
-      → All (IsBelow (length scene.solids)) sets →
-      All Fits (passes_from scene l light sets)
+      → All (IsBelow (length scene.solids)) sets → All Fits (passes_from scene l light sets)
   lights_fit light [] there known = All-nil Fits
   lights_fit light (set ∷ sets) there known =
       All-append Fits (light_passes scene l light set) (passes_from scene l (light + 1) sets)

@@ -6,6 +6,7 @@ pub mod LightLemmas
 pub mod LineLemmas
 pub mod MaskLemmas
 pub mod SayingLemmas
+pub mod ShadowLemmas
 pub mod SightLemmas
 pub mod SolidLemmas
 pub mod StepLemmas

@@ -1,14 +1,9 @@
 -- What the passes of a light leave in the memory of a pixel, and those of all lights.
-use Rattle.std.proofs.Common.{◌≡◌, ◌≢◌, ◌<◌, ◌≤◌, ◌+◌, ◌^◌, ◌==◌, ◌∙◌, ℕ, Bool, true, false, ◌&&◌, not, List, [], ◌∷◌}
-use Rattle.std.proofs.Common.{◌++◌, length, map, slice_set, if◌then◌else◌, refl, ap, sym, arith, get_or-set_same}
-use Rattle.std.proofs.Common.{length-set}
-use Prim.Native.Nat.{zero, suc}
-use Rattle.std.specs.Bool.{beq}
-use Rattle.std.specs.List.{flat_map, list_all, range_with_len}
-use Rattle.std.proofs.lemmas.Bool.Decides.{nat_tests}
-use Rattle.std.proofs.lemmas.List.Folds.{list_all-append}
+use Rattle.px_num.proofs.Basics.{◌≡◌, ◌≢◌, ◌<◌, ◌≤◌, ◌+◌, ◌^◌, ◌==◌, ◌∙◌, ℕ, Bool, true, false, ◌&&◌, not, List, []}
+use Rattle.px_num.proofs.Basics.{◌∷◌, ◌++◌, length, map, slice_set, if◌then◌else◌, refl, ap, sym, arith}
+use Rattle.px_num.proofs.Basics.{get_or-set_same, length-set, zero, suc, beq, flat_map, list_all, range_with_len}
+use Rattle.px_num.proofs.Basics.{nat_tests, list_all-append}
 use Rattle.px_num.proofs.BitLaws.{pow_above}
-use Rattle.px_macro.specs.declared.operation.Macro.TheVariants as m
 use Rattle.px_macro.specs.Fields.{number_in, number_from_bits}
 use Rattle.px_num.specs.Bits.{bit_at}
 use Rattle.px_num.proofs.RangeLaws.{range_more}
@@ -25,6 +20,7 @@ use Rattle.px_shadow.specs.ShadowPasses.{background_passes, light_bit, light_pas
 use Rattle.px_shadow.proofs.TurnLemmas.{Below, pixel}
 use Rattle.px_shadow.proofs.SolidLemmas.{GoesOut, Keeps, keeps_all, keeps_bit, keeps_both, keeps_if, number_kept}
 use Rattle.px_shadow.proofs.SolidLemmas.{out_bit, solid_goes_out}
+use Rattle.px_macro.specs.declared.operation.Macro.TheVariants as m
 
 -- a number is 0 where each of its bits is
 is_zero : (bit : ℕ → Bool) (n : ℕ) → list_all (λ t. beq (bit t) false) (range_with_len 0 n)
@@ -111,19 +107,12 @@ module _ (laws : Below) (scene : SceneView) (l : LayoutView) (ready : IsReady l 
   solids_go_out light some (q ∷ qs) p room =
       let bit = light_bit l light in
       let s = solid_of scene q in
-      let rest = flat_map (λ q. solid_passes l end light (solid_of scene q)) qs in
       let next = after_macros (solid_passes l end light s) x y p in
       let one = solid_goes_out laws l light some x y end s ready.big ready.deep p room in
       let others = solids_go_out light some qs next (omega (arith, one.keeps.size)) in
       let same : deep next.memory ≡ deep p.memory =
       number_kept l.par bit (deep_part l l.key_b) p.memory next.memory ready.deep (omega arith) one.keeps in
-      rw (laws.join (solid_passes l end light s) rest x y p) (
-        keeps_both l.par bit _ _ _ one.keeps others.0,
-        others.1
-            ∙ ap (λ v. bit_at next.memory bit && outside v qs) same
-            ∙ ap (λ b. b && outside (deep p.memory) qs) one.light
-            ∙ regroup (bit_at p.memory bit) (not (is_inside_at s end x y (deep p.memory))) (outside (deep p.memory) qs),
-      )
+      grind (arith, keeps_both, regroup)
 
   -- a light is on where a face is stored and the stored cell is outside its solids
   abbrev pub lit : SolidSet → List Bool → Bool
@@ -146,14 +135,7 @@ module _ (laws : Below) (scene : SceneView) (l : LayoutView) (ready : IsReady l 
       number_kept l.par bit (deep_part l l.key_b) p.memory start.memory ready.deep (omega arith) on in
       let same_number : number between.memory ≡ number p.memory =
       number_kept l.par bit (number_part l l.key_b) p.memory between.memory ready.number (omega arith) both in
-      rw (laws.join each (background_passes l light) x y start) (
-        keeps_both l.par bit _ _ _ both none.keeps,
-        none.light
-            ∙ ap (λ n. bit_at between.memory bit && not (n == 0)) same_number
-            ∙ ap (λ b. b && not (number p.memory == 0))
-            (all.1 ∙ ap (λ v. bit_at start.memory bit && outside v (solids set)) same_deep
-            ∙ ap (λ b. b && outside (deep p.memory) (solids set)) (get_or-set_same p.memory bit true false room)),
-      )
+      grind (arith, keeps_both, get_or-set_same)
 
   -- what the passes of lights from one on leave: the bits before them, but for the parity, and each light
   pub record AreLit (light : ℕ) (sets : List SolidSet) (before now : List Bool) : Type 0 where
@@ -170,14 +152,11 @@ module _ (laws : Below) (scene : SceneView) (l : LayoutView) (ready : IsReady l 
         number_kept l.par (light_bit l light) (number_part l l.key_b) before now ready.number (omega arith) keeps,
       ) refl
 
-  lights_of : (light : ℕ) → 0 < light → (set : SolidSet) (sets : List SolidSet) (before mid now : List Bool) →
-      Keeps l.par (light_bit l light) before mid → bit_at mid (light_bit l light) ≡ lit set before
-      → AreLit (light + 1) sets mid now →
-      (place : ℕ) → place < length (set ∷ sets) → bit_at now (light_bit l light + place)
-      ≡ lit (light_at (set ∷ sets) place) before
-  lights_of light some set sets before mid now keeps here others zero below =
-      let e : light_bit l light + 0 ≡ light_bit l light = omega arith in
-      rw e (others.rest (light_bit l light) (λ e. omega arith) (omega arith) ∙ here)
+  lights_of : (light : ℕ) → 0 < light → (set : SolidSet) (sets : List SolidSet) (before mid now : List Bool)
+      → Keeps l.par (light_bit l light) before mid → bit_at mid (light_bit l light) ≡ lit set before
+      → AreLit (light + 1) sets mid now → (place : ℕ) → place < length (set ∷ sets)
+      → bit_at now (light_bit l light + place) ≡ lit (light_at (set ∷ sets) place) before
+  lights_of light some set sets before mid now keeps here others zero below = grind arith
   lights_of light some set sets before mid now keeps here others (suc place) below =
       let e : light_bit l light + suc place ≡ light_bit l (light + 1) + place = omega arith in
       rw e (others.lights place (omega arith) ∙ lit_same (light_at sets place) light before mid keeps)
@@ -189,11 +168,6 @@ module _ (laws : Below) (scene : SceneView) (l : LayoutView) (ready : IsReady l 
   are_lit light some (set ∷ sets) p room =
       let first = light_passes scene l light set in
       let next = after_macros first x y p in
-      let now = (after_macros (passes_from scene l (light + 1) sets) x y next).memory in
       let one = light_is light some set p (omega arith) in
       let others = are_lit (light + 1) (omega arith) sets next (omega (arith, one.0.size)) in
-      rw (laws.join first (passes_from scene l (light + 1) sets) x y p)
-      record {
-        rest = λ place a b. others.rest place a (omega arith) ∙ one.0.rest place a (λ e. omega arith);
-        lights = lights_of light some set sets p.memory next.memory now one.0 one.1 others;
-      }
+      grind (arith, lights_of)

@@ -1,8 +1,7 @@
 -- The numbers of lights that a strip holds.
-use Rattle.std.proofs.Common.{◌≡◌, ℕ, ◌^◌, ◌<◌, List, refl, ap, arith}
+use Rattle.px_num.proofs.Basics.{◌≡◌, ℕ, ◌^◌, ◌<◌, List, arith}
 use Rattle.px_num.proofs.RangeLaws.{same_parts}
 use Rattle.px_array.specs.Arrays.{State}
-use Rattle.px_frame.specs.Picture.{three_bytes}
 use Rattle.px_frame.specs.Rows.{row_bytes}
 use Rattle.px_frame.specs.Strips.{HoldsRow, strip_number}
 use Rattle.px_macro.specs.declared.field.Field.{Field}
@@ -12,6 +11,4 @@ use Rattle.px_shadow.specs.Stored.{stored_number}
 pub row_stored : (field : Field) (state : State) (strip : List ℕ) (width y : ℕ) → y < 2 ^ state.tree.ny
     → HoldsRow strip field state width y
     → row_bytes width (strip_number strip) y ≡ row_bytes width (stored_number field state) y
-row_stored field state strip width y above held =
-    same_parts (λ x. three_bytes (strip_number strip x y)) (λ x. three_bytes (stored_number field state x y)) 0 width
-    (λ x low left. ap three_bytes (held.each x y (omega arith) refl above))
+row_stored field state strip width y above held = grind (arith, same_parts)

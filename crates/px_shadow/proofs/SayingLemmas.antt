@@ -1,21 +1,15 @@
 -- What a word more says of a line.
-use Rattle.std.proofs.Common.{◌≡◌, ◌∙◌, ℕ, Bool, true, false, ◌&&◌, List, [], ◌∷◌, ◌++◌, Option, Some, None}
-use Rattle.std.proofs.Common.{refl, ap, sym, if◌then◌else◌}
-use Rattle.std.specs.Prelude.{codes}
-use Rattle.std.specs.List.{filter_map, fold, list_all}
-use Rattle.std.specs.Str.{bytes_eq}
-use Rattle.std.proofs.lemmas.List.Elements.{filter_map-append}
-use Rattle.std.proofs.lemmas.List.Folds.{list_all-append}
-use Rattle.std.proofs.lemmas.List.Sums.{fold-append}
+use Rattle.px_num.proofs.Basics.{arith, ◌≡◌, ◌∙◌, ℕ, Bool, true, ◌&&◌, List, [], ◌∷◌, ◌++◌, Option, Some, None, refl}
+use Rattle.px_num.proofs.Basics.{ap, filter_map, fold, list_all, filter_map-append, list_all-append, fold-append}
 use Rattle.px_num.proofs.TruthLaws.{and_true}
 use Rattle.px_text.specs.Text.{Words, is_name}
 use Rattle.px_sets.specs.declared.set.SolidSet.{SolidSet}
-use Rattle.px_sets.specs.Sets.{empty, sets_joined, one}
+use Rattle.px_sets.specs.Sets.{sets_joined, one}
 use Rattle.px_model.specs.Scenes.{SolidView}
 use Rattle.px_prune.specs.Kept.{set_of}
-use Rattle.px_shadow.specs.declared.light.Said.TheVariants as s
 use Rattle.px_shadow.specs.LightLines.{is_solid_name, solid_named}
 use Rattle.px_shadow.specs.Saying.{are_some, said_behind, said_of, with_solid}
+use Rattle.px_shadow.specs.declared.light.Said.TheVariants as s
 
 some_more : (ws : Words) (w : List ℕ) → are_some (ws ++ w ∷ []) ≡ true
 some_more [] w = refl
@@ -30,15 +24,9 @@ added : (set : SolidSet) (place : Option ℕ) → fold (λ a q. sets_joined a (o
 added set None = refl
 added set (Some q) = refl
 
-cut : (f : List ℕ → Option ℕ) (w : List ℕ) → filter_map f (w ∷ []) ≡ filter_map (λ p. p) (f w ∷ [])
-cut f w = refl
-
 set_more : (f : List ℕ → Option ℕ) (ws : Words) (w : List ℕ) → set_of (filter_map f (ws ++ w ∷ []))
     ≡ with_solid (set_of (filter_map f ws)) (f w)
-set_more f ws w =
-    ap set_of (filter_map-append f ws (w ∷ []))
-    ∙ fold-append (λ a q. sets_joined a (one q)) empty (filter_map f ws) (filter_map f (w ∷ []))
-    ∙ added (set_of (filter_map f ws)) (f w)
+set_more f ws w = grind (arith, filter_map-append, fold-append, added)
 
 behind_more : (ss : List SolidView) (ws : Words) (w : List ℕ) → said_behind ss (ws ++ w ∷ [])
     ≡ s.Light true (list_all is_name ws && is_name w) (list_all (is_solid_name ss) ws && is_solid_name ss w)
@@ -49,25 +37,10 @@ behind_more ss ws w =
 pub nothing_more : (ss : List SolidView) (ws : Words) (w : List ℕ) → s.Nothing ≡ said_of ss ws → said_of ss (w ∷ [])
     ≡ said_of ss (ws ++ w ∷ [])
 nothing_more ss [] w e = refl
-nothing_more ss (v ∷ vs) w e = absurd (by_first (bytes_eq v (codes "light")) e)
-  where
-    by_first : (b : Bool) → s.Nothing ≡ (if b then said_behind ss vs else s.Other) → ⊥
-    by_first true h = cc
-    by_first false h = cc
+nothing_more ss (v ∷ vs) w e = grind arith
 
-pub light_more : (ss : List SolidView) (ws : Words) (w : List ℕ) (a n k : Bool) (set : SolidSet) → s.Light a n k set
-    ≡ said_of ss ws →
-    s.Light true (n && is_name w) (k && is_solid_name ss w) (with_solid set (solid_named ss w))
-    ≡ said_of ss (ws ++ w ∷ [])
+pub light_more : (ss : List SolidView) (ws : Words) (w : List ℕ) (a n k : Bool) (set : SolidSet)
+    → s.Light a n k set ≡ said_of ss ws → s.Light true (n && is_name w) (k && is_solid_name ss w)
+    (with_solid set (solid_named ss w)) ≡ said_of ss (ws ++ w ∷ [])
 light_more ss [] w a n k set e = absurd (cc)
-light_more ss (v ∷ vs) w a n k set e = by_first (bytes_eq v (codes "light")) e
-  where
-    by_first : (b : Bool) → s.Light a n k set ≡ (if b then said_behind ss vs else s.Other) →
-        s.Light true (n && is_name w) (k && is_solid_name ss w) (with_solid set (solid_named ss w))
-        ≡ (if b then said_behind ss (vs ++ w ∷ []) else s.Other)
-    by_first true h =
-        let names : n ≡ list_all is_name vs = cc in
-        let known : k ≡ list_all (is_solid_name ss) vs = cc in
-        let found : set ≡ set_of (filter_map (solid_named ss) vs) = cc in
-        rw (names, known, found) (sym (behind_more ss vs w))
-    by_first false h = absurd (cc)
+light_more ss (v ∷ vs) w a n k set e = grind (arith, behind_more)

@@ -1,7 +1,6 @@
 -- Where a pixel stores what it shows, the stored key says by which lights it is lit.
-use Rattle.std.proofs.Common.{◌≡◌, ◌+◌, ◌==◌, ◌∙◌, ℕ, Bool, true, ◌&&◌, not, List, Option, Some, None, refl}
-use Rattle.std.proofs.Common.{ap, sym, arith}
-use Rattle.std.proofs.lemmas.Bool.Decides.{nat_tests}
+use Rattle.px_num.proofs.Basics.{◌≡◌, ◌+◌, ◌==◌, ◌∙◌, ℕ, Bool, true, ◌&&◌, not, List, Option, Some, None, refl, ap, sym}
+use Rattle.px_num.proofs.Basics.{arith, nat_tests}
 use Rattle.px_num.proofs.TruthLaws.{and_false, and_true}
 use Rattle.px_macro.specs.Fields.{number_in}
 use Rattle.px_macro.specs.FieldLaws.{NumberOfParts}
@@ -21,11 +20,7 @@ use Rattle.px_shadow.proofs.LightLemmas.{IsReady, are_lit, lit, outside}
 
 -- a layout is ready for the lights
 ready : (scene : SceneView) → IsReady (layout_of scene) (end_of (depths_of scene))
-ready scene = record {
-  big = end_is_small scene.depth_bits scene.fraction_bits;
-  deep = omega arith;
-  number = omega arith;
-}
+ready scene = grind (arith, end_is_small)
 
 -- the stored depth with its fraction is the value of the first cell
 deep_is : NumberOfParts → (scene : SceneView) (memory : List Bool) (x y : ℕ) → HasSight (layout_of scene) memory
@@ -51,11 +46,7 @@ module _ (laws : Below) (parts : NumberOfParts) (scene : SceneView) (memory : Li
 
   by_cell : (o : Option ℕ) → first_cell scene x y ≡ o → lit laws scene (layout_of scene) (ready scene) x y set memory
       ≡ is_lit scene set x y
-  by_cell None e =
-      ap (λ n. clear (number_in (deep_part (layout_of scene) (layout_of scene).key_b) memory) && not (n == 0))
-      (sight.face ∙ background.face.1 e)
-      ∙ and_false (clear (number_in (deep_part (layout_of scene) (layout_of scene).key_b) memory))
-      ∙ sym (ap (is_lit_at scene set x y) e)
+  by_cell None e = grind (arith, and_false)
   by_cell (Some z) e =
       let depth : (picture scene x y).depth ≡ z = ap (λ o. (sight_at scene x y o).depth) e in
       ap (λ n. clear n && not (number_in (number_part (layout_of scene) (layout_of scene).key_b) memory == 0))

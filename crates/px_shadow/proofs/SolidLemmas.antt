@@ -1,11 +1,8 @@
 -- What the passes of a solid, of the background and of a light leave in the memory of a pixel.
-use Rattle.std.proofs.Common.{◌≡◌, ◌≢◌, ◌<◌, ◌≤◌, ◌+◌, ◌^◌, ◌∙◌, ℕ, Bool, true, false, ◌&&◌, not, List, [], ◌∷◌}
-use Rattle.std.proofs.Common.{length, slice_set, if◌then◌else◌, refl, ap, sym, arith, get_or-set_same}
-use Rattle.std.proofs.Common.{get_or-set_other, length-set}
-use Rattle.std.specs.Bool.{beq}
-use Rattle.std.specs.List.{flat_map, range_with_len}
+use Rattle.px_num.proofs.Basics.{◌≡◌, ◌≢◌, ◌<◌, ◌≤◌, ◌+◌, ◌^◌, ◌∙◌, ℕ, Bool, true, false, ◌&&◌, not, List, [], ◌∷◌}
+use Rattle.px_num.proofs.Basics.{length, slice_set, if◌then◌else◌, refl, ap, sym, arith, get_or-set_same}
+use Rattle.px_num.proofs.Basics.{get_or-set_other, length-set, beq, flat_map, range_with_len}
 use Rattle.px_macro.specs.declared.field.Field.{Field}
-use Rattle.px_macro.specs.declared.operation.Macro.TheVariants as m
 use Rattle.px_macro.specs.Fields.{number_in}
 use Rattle.px_num.specs.Bits.{bit_at}
 use Rattle.px_num.proofs.TruthLaws.{and_false, and_true}
@@ -17,6 +14,7 @@ use Rattle.px_face.specs.Faces.{face_count}
 use Rattle.px_sched.specs.Layouts.{LayoutView, deep_part}
 use Rattle.px_shadow.specs.ShadowPasses.{light_bit, solid_passes, stored_turn}
 use Rattle.px_shadow.proofs.TurnLemmas.{Below, all_turned, pixel}
+use Rattle.px_macro.specs.declared.operation.Macro.TheVariants as m
 
 -- what passes of a light write: the parity bit and the light's
 pub record Keeps (par bit : ℕ) (before now : List Bool) : Type 0 where
@@ -27,22 +25,13 @@ pub keeps_all : (par bit : ℕ) (memory : List Bool) → Keeps par bit memory me
 keeps_all par bit memory = record { size = refl; rest = λ place p b. refl }
 
 pub keeps_both : (par bit : ℕ) (a b c : List Bool) → Keeps par bit a b → Keeps par bit b c → Keeps par bit a c
-keeps_both par bit a b c first second = record {
-  size = second.size ∙ first.size;
-  rest = λ place p q. second.rest place p q ∙ first.rest place p q;
-}
+keeps_both par bit a b c first second = grind arith
 
 keeps_par : (par bit : ℕ) (memory : List Bool) (v : Bool) → Keeps par bit memory (slice_set memory par v)
-keeps_par par bit memory v = record {
-  size = length-set memory par v;
-  rest = λ place p q. get_or-set_other memory par place v false p;
-}
+keeps_par par bit memory v = grind (arith, length-set, get_or-set_other)
 
 pub keeps_bit : (par bit : ℕ) (memory : List Bool) (v : Bool) → Keeps par bit memory (slice_set memory bit v)
-keeps_bit par bit memory v = record {
-  size = length-set memory bit v;
-  rest = λ place p q. get_or-set_other memory bit place v false q;
-}
+keeps_bit par bit memory v = grind (arith, length-set, get_or-set_other)
 
 pub keeps_if : (par bit : ℕ) (c : Bool) (a b d : List Bool) → Keeps par bit a b → Keeps par bit a d
     → Keeps par bit a (if c then b else d)
@@ -52,9 +41,7 @@ keeps_if par bit false a b d first second = second
 -- a field before them keeps its number
 pub number_kept : (par bit : ℕ) (field : Field) (before now : List Bool) → field.at + field.len ≤ par → par ≤ bit →
     Keeps par bit before now → number_in field now ≡ number_in field before
-number_kept par bit field before now low above keeps =
-    number_same (λ t. bit_at now (field.at + t)) (λ t. bit_at before (field.at + t)) field.len
-    (λ t h. keeps.rest (field.at + t) (λ e. omega arith) (λ e. omega arith))
+number_kept par bit field before now low above keeps = grind (arith, number_same)
 
 -- a bit that is cleared where a test holds
 pub out_bit : (par bit : ℕ) (c : Bool) (now : List Bool) → bit < length now →
@@ -102,12 +89,4 @@ module _ (laws : Below) (l : LayoutView) (light : ℕ) (some : 0 < light) (x y :
       ∙ ap (λ b. if true && beq b true then slice_set odd bit false else odd)
       (get_or-set_same memory l.par inside false (omega arith))
       ∙ ap (λ b. if b then slice_set odd bit false else odd) (beq_true inside) in
-      rw is record {
-        keeps =
-            keeps_if l.par bit inside memory _ _
-            (keeps_both l.par bit memory odd _ (keeps_par l.par bit memory inside) (keeps_bit l.par bit odd false))
-            (keeps_par l.par bit memory inside);
-        light =
-            out_bit l.par bit inside odd (omega (arith, length-set memory l.par inside))
-            ∙ ap (λ b. b && not inside) (get_or-set_other memory l.par bit inside false (λ e. omega arith));
-      }
+      grind (arith, keeps_if, keeps_both, keeps_par, keeps_bit, out_bit, length-set, get_or-set_other)

@@ -1,28 +1,25 @@
 -- What the faces of a solid leave in the memory of a pixel: the parity bit says whether the stored cell is inside.
-use Rattle.std.proofs.Common.{◌≡◌, ◌<◌, ◌≤◌, ◌+◌, ◌^◌, ◌∙◌, ℕ, Bool, true, false, ◌&&◌, not, nat_le, List, [], ◌∷◌}
-use Rattle.std.proofs.Common.{length, map, slice_set, if◌then◌else◌, refl, ap, sym, arith, get_or-set_same}
-use Prim.Native.Nat.{zero, suc}
-use Rattle.std.specs.Int.{is_negative}
-use Rattle.std.specs.List.{flat_map, fold, range_with_len}
+use Rattle.px_num.proofs.Basics.{◌≡◌, ◌<◌, ◌≤◌, ◌+◌, ◌^◌, ◌∙◌, ℕ, Bool, true, false, ◌&&◌, not, nat_le, List, [], ◌∷◌}
+use Rattle.px_num.proofs.Basics.{length, map, slice_set, if◌then◌else◌, refl, ap, sym, arith, get_or-set_same, zero}
+use Rattle.px_num.proofs.Basics.{suc, is_negative, flat_map, fold, range_with_len}
 use Rattle.std.proofs.lemmas.List.{set-set}
 use Rattle.px_num.specs.declared.linear.Linear.{Linear}
-use Rattle.px_num.specs.Bits.{bit_at, modulo}
+use Rattle.px_num.specs.Bits.{modulo}
 use Rattle.px_num.specs.Forms.{value_at}
 use Rattle.px_num.proofs.TruthLaws.{and_both, and_true, turned_from_false}
-use Rattle.px_macro.specs.declared.operation.Macro.TheVariants as m
 use Rattle.px_macro.specs.FieldLaws.{NumberBesideIsKept}
 use Rattle.px_macro.specs.Fields.{number_in}
 use Rattle.px_macro.specs.Macros.{MeaningsJoin, PixelBits, after_macros}
 use Rattle.px_model.specs.Scenes.{SolidView}
 use Rattle.px_model.specs.Cells.{is_inside_at}
 use Rattle.px_face.specs.Covering.{CoveringLaw, ValueParityLaw, is_passed_at}
-use Rattle.px_face.specs.Edges.{covers, edges, hold_at}
+use Rattle.px_face.specs.Edges.{covers, hold_at}
 use Rattle.px_face.specs.Faces.{face_count, face_plane}
 use Rattle.px_face.proofs.ParityLaws.{turned_is_odd, turned_where}
 use Rattle.px_sched.specs.Layouts.{LayoutView, deep_part}
-use Rattle.px_sched.specs.Passes.{keep_covered}
 use Rattle.px_shadow.specs.ShadowPasses.{stored_turn}
 use Rattle.px_sched.proofs.CoverLaws.{and_same, not_negative, at_most_is, covering_value}
+use Rattle.px_macro.specs.declared.operation.Macro.TheVariants as m
 
 -- a pixel, as operations see it
 abbrev pub pixel : List Bool → Bool → PixelBits
@@ -40,10 +37,7 @@ kept : (forms : List Linear) (x y : ℕ) (memory : List Bool) (e : Bool)
     → after_macros (map m.KeepSign forms) x y (pixel memory e) ≡ pixel memory (e && hold_at forms x y)
 kept [] x y memory e = ap (pixel memory) (sym (and_true e))
 kept (f ∷ fs) x y memory e =
-    let v = value_at f x y in
-    kept fs x y memory (e && not (is_negative v))
-    ∙ ap (pixel memory) (and_both e (not (is_negative v)) (hold_at fs x y)
-    ∙ ap (λ b. e && (b && hold_at fs x y)) (not_negative v))
+    grind (arith, and_both, not_negative, kept fs x y memory (e && not (is_negative (value_at f x y))))
 
 module _ (laws : Below) (s : SolidView) (end x y : ℕ) where
   module _ (l : LayoutView) (memory : List Bool) (room : l.par < length memory)
@@ -72,36 +66,24 @@ module _ (laws : Below) (s : SolidView) (end x y : ℕ) where
     one_turned i there odd e =
         let c = covers s end i x y in
         let v = value_at (face_plane s end i) x y in
-        let last = m.KeepAtMost (face_plane s end i) (deep_part l l.key_b) ∷ m.Toggle l.par ∷ [] in
         let test : (c && nat_le (modulo v (deep_part l l.key_b).len)
         (number_in (deep_part l l.key_b) (with_parity odd))) ≡ passed i =
         ap (λ n. c && nat_le (modulo v (deep_part l l.key_b).len) n) (apart odd)
         ∙ and_same c _ _ (λ h. at_most_is v end (deep_part l l.key_b).len stored big
         (covering_value laws.covering end s x y i there h)) in
-        ap (λ (p : PixelBits). p.memory)
-        (laws.join (keep_covered end s i) last x y (pixel (with_parity odd) true)
-        ∙ ap (after_macros last x y) (kept (edges s end i) x y (with_parity odd) true))
-        ∙ ap (λ b. if b then slice_set (with_parity odd) l.par (not (bit_at (with_parity odd) l.par)) else with_parity
-        odd) test
-        ∙ turned_memory (passed i) odd (bit_at (with_parity odd) l.par) (get_or-set_same memory l.par odd false room)
+        grind (arith, kept, turned_memory, get_or-set_same)
 
     some_turned : (a n : ℕ) → a + n ≤ face_count s → (odd e : Bool) →
         (after_macros (flat_map (stored_turn l end s) (range_with_len a n)) x y (pixel (with_parity odd) e)).memory
         ≡ with_parity (fold (turned_where passed) odd (range_with_len a n))
     some_turned a zero within odd e = refl
     some_turned a (suc n) within odd e =
-        let rest = flat_map (stored_turn l end s) (range_with_len (a + 1) n) in
         let next = after_macros (stored_turn l end s a) x y (pixel (with_parity odd) e) in
-        ap (λ (p : PixelBits). p.memory) (laws.join (stored_turn l end s a) rest x y (pixel (with_parity odd) e))
-        ∙ ap (λ memory. (after_macros rest x y (pixel memory next.enable)).memory) (one_turned a (omega arith) odd e)
-        ∙ some_turned (a + 1) n (omega arith) (turned_where passed odd a) next.enable
+        grind (arith, one_turned, some_turned (a + 1) n (omega arith) (turned_where passed odd a) next.enable)
 
     -- an odd number of faces is passed where the stored cell is inside
     pub all_turned : (e : Bool) →
         (after_macros (flat_map (stored_turn l end s) (range_with_len 0 (face_count s))) x y
         (pixel (with_parity false) e)).memory
         ≡ with_parity (is_inside_at s end x y stored)
-    all_turned e =
-        some_turned 0 (face_count s) (omega arith) false e
-        ∙ ap with_parity (turned_is_odd passed false (range_with_len 0 (face_count s)) ∙ turned_from_false _
-        ∙ sym (laws.parity s end x y stored))
+    all_turned e = grind (arith, some_turned, turned_is_odd, turned_from_false)

@@ -1,10 +1,3 @@
-pub use Rattle.px_array.specs.Arrays
-pub use Rattle.px_model.specs.Cells
-pub use Rattle.px_model.specs.Scenes
-pub use Rattle.px_sets.specs.Sets
-pub use Rattle.px_sched.specs.Layouts
-pub use Rattle.px_sched.specs.PassesLaw
-pub use Rattle.px_control.specs.Program
 pub mod Carrying
 pub mod LightLines
 pub mod Lights
@@ -13,4 +6,12 @@ pub mod Saying
 pub mod Shaded
 pub mod ShadowLaws
 pub mod ShadowPasses
+pub mod Shadows
 pub mod Stored
+pub use Rattle.px_array.specs.Arrays
+pub use Rattle.px_control.specs.Program
+pub use Rattle.px_model.specs.Cells
+pub use Rattle.px_model.specs.Scenes
+pub use Rattle.px_sched.specs.Layouts
+pub use Rattle.px_sched.specs.PassesLaw
+pub use Rattle.px_sets.specs.Sets

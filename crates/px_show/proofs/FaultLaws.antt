@@ -1,5 +1,5 @@
 -- A line without a fault: it has no bad form, and passes no limit.
-use Rattle.std.proofs.Common.{◌≡◌, refl, Option, Some, None}
+use Rattle.px_num.proofs.Basics.{◌≡◌, refl, Option, Some, None}
 use Rattle.px_show.specs.declared.fault.Cause.{Cause}
 use Rattle.px_show.specs.declared.fault.LineFault.{LineFault}
 use Rattle.px_show.specs.Judged.{judged}
@@ -8,8 +8,3 @@ pub good_form : {K : Type 0} (cause : Option Cause) (limit : Option (LineFault K
     → cause ≡ None
 good_form None limit e = refl
 good_form (Some cause) limit e = cc
-
-pub within_limits : {K : Type 0} (cause : Option Cause) (limit : Option (LineFault K)) → judged cause limit ≡ None
-    → limit ≡ None
-within_limits None limit e = e
-within_limits (Some cause) limit e = cc

@@ -1,15 +1,11 @@
 -- Printing an expression from its last node to its first.
-use Rattle.std.proofs.Common.{◌≡◌, ℕ, ◌+◌, ◌<◌, ◌≤◌, List, [], ◌∷◌, ◌++◌, length, get_or, take, reverse, replicate}
-use Rattle.std.proofs.Common.{ap, sym, ◌∙◌, arith, append_assoc, length-append, subst}
-use Prim.Native.Nat.{zero, suc}
-use Rattle.std.specs.List.{All}
-use Rattle.std.proofs.lemmas.List.{replicate-append-replicate, length-reverse}
-use Rattle.std.proofs.Math.Seq.{get_or-append_seam, take-append_seam}
-use Rattle.std.proofs.lemmas.List.Sums.{fold-append}
+use Rattle.px_num.proofs.Basics.{◌≡◌, ℕ, ◌+◌, ◌<◌, ◌≤◌, List, [], ◌∷◌, ◌++◌, length, get_or, take, reverse, replicate}
+use Rattle.px_num.proofs.Basics.{ap, sym, ◌∙◌, arith, append_assoc, length-append, subst, zero, suc, All}
+use Rattle.px_num.proofs.Basics.{length-reverse, get_or-append_seam, take-append_seam, fold-append}
+use Rattle.std.proofs.lemmas.List.{replicate-append-replicate}
 use Rattle.px_expr.specs.declared.node.Op.{Op}
 use Rattle.px_expr.specs.declared.node.Node.{Node}
 use Rattle.px_expr.specs.declared.node.Shape.{Shape}
-use Rattle.px_expr.specs.declared.node.Shape.TheVariants as h
 use Rattle.px_expr.specs.Tree.{Tree, leaf, join}
 use Rattle.px_expr.specs.Shapes.{node_shape, joined, put, CanPlace, IsLeafBelow}
 use Rattle.px_expr.specs.Postorder.{placed, trees_after}
@@ -17,6 +13,7 @@ use Rattle.px_text.specs.Text.{Words}
 use Rattle.px_show.specs.Printed.{printed, named_by}
 use Rattle.px_show.specs.Gaps.{spread, split_gap, first_gap, other_gaps, gaps_before, text_of}
 use Rattle.px_show.specs.declared.print.Gap.{Gap}
+use Rattle.px_expr.specs.declared.node.Shape.TheVariants as h
 
 one_bracket_more : (n : ℕ) → replicate {A = ℕ} (n + 1) 40 ≡ replicate n 40 ++ 40 ∷ []
 one_bracket_more n = sym (replicate-append-replicate n 1 40)
@@ -41,8 +38,7 @@ record IsSplit (names : Words) (op : Op) (trees : List Tree) (gaps : List Gap) (
   count : length (split_gap op gaps) ≡ length trees
 
 split : (names : Words) (op : Op) (trees : List Tree) (gaps : List Gap) (back : List ℕ) → 2 ≤ length trees
-    → length gaps ≡ length (joined join op trees)
-    → IsSplit names op trees gaps back
+    → length gaps ≡ length (joined join op trees) → IsSplit names op trees gaps back
 split names op trees [] back two count = absurd (omega (arith, joined_count op trees two))
 split names op trees (gap ∷ gaps) back two count =
     record { text = split_text names op trees gap gaps back two; count = omega (arith, joined_count op trees two) }
@@ -126,8 +122,7 @@ place_here nodes all rest before after node same is last each =
     in let here = each (length before) node (is_below before after all node part)
     in let same_node = ap (λ ns. get_or ns (length before) node) part ∙ get_or-append_seam before node after node
     in let same_front = ap (take (length before)) part ∙ take-append_seam before (node ∷ after)
-    in subst (λ (ns : List Node). CanPlace (length (trees_after ns)) (node_shape node)) same_front
-    (subst (λ (m : Node). CanPlace (length (trees_after (take (length before) all))) (node_shape m)) same_node here)
+    in grind arith
 
 some_join : (op : Op) (trees : List Tree) → 2 ≤ length trees → 0 < length (joined join op trees)
 some_join op trees two = omega (arith, joined_count op trees two)
@@ -140,26 +135,15 @@ some_wait (h.Join op left right) trees can = some_join op trees can.0
 pub some_gap : (rest before : List Node) (node : Node) (gaps : List Gap)
     → length (reverse gaps) ≡ length (trees_after rest) → rest ≡ before ++ node ∷ []
     → CanPlace (length (trees_after before)) (node_shape node) → 0 < length gaps
-some_gap rest before node gaps count last can =
-    let waiting : trees_after rest ≡ placed (trees_after before) node = ap trees_after last
-    ∙ fold-append placed [] before (node ∷ [])
-    in omega (
-      arith,
-      length-reverse gaps,
-      count,
-      ap length waiting,
-      some_wait (node_shape node) (trees_after before) can,
-    )
+some_gap rest before node gaps count last can = grind (arith, fold-append, length-reverse, some_wait)
 
 pub steps : (names : Words) (tree : Tree) (nodes rest before : List Node) (node : Node) (gaps next : List Gap)
-    (back text : List ℕ)
-    → IsPrintedTo names tree nodes rest gaps back → rest ≡ before ++ node ∷ [] → length before + 1 ≡ length rest
-    → CanPlace (length (trees_after before)) (node_shape node)
+    (back text : List ℕ) → IsPrintedTo names tree nodes rest gaps back → rest ≡ before ++ node ∷ []
+    → length before + 1 ≡ length rest → CanPlace (length (trees_after before)) (node_shape node)
     → next ≡ gaps_before (node_shape node) gaps → text ≡ text_of names (node_shape node) gaps ++ back
     → IsPrintedTo names tree nodes before next text
 steps names tree nodes rest before node gaps next back text is last shorter can kept more =
-    let waiting : trees_after rest ≡ placed (trees_after before) node = ap trees_after last
-    ∙ fold-append placed [] before (node ∷ [])
+    let waiting : trees_after rest ≡ placed (trees_after before) node = grind (arith, fold-append)
     in let counted : length gaps ≡ length (placed (trees_after before) node) = is.count ∙ ap length waiting
     in record {
       after = node ∷ is.after;

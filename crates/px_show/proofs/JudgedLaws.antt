@@ -1,14 +1,13 @@
 -- Lines that are judged one after another, until one is bad.
-use Rattle.std.proofs.Common.{◌≡◌, ◌≢◌, ℕ, ◌+◌, ◌<◌, ◌≤◌, List, [], ◌∷◌, ◌++◌, length, take, drop, get_or}
-use Rattle.std.proofs.Common.{Option, Some, None, Bool, true, false}
-use Rattle.std.proofs.Common.{refl, ap, sym, ◌∙◌, arith, length-take}
-use Rattle.std.proofs.lemmas.List.{take_more, drop_more, drop_all}
+use Rattle.px_num.proofs.Basics.{nat_tests, common_steps, ◌≡◌, ◌≢◌, ℕ, ◌+◌, ◌<◌, ◌≤◌, List, [], ◌∷◌, ◌++◌, length, take}
+use Rattle.px_num.proofs.Basics.{drop, get_or, Option, Some, None, Bool, true, false, refl, ap, ◌∙◌, arith, length-take}
+use Rattle.px_num.proofs.Basics.{take_more, drop_more, drop_all}
 use Rattle.px_num.specs.Want.{want}
 use Rattle.px_show.specs.Judged.{at_line, first_bad, refused}
 use Rattle.px_show.specs.declared.fault.LineFault.{LineFault}
+use Rattle.px_text.specs.Text.{Words}
 use Rattle.px_show.specs.declared.fault.LineFault.TheVariants as f
 use Rattle.px_show.specs.declared.fault.TextFault.TheVariants as text
-use Rattle.px_text.specs.Text.{Words}
 
 -- none of the lines before this one is bad
 abbrev pub AreGood : {F : Type 0} → (List Words → Words → Option F) → List Words → (i : ℕ) → Type 0
@@ -16,10 +15,8 @@ AreGood judge lines i = first_bad judge [] lines ≡ first_bad judge (take i lin
 
 -- the line that is judged next
 here : {F : Type 0} (judge : List Words → Words → Option F) (lines : List Words) (i : ℕ) (l : Words) → i < length lines
-    → get_or lines i [] ≡ l
-    → first_bad judge (take i lines) (drop i lines)
-    ≡ at_line (length (take i lines) + 1) (judge (take i lines) l)
-    (first_bad judge (take i lines ++ l ∷ []) (drop (i + 1) lines))
+    → get_or lines i [] ≡ l → first_bad judge (take i lines) (drop i lines) ≡ at_line (length (take i lines) + 1)
+    (judge (take i lines) l) (first_bad judge (take i lines ++ l ∷ []) (drop (i + 1) lines))
 here judge lines i l lt is =
     ap (first_bad judge (take i lines)) (drop_more lines i [] lt ∙ ap (λ x. x ∷ drop (i + 1) lines) is)
 
@@ -30,20 +27,12 @@ one_more lines i l lt is = take_more lines i [] lt ∙ ap (λ x. take i lines ++
 pub good_next : {F : Type 0} (judge : List Words → Words → Option F) (lines : List Words) (i : ℕ) (l : Words)
     → AreGood judge lines i → i < length lines → get_or lines i [] ≡ l → judge (take i lines) l ≡ None
     → AreGood judge lines (i + 1)
-good_next judge lines i l so lt is none =
-    so ∙ here judge lines i l lt is
-    ∙ ap (λ f. at_line (length (take i lines) + 1) f (first_bad judge (take i lines ++ l ∷ []) (drop (i + 1) lines)))
-    none
-    ∙ ap (λ b. first_bad judge b (drop (i + 1) lines)) (sym (one_more lines i l lt is))
+good_next judge lines i l so lt is none = grind (arith, nat_tests, common_steps, here, one_more)
 
 pub first_is : {F : Type 0} (judge : List Words → Words → Option F) (lines : List Words) (i : ℕ) (l : Words) (fault : F)
     → AreGood judge lines i → i < length lines → get_or lines i [] ≡ l → judge (take i lines) l ≡ Some fault
     → first_bad judge [] lines ≡ Some (i + 1, fault)
-first_is judge lines i l fault so lt is bad =
-    so ∙ here judge lines i l lt is
-    ∙ ap (λ g. at_line (length (take i lines) + 1) g (first_bad judge (take i lines ++ l ∷ []) (drop (i + 1) lines)))
-    bad
-    ∙ ap (λ n. Some (n, fault)) (omega (arith, length-take i lines))
+first_is judge lines i l fault so lt is bad = grind (arith, nat_tests, common_steps, here, length-take)
 
 pub all_good : {F : Type 0} (judge : List Words → Words → Option F) (lines : List Words) (i : ℕ)
     → AreGood judge lines i → length lines ≤ i → first_bad judge [] lines ≡ None
@@ -56,9 +45,8 @@ none_here n None later e = (refl, e)
 none_here n (Some fault) later e = cc
 
 -- where a text is not refused, no line is bad and its end has come
-pub not_refused : {K : Type 0} (bad : Option (ℕ × LineFault K)) (ended : Bool) (count : ℕ) → refused bad ended count
-    ≡ None
-    → (bad ≡ None) × (ended ≡ true)
+pub not_refused : {K : Type 0} (bad : Option (ℕ × LineFault K)) (ended : Bool) (count : ℕ)
+    → refused bad ended count ≡ None → (bad ≡ None) × (ended ≡ true)
 not_refused (Some bad) ended count e = cc
 not_refused None true count e = (refl, refl)
 not_refused None false count e = cc

@@ -1,28 +1,17 @@
 -- A printed expression is read as it.
-use Rattle.std.proofs.Common.{◌≡◌, ◌≢◌, ℕ, ◌+◌, ◌<◌, ◌≤◌, ◌==◌, List, [], ◌∷◌, ◌++◌, length, get_or, filter, Some}
-use Rattle.std.proofs.Common.{None, Bool, true, false, not, nat_le, ◌&&◌, ◌||◌, if◌then◌else◌, refl, ap, sym, ◌∙◌}
-use Rattle.std.proofs.Common.{arith, append_assoc, append-nil}
-use Prim.Native.Nat.{zero, suc}
-use Rattle.std.specs.List.{AllPass, AllPairs, flat_map, slice_split, onto_first, before_first, list_all}
-use Rattle.std.specs.Option.{option_map}
-use Rattle.std.specs.Str.{bytes_eq}
-use Rattle.std.proofs.lemmas.Slice.Eq.{bytes_eq-Decides}
-use Rattle.std.proofs.lemmas.Bool.Decides.{nat_tests}
-use Rattle.std.proofs.lemmas.List.Folds.{list_all-append}
+use Rattle.px_num.proofs.Basics.{◌≡◌, ◌≢◌, ℕ, ◌+◌, ◌<◌, ◌≤◌, ◌==◌, List, [], ◌∷◌, ◌++◌, length, get_or, filter, Some}
+use Rattle.px_num.proofs.Basics.{None, Bool, true, false, not, nat_le, ◌&&◌, ◌||◌, if◌then◌else◌, refl, ap, sym, ◌∙◌}
+use Rattle.px_num.proofs.Basics.{arith, append_assoc, append-nil, zero, suc, AllPass, AllPairs, flat_map, slice_split}
+use Rattle.px_num.proofs.Basics.{before_first, list_all, bytes_eq, bytes_eq-Decides, nat_tests, list_all-append}
 use Rattle.px_expr.specs.declared.node.Op.{Op}
 use Rattle.px_expr.specs.Tree.{Tree, leaf_count, HasLeavesBelow, IsLawfulTree}
-use Rattle.px_expr.specs.Tree as shown
 use Rattle.px_text.specs.Text.{Words, is_blank, is_some_byte, words_of, is_name, is_name_byte}
-use Rattle.px_show.specs.Expressions.{Token, name, opens, closes, sign, mark, tokens_in, tokens_of, named_nesting}
-use Rattle.px_show.specs.Expressions.{Named, leaf, join, written, has_names, has_signs, whole, expression_of, leaves}
-use Rattle.px_show.specs.Expressions.{is_among}
-use Rattle.px_show.specs.Judged.{judged}
-use Rattle.px_show.specs.Expressions.{place_of, over_places, are_known, cause_in, limit_in, count_past, show_tree}
-use Rattle.px_show.specs.Expressions.{show_fault}
+use Rattle.px_show.specs.Expressions.{Token, name, closes, sign, mark, tokens_in, tokens_of, Named, leaf, join, written}
+use Rattle.px_show.specs.Expressions.{has_names, has_signs, whole, expression_of, is_among, place_of, over_places}
+use Rattle.px_show.specs.Expressions.{are_known, count_past, show_tree, show_fault}
 use Rattle.px_show.specs.Versions.{has_differ, sign_byte, is_sign, is_differ, has_difference}
 use Rattle.px_show.specs.declared.scene_version.Version.{Version}
 use Rattle.px_show.specs.declared.fault.LimitKind.{LimitKind}
-use Rattle.px_show.specs.declared.fault.LimitKind.TheVariants as kind
 use Rattle.px_show.specs.Printed.{AreDistinctNames, printed, named_by}
 use Rattle.px_text.proofs.PlainLaws.{both, name_bytes, is_no_comment, before_none, plain_byte}
 use Rattle.px_show.proofs.SignLaws.{sign_marked, sign_no_name, sign_plain}
@@ -30,6 +19,7 @@ use Rattle.px_show.proofs.TokenLemmas.{apart}
 use Rattle.px_show.proofs.ExpressionLemmas.{reads}
 use Rattle.px_show.proofs.StackLemmas.{place_unknown}
 use Rattle.px_show.proofs.ShowLaws.{same_leaves, same_nesting}
+use Rattle.px_expr.specs.Tree as shown
 
 -- no byte of a name begins a comment or is a blank
 record IsPlain (b : ℕ) : Type 0 where
@@ -45,12 +35,7 @@ tokens_across version bs = flat_map (tokens_in version) (slice_split is_blank bs
 -- a byte that stands in no name, and is no blank
 across_mark : (version : Version) (b : ℕ) (bs : List ℕ) → is_blank b ≡ false → is_name_byte b ≡ false
     → tokens_across version (b ∷ bs) ≡ mark version b ∷ tokens_across version bs
-across_mark version b bs blank none = rw blank (by_pieces (slice_split is_blank bs))
-  where
-    by_pieces : (pieces : List (List ℕ)) → flat_map (tokens_in version) (onto_first b pieces) ≡ mark version b
-        ∷ flat_map (tokens_in version) pieces
-    by_pieces [] = rw none refl
-    by_pieces (piece ∷ pieces) = rw none refl
+across_mark version b bs blank none = grind arith
 
 -- what stands behind a name
 abbrev Apart : List ℕ → Type 0
@@ -87,8 +72,7 @@ split_name : (n bs first : List ℕ) (others : List (List ℕ)) → list_all is_
     → slice_split is_blank bs ≡ first ∷ others → slice_split is_blank (n ++ bs) ≡ (n ++ first) ∷ others
 split_name [] bs first others all is = is
 split_name (b ∷ n) bs first others all is =
-    let each = both (is_name_byte b) (list_all is_name_byte n) all
-    in rw ((plain_name b each.0).no_blank, split_name n bs first others each.1 is) refl
+    grind (arith, both, split_name n bs first others (both (is_name_byte b) (list_all is_name_byte n) all).1 is)
 
 across_name : (version : Version) (n bs : List ℕ) → is_name n ≡ true → Apart bs → tokens_across version (n ++ bs)
     ≡ name n ∷ tokens_across version bs
@@ -101,9 +85,7 @@ across_name version (b ∷ n) bs e behind =
 
 across_sign : (version : Version) (op : Op) (bs : List ℕ) → is_sign version op ≡ true
     → tokens_across version (sign_byte op ∷ bs) ≡ sign op ∷ tokens_across version bs
-across_sign version op bs is =
-    across_mark version (sign_byte op) bs (plain_byte (sign_byte op) (sign_plain op)).no_blank (sign_no_name op)
-    ∙ ap (λ t. t ∷ tokens_across version bs) (sign_marked version op is)
+across_sign version op bs is = grind (arith, across_mark, plain_byte, sign_plain, sign_no_name, sign_marked)
 
 across_printed : (version : Version) (tree : Named) (bs : List ℕ) → has_names tree ≡ true
     → has_signs version tree ≡ true → Apart bs
@@ -115,42 +97,28 @@ across_printed version (join op left right) bs names signs behind =
     in let before = both (is_sign version op) (has_signs version left) allowed.0
     in let behind_right : tokens_across version ((printed right ++ 41 ∷ []) ++ bs) ≡ (written right ++ closes ∷ [])
     ++ tokens_across version bs =
-    rw (
-      append_assoc (printed right) (41 ∷ []) bs,
-      append_assoc (written right) (closes ∷ [])
-          (tokens_across version bs),
-    )
-    (across_printed version right (41 ∷ bs) each.1 allowed.1 refl
-    ∙ ap (λ ts. written right ++ ts) (across_mark version 41 bs refl refl))
+    grind (arith, append_assoc, across_mark, across_printed version right (41 ∷ bs) each.1 allowed.1 refl)
     in let behind_left : tokens_across version (sign_byte op ∷ 32 ∷ ((printed right ++ 41 ∷ []) ++ bs))
     ≡ sign op ∷ ((written right ++ closes ∷ []) ++ tokens_across version bs) =
     across_sign version op (32 ∷ ((printed right ++ 41 ∷ []) ++ bs)) before.0 ∙ ap (λ ts. sign op ∷ ts) behind_right
-    in across_mark version 40 ((printed left ++ 32 ∷ sign_byte op ∷ 32 ∷ (printed right ++ 41 ∷ [])) ++ bs) refl refl
-    ∙ ap (λ ts. opens ∷ ts)
-    (rw (
-      append_assoc (printed left) (32 ∷ sign_byte op ∷ 32 ∷ (printed right ++ 41 ∷ [])) bs,
-      append_assoc (written left) (sign op ∷ (written right ++ closes ∷ [])) (tokens_across version bs),
+    in
+    grind (
+      arith,
+      append_assoc,
+      across_printed version left (32 ∷ sign_byte op ∷ 32 ∷ ((printed right ++ 41 ∷ []) ++ bs)) each.0 before.1 refl,
     )
-    (across_printed version left (32 ∷ sign_byte op ∷ 32 ∷ ((printed right ++ 41 ∷ []) ++ bs)) each.0 before.1 refl
-    ∙ ap (λ ts. written left ++ ts) behind_left))
 
 name_uncommented : (n : List ℕ) → list_all is_name_byte n ≡ true → list_all is_no_comment n ≡ true
 name_uncommented [] all = refl
 name_uncommented (b ∷ n) all =
-    let each = both (is_name_byte b) (list_all is_name_byte n) all
-    in rw ((plain_name b each.0).no_comment, name_uncommented n each.1) refl
+    grind (arith, both, plain_name, name_uncommented n (both (is_name_byte b) (list_all is_name_byte n) all).1)
 
 pub printed_uncommented : (tree : Named) → has_names tree ≡ true → list_all is_no_comment (printed tree) ≡ true
 printed_uncommented (leaf n) names = name_uncommented n (name_bytes n names)
 printed_uncommented (join op left right) names =
     let each = both (has_names left) (has_names right) names
-    in rw (
-      list_all-append is_no_comment (printed left) (32 ∷ sign_byte op ∷ 32 ∷ (printed right ++ 41 ∷ [])),
-      printed_uncommented left each.0,
-      (plain_byte (sign_byte op) (sign_plain op)).no_comment,
-      list_all-append is_no_comment (printed right) (41 ∷ []),
-      printed_uncommented right each.1,
-    ) refl
+    in
+    grind (arith, list_all-append, is_no_comment, printed_uncommented left each.0, printed_uncommented right each.1)
 
 -- empty pieces have no tokens
 words_only : (version : Version) (pieces : List (List ℕ))
@@ -214,10 +182,7 @@ printed_read version tree lawful signs =
 pub printed_tree : (version : Version) (names : Words) (tree : Tree) → AreDistinctNames names
     → HasLeavesBelow (length names) tree → has_signs version (named_by names tree) ≡ true
     → show_tree version names (words_of (printed (named_by names tree))) ≡ Some tree
-printed_tree version names tree are below signs =
-    ap (option_map (over_places names)) (printed_read version (named_by names tree)
-    (names_lawful names tree are.lawful below) signs)
-    ∙ ap Some (placed_back names tree are.different below)
+printed_tree version names tree are below signs = grind (arith, printed_read, names_lawful, placed_back)
 
 not_past : (limit : LimitKind) (most found : ℕ) → found ≤ most → count_past limit most found ≡ None
 not_past limit most found le = grind (arith, nat_tests)
@@ -226,25 +191,11 @@ pub printed_good : (version : Version) (names : Words) (tree : Tree) → AreDist
     → HasLeavesBelow (length names) tree → has_signs version (named_by names tree) ≡ true → IsLawfulTree tree
     → show_fault version names (words_of (printed (named_by names tree))) ≡ None
 printed_good version names tree are below signs within =
-    let named = named_by names tree
-    in let back = placed_back names tree are.different below
-    in let few : leaves named ≤ 512 = omega (arith, same_leaves names named, ap leaf_count back, within.leaves)
-    in let flat : named_nesting named ≤ 64 =
-    omega (arith, same_nesting names named, ap shown.nesting back, within.depth)
-    in ap (λ read. judged (cause_in names read) (limit_in read))
-    (printed_read version named (names_lawful names tree are.lawful below) signs)
-    ∙ rw (all_known names named (rw back below), not_past kind.Leaves 512 (leaves named) few)
-    (not_past kind.Nesting 64 (named_nesting named) flat)
+    grind (arith, placed_back, same_leaves, same_nesting, printed_read, names_lawful, all_known, not_past)
 
 -- a version has the signs of a tree, where it has `^` or the tree has none
-sign_of_op : (version : Version) (op : Op) → has_differ version || not (is_differ op) ≡ true
-    → is_sign version op ≡ true
-sign_of_op version op e = swapped (has_differ version) (not (is_differ op)) e
-  where
-    swapped : (a b : Bool) → a || b ≡ true → b || a ≡ true
-    swapped a true e = refl
-    swapped true false e = refl
-    swapped false false e = cc
+sign_of_op : (version : Version) (op : Op) → has_differ version || not (is_differ op) ≡ true → is_sign version op ≡ true
+sign_of_op version op e = grind arith
 
 pub signs_of : (version : Version) (names : Words) (tree : Tree)
     → has_differ version || not (has_difference tree) ≡ true → has_signs version (named_by names tree) ≡ true

@@ -1,33 +1,27 @@
 -- What the parts and the steps of a stack say of its expression.
-use Rattle.std.proofs.Common.{◌≡◌, ℕ, ◌+◌, ◌-◌, ◌<◌, ◌≤◌, ◌^◌, min, max, List, [], ◌∷◌, ◌++◌, length, take, drop, map}
-use Rattle.std.proofs.Common.{reverse, Bool, true, false, ◌&&◌, ◌||◌, not, if◌then◌else◌, Option, Some, None}
-use Rattle.std.proofs.Common.{unwrap_or, Result, Ok, Err, OnOk, refl, ap, sym, ◌∙◌, arith, append_assoc}
-use Rattle.std.proofs.Common.{length-append}
-use Rattle.std.specs.List.{list_any, count_by}
-use Rattle.std.specs.Str.{bytes_eq}
-use Rattle.std.proofs.Common.{nat_le}
-use Rattle.std.proofs.lemmas.List.{reverse-append, length-reverse, length-drop, take-append-drop}
-use Rattle.std.proofs.lemmas.List.Folds.{list_any-append}
-use Rattle.std.proofs.lemmas.List.Sums.{sum_by-append, count_by-le-length}
-use Rattle.std.proofs.lemmas.Bool.Decides.{nat_tests}
+use Rattle.px_num.proofs.Basics.{◌≡◌, ℕ, ◌+◌, ◌-◌, ◌<◌, ◌≤◌, ◌^◌, min, max, List, [], ◌∷◌, ◌++◌, length, take, drop}
+use Rattle.px_num.proofs.Basics.{map, reverse, Bool, true, false, ◌&&◌, ◌||◌, not, if◌then◌else◌, Option, Some, None}
+use Rattle.px_num.proofs.Basics.{unwrap_or, Result, Ok, Err, OnOk, refl, ap, sym, ◌∙◌, arith, append_assoc}
+use Rattle.px_num.proofs.Basics.{length-append, nat_le, list_any, count_by, reverse-append, length-reverse}
+use Rattle.px_num.proofs.Basics.{take-append-drop, list_any-append, sum_by-append, count_by-le-length}
+use Rattle.std.proofs.lemmas.List.{length-drop}
 use Rattle.std.proofs.Math.Seq.{drop-append_seam}
 use Rattle.px_num.proofs.TruthLaws.{or_false}
 use Rattle.px_expr.specs.declared.node.Op.{Op}
 use Rattle.px_text.specs.Text.{Words}
-use Rattle.px_show.specs.Expressions.{is_among, opens, sign, other}
-use Rattle.px_show.specs.Expressions.{Named, leaf, join, leaves, named_nesting, Part, side, token}
-use Rattle.px_show.specs.Expressions.{bracket_closed, whole}
-use Rattle.px_show.specs.Expressions.{place_of, over_places, are_known, cause_in, limit_in, counts_past}
+use Rattle.px_show.specs.Expressions.{is_among, opens, sign, other, Named, leaf, join, leaves, named_nesting, Part}
+use Rattle.px_show.specs.Expressions.{side, token, bracket_closed, whole, place_of, over_places, are_known, cause_in}
+use Rattle.px_show.specs.Expressions.{limit_in, counts_past}
 use Rattle.px_show.specs.Judged.{judged}
 use Rattle.px_show.specs.Stacks.{stack_part, bracketed, closing, nesting_of, tree_steps, all_steps, is_leaf, is_unknown}
 use Rattle.px_show.specs.Stacks.{AreKept}
-use Rattle.px_show.specs.declared.fault.Cause.TheVariants as cause
 use Rattle.px_show.specs.declared.fault.LimitKind.{LimitKind}
 use Rattle.px_show.specs.declared.fault.LineFault.{LineFault}
-use Rattle.px_show.specs.declared.fault.LineFault.TheVariants as fault
 use Rattle.px_show.specs.declared.stack.Part.{Part as Kind}
-use Rattle.px_show.specs.declared.stack.Part.TheVariants as p
 use Rattle.px_show.specs.declared.stack.Step.{Step}
+use Rattle.px_show.specs.declared.fault.Cause.TheVariants as cause
+use Rattle.px_show.specs.declared.fault.LineFault.TheVariants as fault
+use Rattle.px_show.specs.declared.stack.Part.TheVariants as p
 use Rattle.px_show.specs.declared.stack.Step.TheVariants as s
 
 -- a tree has more steps than it is nested deep
@@ -43,29 +37,17 @@ leaves_counted names (join op left right) =
 
 pub place_unknown : (names : Words) (n : List ℕ) → nat_le (length names) (place_of names n) ≡ not (is_among names n)
 place_unknown [] n = refl
-place_unknown (m ∷ ms) n = by_test (bytes_eq m n) (place_unknown ms n)
-  where
-    by_test : (test : Bool) → nat_le (length ms) (place_of ms n) ≡ not (is_among ms n)
-        → nat_le (length (m ∷ ms)) (if test then 0 else place_of ms n + 1) ≡ not (test || is_among ms n)
-    by_test true later = grind (arith, nat_tests)
-    by_test false later = grind (arith, nat_tests)
+place_unknown (m ∷ ms) n = grind (arith, place_unknown ms n)
 
 either : (a b : Bool) → not a || not b ≡ not (a && b)
 either true b = refl
 either false b = refl
 
 some_unknown : (names : Words) (tree : Named)
-    → list_any (is_unknown (length names)) (tree_steps (over_places names tree))
-    ≡ not (are_known names tree)
+    → list_any (is_unknown (length names)) (tree_steps (over_places names tree)) ≡ not (are_known names tree)
 some_unknown names (leaf n) = or_false _ ∙ place_unknown names n
 some_unknown names (join op left right) =
-    list_any-append (is_unknown (length names))
-    (tree_steps (over_places names left) ++ tree_steps (over_places names right))
-    (s.Join op ∷ [])
-    ∙ or_false _
-    ∙ list_any-append (is_unknown (length names)) (tree_steps (over_places names left))
-    (tree_steps (over_places names right))
-    ∙ rw (some_unknown names left, some_unknown names right) (either (are_known names left) (are_known names right))
+    grind (arith, list_any-append, or_false, either, some_unknown names left, some_unknown names right)
 
 reverse_take : {X : Type 0} (xs : List X) (k : ℕ) → k ≤ length xs → reverse (take (length xs - k) xs)
     ≡ drop k (reverse xs)
@@ -86,15 +68,7 @@ record IsClosing (read : List Part) (op : Op) (n : ℕ) : Type 0 where
 
 bracket_shape : (a b c d : Part) (before : List Part) (op : Op) (n : ℕ) → Some (op, n) ≡ bracketed (stack_part a)
     (stack_part b) (stack_part c) (stack_part d) → IsClosing (d ∷ c ∷ b ∷ a ∷ before) op n
-bracket_shape (token opens) (side left) (token (sign o)) (side right) before op n e =
-    let same = ap (λ (x : Option (Op × ℕ)). unwrap_or x (op, n)) e
-    in record {
-      left = left;
-      right = right;
-      before = before;
-      shape = ap (λ (x : Op × ℕ). side right ∷ token (sign x.0) ∷ side left ∷ token opens ∷ before) (sym same);
-      is = ap (λ (x : Op × ℕ). x.1) same;
-    }
+bracket_shape (token opens) (side left) (token (sign o)) (side right) before op n e = grind (arith, unwrap_or)
 bracket_shape (token opens) (side left) (token (sign o)) (token other) before op n e = absurd (cc)
 bracket_shape (token opens) (token other) c d before op n e = absurd (cc)
 bracket_shape a b c d before op n e = absurd (cc)
@@ -110,30 +84,17 @@ closing_shape (d ∷ c ∷ b ∷ []) op n e = absurd (cc)
 closed_stack : (names : Words) (parts new_parts : List Kind) (steps new_steps : List Step) (op : Op) (n : ℕ)
     (left right : Named) (before : List Part)
     → AreKept names parts steps (side right ∷ token (sign op) ∷ side left ∷ token opens ∷ before)
-    → n ≡ min (max (named_nesting left) (named_nesting right) + 1) (2 ^ 64 - 1)
-    → 4 ≤ length parts → length steps < 2 ^ 63 → new_parts ≡ take (length parts - 4) parts ++ p.Side n ∷ []
-    → new_steps ≡ steps ++ s.Join op ∷ []
-    → AreKept names new_parts new_steps (side (join op left right) ∷ before)
+    → n ≡ min (max (named_nesting left) (named_nesting right) + 1) (2 ^ 64 - 1) → 4 ≤ length parts
+    → length steps < 2 ^ 63 → new_parts ≡ take (length parts - 4) parts ++ p.Side n ∷ []
+    → new_steps ≡ steps ++ s.Join op ∷ [] → AreKept names new_parts new_steps (side (join op left right) ∷ before)
 closed_stack names parts new_parts steps new_steps op n left right before is same four few put more =
-    let left_steps = tree_steps (over_places names left)
-    in let right_steps = tree_steps (over_places names right)
-    in let size : length steps ≡ length (all_steps names before) + length left_steps + length right_steps =
-    ap length is.order ∙ grind (arith, length-append {A = Step})
-    in let exact : n ≡ max (named_nesting left) (named_nesting right) + 1 =
-    omega (arith, nesting_below names left, nesting_below names right)
-    in record {
-      kinds = ap reverse put ∙ reverse-append (take (length parts - 4) parts) (p.Side n ∷ [])
-          ∙ ap (λ ks. p.Side n ∷ ks) (reverse_take parts 4 four ∙ ap (drop 4) is.kinds)
-          ∙ ap (λ m. p.Side m ∷ map stack_part before) exact;
-      order = more ∙ ap (λ ss. ss ++ s.Join op ∷ []) is.order ∙ simp append_assoc;
-    }
+    grind (arith, length-append, nesting_below, reverse-append, reverse_take, append_assoc)
 
 -- a bracket that closes two sides
 pub closes_sides : (names : Words) (parts new_parts : List Kind) (steps new_steps : List Step) (read : List Part)
-    (op : Op) (n : ℕ)
-    → AreKept names parts steps read → Some (op, n) ≡ closing (reverse parts) → 4 ≤ length parts → length steps < 2 ^ 63
-    → new_parts ≡ take (length parts - 4) parts ++ p.Side n ∷ [] → new_steps ≡ steps ++ s.Join op ∷ []
-    → AreKept names new_parts new_steps (bracket_closed read)
+    (op : Op) (n : ℕ) → AreKept names parts steps read → Some (op, n) ≡ closing (reverse parts) → 4 ≤ length parts
+    → length steps < 2 ^ 63 → new_parts ≡ take (length parts - 4) parts ++ p.Side n ∷ []
+    → new_steps ≡ steps ++ s.Join op ∷ [] → AreKept names new_parts new_steps (bracket_closed read)
 closes_sides names parts new_parts steps new_steps read op n is e four few put more =
     let found = closing_shape read op n (rw is.kinds at e)
     in rw found.shape
@@ -173,15 +134,7 @@ pub whole_fault : (names : Words) (parts : List Kind) (steps : List Step) (read 
     → (if unknown then Some (fault.Malformed cause.UnknownName) else counts_past (count_by is_leaf steps) n)
     ≡ judged (cause_in names (whole read)) (limit_in (whole read))
 whole_fault names parts steps read n count unknown e is same test =
-    let found = whole_stack names parts steps read n e is
-    in let known : not (are_known names found.tree) ≡ unknown =
-    sym (test ∙ ap (λ k. list_any (is_unknown k) steps) (sym same)
-    ∙ ap (list_any (is_unknown (length names))) found.order ∙ some_unknown names found.tree)
-    in let counted : leaves found.tree ≡ count_by is_leaf steps =
-    sym (ap (count_by is_leaf) found.order ∙ leaves_counted names found.tree)
-    in sym (ap (λ r. judged (cause_in names (whole r)) (limit_in (whole r))) found.shape
-    ∙ rw (counted, found.nested, ← known) (judged_by (counts_past (count_by is_leaf steps) n)
-    (are_known names found.tree)))
+    grind (arith, whole_stack, some_unknown, leaves_counted, judged_by)
 
 pub few_leaves : (steps : List Step) (counted : ℕ) (slice : List Step) → counted ≡ count_by is_leaf slice
     → slice ≡ steps → length steps < 2 ^ 63 → counted < 2 ^ 63

@@ -1,9 +1,6 @@
 -- The steps of a tree build it.
-use Prim.Native.Nat.{zero, suc}
-use Rattle.std.proofs.Common.{◌≡◌, ℕ, ◌<◌, ◌≤◌, List, [], ◌∷◌, ◌++◌, length, take, get_or, fold, refl, ap, ◌∙◌, arith}
-use Rattle.std.proofs.Common.{◌+◌, drop, max, sym}
-use Rattle.std.proofs.lemmas.List.{take_all, take-append-drop}
-use Rattle.std.proofs.lemmas.List.Sums.{fold-append, fold_more}
+use Rattle.px_num.proofs.Basics.{zero, suc, ◌≡◌, ℕ, ◌<◌, ◌≤◌, List, [], ◌∷◌, ◌++◌, length, take, get_or, fold, refl, ap}
+use Rattle.px_num.proofs.Basics.{◌∙◌, arith, ◌+◌, drop, max, sym, take_all, take-append-drop, fold-append, fold_more}
 use Rattle.px_expr.specs.declared.node.Op.{Op}
 use Rattle.px_expr.specs.Tree.{Tree, leaf, join, leaf_count, nesting}
 use Rattle.px_expr.specs.Shapes.{joined}
@@ -15,12 +12,7 @@ use Rattle.px_show.specs.declared.stack.Step.TheVariants as s
 pub build_tree : (trees : List Tree) (tree : Tree) → fold trees_built trees (tree_steps tree) ≡ tree ∷ trees
 build_tree trees (leaf place) = refl
 build_tree trees (join op left right) =
-    fold-append trees_built trees (tree_steps left ++ tree_steps right) (s.Join op ∷ [])
-    ∙ rw (
-      fold-append trees_built trees (tree_steps left) (tree_steps right),
-      build_tree trees left,
-      build_tree (left ∷ trees) right,
-    ) refl
+    grind (arith, fold-append, build_tree trees left, build_tree (left ∷ trees) right)
 
 abbrev CanTake : ℕ → Step → Type 0
 CanTake waiting (s.Leaf place) = Unit {0}
@@ -39,14 +31,7 @@ taken_both trees (x ∷ xs) ys first second = (first.0, taken_both (trees_built 
 taken_tree : (trees : List Tree) (tree : Tree) → AllTaken trees (tree_steps tree)
 taken_tree trees (leaf place) = (tt, tt)
 taken_tree trees (join op left right) =
-    taken_both trees (tree_steps left ++ tree_steps right) (s.Join op ∷ [])
-    (taken_both trees (tree_steps left) (tree_steps right) (taken_tree trees left)
-    (rw (build_tree trees left) (taken_tree (left ∷ trees) right)))
-    (rw (
-      fold-append trees_built trees (tree_steps left) (tree_steps right),
-      build_tree trees left,
-      build_tree (left ∷ trees) right,
-    ) (omega arith, tt))
+    grind (arith, taken_both, build_tree, fold-append, taken_tree trees left, taken_tree (left ∷ trees) right)
 
 taken_at : (trees : List Tree) (steps : List Step) (i : ℕ) (any : Step) → AllTaken trees steps → i < length steps
     → CanTake (length (fold trees_built trees (take i steps))) (get_or steps i any)
@@ -67,8 +52,7 @@ can_join tree steps waiting i step op is lt now here = rw now (rw here at (can_t
 -- behind the last step the tree waits alone
 pub all_built : (tree : Tree) (steps : List Step) (waiting : List Tree) (i : ℕ) → steps ≡ tree_steps tree
     → length steps ≤ i → waiting ≡ fold trees_built [] (take i steps) → waiting ≡ tree ∷ []
-all_built tree steps waiting i is past now = now ∙ ap (fold trees_built []) (take_all i steps past ∙ is)
-    ∙ build_tree [] tree
+all_built tree steps waiting i is past now = grind (arith, take_all, build_tree)
 
 -- what no step makes less is at most what it is of the whole tree
 never_falls : (measure : List Tree → ℕ)
@@ -81,14 +65,12 @@ never_falls measure each trees (step ∷ steps) =
 at_most : (measure : List Tree → ℕ)
     → ((trees : List Tree) (step : Step) → measure trees ≤ measure (trees_built trees step))
     → (tree : Tree) (steps : List Step) (waiting : List Tree) (i : ℕ) (step : Step) → steps ≡ tree_steps tree
-    → i < length steps
-    → waiting ≡ fold trees_built [] (take i steps) → measure (trees_built waiting (get_or steps i step)) ≤ measure
-    (tree ∷ [])
+    → i < length steps → waiting ≡ fold trees_built [] (take i steps)
+    → measure (trees_built waiting (get_or steps i step)) ≤ measure (tree ∷ [])
 at_most measure each tree steps waiting i step is lt now =
     let after = fold trees_built [] (take (i + 1) steps)
     in let here : trees_built waiting (get_or steps i step) ≡ after =
-    ap (λ trees. trees_built trees (get_or steps i step)) now
-    ∙ sym (fold_more trees_built [] steps i step lt)
+    grind (arith, fold_more)
     in let last : fold trees_built after (drop (i + 1) steps) ≡ tree ∷ [] =
     sym (fold-append trees_built [] (take (i + 1) steps) (drop (i + 1) steps))
     ∙ ap (fold trees_built []) (take-append-drop (i + 1) steps ∙ is) ∙ build_tree [] tree
@@ -124,9 +106,8 @@ room_for_leaf tree steps waiting i step place is few lt now here =
     in omega arith
 
 pub room_for_join : (tree : Tree) (steps : List Step) (waiting : List Tree) (i : ℕ) (step : Step) (op : Op)
-    → steps ≡ tree_steps tree → nesting tree ≤ 64 → i < length steps
-    → waiting ≡ fold trees_built [] (take i steps) → get_or steps i step ≡ s.Join op
-    → nesting (newest (joined join op waiting)) ≤ 64
+    → steps ≡ tree_steps tree → nesting tree ≤ 64 → i < length steps → waiting ≡ fold trees_built [] (take i steps)
+    → get_or steps i step ≡ s.Join op → nesting (newest (joined join op waiting)) ≤ 64
 room_for_join tree steps waiting i step op is flat lt now here =
     let most = rw here at (at_most deepest deepens tree steps waiting i step is lt now)
     in omega (arith, newest_most (joined join op waiting))

@@ -1,34 +1,16 @@
 -- The first token of a word.
-use Rattle.std.proofs.Common.{◌≡◌, ℕ, ◌+◌, ◌==◌, ◌≤◌, List, [], ◌∷◌, length, get_or, take, drop, Bool, true, false}
-use Rattle.std.proofs.Common.{cond, if◌then◌else◌, Option, Some, None, refl, ◌∙◌, arith}
+use Rattle.px_num.proofs.Basics.{◌≡◌, ℕ, ◌+◌, ◌≤◌, List, [], ◌∷◌, length, get_or, take, drop, Bool, true, false, cond}
+use Rattle.px_num.proofs.Basics.{refl, ◌∙◌, arith}
 use Rattle.std.proofs.Math.Numerals.{one-add}
 use Rattle.std.specs.List.{prefix_len}
-use Rattle.px_expr.specs.declared.node.Op.{Op}
 use Rattle.px_text.specs.Text.{is_name_byte}
-use Rattle.px_show.specs.Versions.{is_sign, op_of}
 use Rattle.px_show.specs.declared.scene_version.Version.{Version}
-use Rattle.px_show.specs.Expressions.{Token, name, opens, closes, sign, other, sign_in, mark, with_name_byte, tokens_in}
+use Rattle.px_show.specs.Expressions.{Token, name, mark, with_name_byte, tokens_in}
 
 -- a mark is no part of a name
 pub apart : (version : Version) (b x : ℕ) (ts : List Token) → with_name_byte b (mark version x ∷ ts) ≡ name (b ∷ [])
     ∷ mark version x ∷ ts
-apart version b x ts = by_test (x == 40) (x == 41)
-  where
-    by_sign : (op : Option Op) → with_name_byte b (sign_in version op ∷ ts) ≡ name (b ∷ []) ∷ sign_in version op ∷ ts
-    by_sign None = refl
-    by_sign (Some op) = by_version (is_sign version op)
-      where
-        by_version : (test : Bool) → with_name_byte b ((if test then sign op else other) ∷ ts) ≡ name (b ∷ [])
-            ∷ (if test then sign op else other) ∷ ts
-        by_version true = refl
-        by_version false = refl
-
-    by_test : (p q : Bool)
-        → with_name_byte b ((if p then opens else if q then closes else sign_in version (op_of x)) ∷ ts)
-        ≡ name (b ∷ []) ∷ (if p then opens else if q then closes else sign_in version (op_of x)) ∷ ts
-    by_test true q = refl
-    by_test false true = refl
-    by_test false false = by_sign (op_of x)
+apart version b x ts = grind arith
 
 -- a name that a byte begins goes on as long as there are bytes of names
 begun : (version : Version) (b : ℕ) (bs : List ℕ) (n : ℕ) → n ≡ prefix_len is_name_byte bs
@@ -50,14 +32,12 @@ begun version b (x ∷ xs) n e =
     by_test false n all later e is whole = rw (e, ← whole, is) (apart version b x (tokens_in version xs))
 
 pub first_name : (version : Version) (bs : List ℕ) (n : ℕ) → 1 ≤ length bs → is_name_byte (get_or bs 0 0) ≡ true
-    → n ≡ prefix_len is_name_byte bs
-    → tokens_in version bs ≡ name (take n bs) ∷ tokens_in version (drop n bs)
+    → n ≡ prefix_len is_name_byte bs → tokens_in version bs ≡ name (take n bs) ∷ tokens_in version (drop n bs)
 first_name version [] n some is e = absurd (omega arith)
 first_name version (b ∷ bs) n some is e = by_test (is_name_byte b) n is e
   where
     by_test : (test : Bool) (n : ℕ) → test ≡ true → n ≡ cond test (1 + prefix_len is_name_byte bs) 0
-        → cond test (with_name_byte b (tokens_in version bs)) (mark version b ∷ tokens_in version bs)
-        ≡ name (take n (b ∷ bs))
-        ∷ tokens_in version (drop n (b ∷ bs))
+        → cond test (with_name_byte b (tokens_in version bs))
+        (mark version b ∷ tokens_in version bs) ≡ name (take n (b ∷ bs)) ∷ tokens_in version (drop n (b ∷ bs))
     by_test true n is e = rw (e ∙ one-add (prefix_len is_name_byte bs)) (begun version b bs _ refl)
     by_test false n is e = cc

@@ -1,11 +1,8 @@
 -- What an act leaves of a pixel whose bits stand in words.
-use Rattle.std.proofs.Common.{◌≡◌, ◌≢◌, ℕ, ◌+◌, ◌*◌, ◌<◌, ◌≤◌, Bool, true, false, cond, List, length, get_or}
-use Rattle.std.proofs.Common.{set, refl, sym, ap, ◌∙◌, arith}
-use Rattle.std.proofs.Common.{inl, inr, length-set}
-use Rattle.std.proofs.Math.Nat.{mul-le-mul_right}
-use Rattle.std.proofs.lemmas.Bool.{cases_eq, cases_lt}
+use Rattle.px_num.proofs.Basics.{◌≡◌, ◌≢◌, ℕ, ◌+◌, ◌*◌, ◌<◌, ◌≤◌, Bool, true, false, cond, List, length, get_or, set}
+use Rattle.px_num.proofs.Basics.{refl, sym, ap, ◌∙◌, arith, inl, inr, length-set, mul-le-mul_right, cases_eq, cases_lt}
+use Rattle.px_num.proofs.Basics.{if◌then◌else◌, slice_set}
 use Rattle.std.proofs.lemmas.List.{get_or-set_other, get_or-set_same}
-use Rattle.std.specs.Prelude.{if◌then◌else◌, slice_set}
 use Rattle.px_num.proofs.ListLaws.{get_or-tabulate, is_tabulate, length-tabulate}
 use Rattle.px_num.specs.Bits.{bit_at, nat_bit}
 use Rattle.px_num.specs.Lists.{tabulate}

@@ -1,20 +1,18 @@
 -- A state by the pixels and nodes that stand in its words, and one clock of it.
-use Rattle.std.proofs.Common.{◌≡◌, ℕ, ◌+◌, ◌-◌, ◌*◌, ◌/◌, ◌%◌, ◌^◌, ◌<◌, ◌≤◌, nat_lt, Bool, true, false, cond}
-use Rattle.std.proofs.Common.{not, List, [], ◌∷◌, length, drop, take, map, get_or, None, Some, refl, sym, ap}
-use Rattle.std.proofs.Common.{◌∙◌, arith}
-use Rattle.std.proofs.Common.{inl, inr}
+use Rattle.px_num.proofs.Basics.{◌≡◌, ℕ, ◌+◌, ◌-◌, ◌*◌, ◌/◌, ◌%◌, ◌^◌, ◌<◌, ◌≤◌, nat_lt, Bool, true, false, cond, not}
+use Rattle.px_num.proofs.Basics.{List, [], ◌∷◌, length, drop, take, map, get_or, None, Some, refl, sym, ap, ◌∙◌, arith}
+use Rattle.px_num.proofs.Basics.{inl, inr, div-lt_iff_lt-mul, mod-lt, cases_eq, cases_lt, get_or-replicate}
+use Rattle.px_num.proofs.Basics.{length-replicate, map-append, take_more, div-mul-add, mod-mul-add, pow-add}
 use Rattle.px_num.proofs.BitLaws.{pow_above}
 use Rattle.px_num.proofs.TruthLaws.{power_grows}
 use Rattle.px_rows.proofs.BitLaws.{bit_of_zero}
 use Rattle.px_tree.specs.declared.lines.Lines.{Lines}
 use Rattle.px_tree.specs.declared.node.Node.{Node}
-use Rattle.std.proofs.Math.Nat.{div-add-mod, div-lt_iff_lt-mul, le-mul_of_pos_right, mod-lt, add-mul-div_right}
+use Rattle.std.proofs.Math.Nat.{div-add-mod, le-mul_of_pos_right, add-mul-div_right}
 use Rattle.std.proofs.Math.Nat.{add-mul-mod_self_right, mul_assoc}
-use Rattle.std.proofs.lemmas.Bool.{cases_eq, cases_lt}
-use Rattle.std.proofs.lemmas.List.{get_or-drop, get_or-replicate, length-drop, length-replicate, map-append, take_more}
+use Rattle.std.proofs.lemmas.List.{get_or-drop, length-drop}
 use Rattle.std.proofs.lemmas.List.Sums.{fails_before_first}
 use Rattle.std.specs.List.{position_or_len}
-use Rattle.std.proofs.lemmas.Nat.{div-mul-add, mod-mul-add, pow-add}
 use Rattle.px_num.proofs.ListLaws.{get_or-tabulate, is_tabulate, length-tabulate}
 use Rattle.px_num.proofs.TruthLaws.{itself_true, lt_fails, lt_false, lt_true, not_false, other_false}
 use Rattle.px_num.specs.Bits.{bit_at, nat_bit}

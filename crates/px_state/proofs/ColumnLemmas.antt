@@ -1,11 +1,8 @@
 -- Planes column by column, and the words of their rows.
-use Rattle.std.proofs.Common.{◌≡◌, ◌≢◌, ℕ, zero, suc, replicate, ◌+◌, ◌*◌, ◌/◌, ◌%◌, ◌^◌, ◌<◌, ◌≤◌, List}
-use Rattle.std.proofs.Common.{get_or, refl, sym, ap, ◌∙◌, arith, inl, inr}
-use Rattle.std.proofs.Math.Nat.{mod-lt}
-use Rattle.std.proofs.lemmas.Bool.{cases_lt}
-use Rattle.std.proofs.lemmas.List.{get_or_past}
+use Rattle.px_num.proofs.Basics.{◌≡◌, ◌≢◌, ℕ, zero, suc, replicate, ◌+◌, ◌*◌, ◌/◌, ◌%◌, ◌^◌, ◌<◌, ◌≤◌, List, get_or}
+use Rattle.px_num.proofs.Basics.{refl, sym, ap, ◌∙◌, arith, inl, inr, mod-lt, cases_lt, get_or_past, div-mul-add}
+use Rattle.px_num.proofs.Basics.{mod-mul-add, pow-add}
 use Rattle.std.proofs.lemmas.Simd.{get_or-replicate, length-replicate}
-use Rattle.std.proofs.lemmas.Nat.{div-mul-add, mod-mul-add, pow-add}
 use Rattle.px_num.specs.Bits.{bit_at, nat_bit}
 use Rattle.px_num.proofs.BitLaws.{pow_above}
 use Rattle.px_num.proofs.TruthLaws.{double_pow, lt_false, lt_true}

@@ -1,14 +1,11 @@
 -- The broadcasts of operations, one operation after another.
-use Rattle.std.proofs.Common.{◌≡◌, ℕ, suc, ◌+◌, ◌-◌, ◌<◌, ◌≤◌, min, List, ◌∷◌, ◌++◌, length, take, drop, get_or}
-use Rattle.std.proofs.Common.{Some, sym, ap, ◌∙◌, arith}
-use Rattle.std.proofs.Common.{inl, inr, length-append}
-use Rattle.std.specs.List.{between, flat_map, slice_get}
-use Rattle.std.proofs.Math.Seq.{drop-cons, take-append-add, take-append_seam}
-use Rattle.std.proofs.lemmas.Bool.{cases_lt}
-use Rattle.std.proofs.lemmas.List.{length-take-le, take-append-drop, take-append-le, take_all}
-use Rattle.std.proofs.lemmas.List.Concat.{flat_map-append, flat_map-cons}
-use Rattle.std.proofs.lemmas.Option.{get_or_from_slice_get, slice_get-get_or, slice_get_within}
-use Rattle.std.proofs.lemmas.Slice.{between_from_start}
+use Rattle.px_num.proofs.Basics.{◌≡◌, ℕ, suc, ◌+◌, ◌-◌, ◌<◌, ◌≤◌, min, List, ◌∷◌, ◌++◌, length, take, drop, get_or}
+use Rattle.px_num.proofs.Basics.{Some, sym, ap, ◌∙◌, arith, inl, inr, length-append, between, flat_map, slice_get}
+use Rattle.px_num.proofs.Basics.{drop-cons, take-append-add, take-append_seam, cases_lt, take-append-drop}
+use Rattle.px_num.proofs.Basics.{take-append-le, take_all, flat_map-cons, get_or_from_slice_get, slice_get-get_or}
+use Rattle.px_num.proofs.Basics.{slice_get_within, between_from_start}
+use Rattle.std.proofs.lemmas.List.{length-take-le}
+use Rattle.std.proofs.lemmas.List.Concat.{flat_map-append}
 use Rattle.px_num.proofs.ListLaws.{length-tabulate}
 use Rattle.px_array.specs.Arrays.{Device, zero_state}
 use Rattle.px_array.specs.Clocks.{after_clocks, all_clocked}

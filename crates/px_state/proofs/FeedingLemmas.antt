@@ -1,10 +1,7 @@
 -- A feed of the nodes whose latches stand in words.
-use Rattle.std.proofs.Common.{◌≡◌, ℕ, ◌+◌, ◌-◌, ◌*◌, ◌/◌, ◌%◌, ◌^◌, ◌<◌, ◌≤◌, ◌==◌, ◌&&◌, eqb, nat_lt, nat_le}
-use Rattle.std.proofs.Common.{◌⊎◌, ◌≢◌, Bool, true, false, cond, List, length, get_or, set, length-set, refl}
-use Rattle.std.proofs.Common.{sym, ap, ◌∙◌, arith}
-use Rattle.std.proofs.Common.{inl, inr}
-use Rattle.std.proofs.lemmas.Bool.{cases_lt}
-use Rattle.std.proofs.lemmas.Bool.Decides.{nat_tests}
+use Rattle.px_num.proofs.Basics.{◌≡◌, ℕ, ◌+◌, ◌-◌, ◌*◌, ◌/◌, ◌%◌, ◌^◌, ◌<◌, ◌≤◌, ◌==◌, ◌&&◌, eqb, nat_lt, nat_le, ◌⊎◌}
+use Rattle.px_num.proofs.Basics.{◌≢◌, Bool, true, false, cond, List, length, get_or, set, length-set, refl, sym, ap}
+use Rattle.px_num.proofs.Basics.{◌∙◌, arith, inl, inr, cases_lt, nat_tests}
 use Rattle.std.proofs.lemmas.List.{get_or-set_other, get_or-set_same}
 use Rattle.px_num.proofs.TruthLaws.{and_true, le_false, le_true, lt_false, lt_true}
 use Rattle.px_num.specs.Bits.{majority, nat_bit, xor}

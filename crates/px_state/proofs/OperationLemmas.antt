@@ -1,13 +1,10 @@
 -- The operations of a text, one after another.
-use Rattle.std.proofs.Common.{◌≡◌, ℕ, ◌+◌, ◌<◌, ◌≤◌, true, false, List, [], ◌∷◌, ◌++◌, length, take, drop}
-use Rattle.std.proofs.Common.{get_or, Some, None, Result, Ok, Err, OnOk, inl, inr, sym, subst, ap, ◌∙◌, arith}
-use Rattle.std.proofs.Common.{length-append}
-use Rattle.std.specs.List.{flat_map, slice_get}
-use Rattle.std.proofs.lemmas.Bool.{cases_lt}
-use Rattle.std.proofs.lemmas.List.{take-append-drop, take_all, take_more}
-use Rattle.std.proofs.lemmas.List.Concat.{flat_map-append, flat_map-cons, get_or-flat_map}
-use Rattle.std.proofs.lemmas.List.Folds.{length-flat_map-take}
-use Rattle.std.proofs.lemmas.Option.{get_or_from_slice_get, slice_get-get_or, slice_get_within}
+use Rattle.px_num.proofs.Basics.{◌≡◌, ℕ, ◌+◌, ◌<◌, ◌≤◌, true, false, List, [], ◌∷◌, ◌++◌, length, take, drop, get_or}
+use Rattle.px_num.proofs.Basics.{Some, None, Result, Ok, Err, OnOk, inl, inr, sym, subst, ap, ◌∙◌, arith, length-append}
+use Rattle.px_num.proofs.Basics.{flat_map, slice_get, cases_lt, take-append-drop, take_all, take_more, flat_map-cons}
+use Rattle.px_num.proofs.Basics.{get_or-flat_map, length-flat_map-take, get_or_from_slice_get, slice_get-get_or}
+use Rattle.px_num.proofs.Basics.{slice_get_within}
+use Rattle.std.proofs.lemmas.List.Concat.{flat_map-append}
 use Rattle.px_control.specs.ProgramLaws.{IsGoodProgram}
 use Rattle.px_control.proofs.StepLemmas.{lawful_here}
 use Rattle.px_macro.specs.Macros.{IsLawful, IsLawfulInMore}

@@ -1,6 +1,6 @@
 -- The fields of a packed micro tell it.
-use Rattle.std.proofs.Common.{◌≡◌, ℕ, ◌+◌, ◌*◌, ◌/◌, ◌%◌, ◌^◌, ◌<◌, ◌≤◌, ◌==◌, Bool, true, false, refl, arith}
-use Rattle.std.proofs.lemmas.Bool.Decides.{nat_tests}
+use Rattle.px_num.proofs.Basics.{◌≡◌, ℕ, ◌+◌, ◌*◌, ◌/◌, ◌%◌, ◌^◌, ◌<◌, ◌≤◌, ◌==◌, Bool, true, false, refl, arith}
+use Rattle.px_num.proofs.Basics.{nat_tests}
 use Rattle.px_num.proofs.TruthLaws.{and_left, and_right, itself_true, lt_holds, lt_true}
 use Rattle.px_pixel.specs.Acts.{HasPlace}
 use Rattle.px_pixel.specs.declared.act.Act.{Act}

@@ -1,7 +1,5 @@
 -- Where the words of a state stand.
-use Rattle.std.proofs.Common.{◌≡◌, ℕ, ◌+◌, ◌^◌, ◌<◌, ◌≤◌, inl, inr, refl, arith}
-use Rattle.std.proofs.Math.Pow.{pow_mono}
-use Rattle.std.proofs.lemmas.Bool.{cases_lt, lt-ltb}
+use Rattle.px_num.proofs.Basics.{◌≡◌, ℕ, ◌+◌, ◌^◌, ◌<◌, ◌≤◌, inl, inr, refl, arith, pow_mono, cases_lt, lt-ltb}
 use Rattle.px_num.proofs.TruthLaws.{lt_false}
 use Rattle.px_array.specs.Arrays.{State}
 use Rattle.px_state.specs.Parts.{IsPartOfWord, part_bit}

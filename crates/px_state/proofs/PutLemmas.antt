@@ -1,7 +1,6 @@
 -- Micros that are written operation by operation.
-use Rattle.std.proofs.Common.{◌≡◌, ℕ, ◌+◌, ◌-◌, ◌<◌, ◌≤◌, List, length, get_or, Some, inl, inr, ap, ◌∙◌, arith}
-use Rattle.std.specs.List.{slice_get}
-use Rattle.std.proofs.lemmas.Bool.{cases_lt}
+use Rattle.px_num.proofs.Basics.{◌≡◌, ℕ, ◌+◌, ◌-◌, ◌<◌, ◌≤◌, List, length, get_or, Some, inl, inr, ap, ◌∙◌, arith}
+use Rattle.px_num.proofs.Basics.{slice_get, cases_lt}
 use Rattle.px_asm.specs.Micros.{cycles, micro_at}
 use Rattle.px_macro.specs.declared.operation.Macro.{Macro}
 use Rattle.px_listing.specs.Listings.{ListingView}

@@ -1,7 +1,6 @@
 -- What is refused, and by which fault.
-use Rattle.std.proofs.Common.{◌≡◌, ℕ, ◌<◌, ◌≤◌, ◌^◌, length, nat_lt, Option, Some, None, inl, inr, refl, ap, sym, ◌∙◌}
-use Rattle.std.specs.Option.{option_or}
-use Rattle.std.proofs.lemmas.Bool.{lt-ltb}
+use Rattle.px_num.proofs.Basics.{◌≡◌, ℕ, ◌<◌, ◌≤◌, ◌^◌, length, nat_lt, Option, Some, None, inl, inr, refl, ap, sym}
+use Rattle.px_num.proofs.Basics.{◌∙◌, option_or, lt-ltb}
 use Rattle.px_num.proofs.TruthLaws.{lt_false}
 use Rattle.px_array.specs.Slots.{ArrayView}
 use Rattle.px_model.specs.Scenes.{SceneView}

@@ -1,6 +1,5 @@
 -- The operations of a scene as those of a listing.
-use Rattle.std.proofs.Common.{◌≡◌, ℕ, ◌<◌, Option, Some, None, refl, ◌∙◌, arith, sym}
-use Rattle.std.specs.List.{slice_get}
+use Rattle.px_num.proofs.Basics.{◌≡◌, ℕ, ◌<◌, Option, Some, None, refl, ◌∙◌, arith, sym, slice_get}
 use Rattle.px_array.specs.Arrays.{Device}
 use Rattle.px_array.specs.declared.micro.Micro.{Micro}
 use Rattle.px_macro.specs.declared.operation.Macro.{Macro}

@@ -1,9 +1,8 @@
 -- What a text broadcasts, or why it is refused, by its first word.
-use Rattle.std.proofs.Common.{◌≡◌, ℕ, ◌<◌, ◌≤◌, ◌⊎◌, true, false, List, length, Option, Some, inl, inr, refl, ap}
-use Rattle.std.specs.Option.{option_map, option_or}
+use Rattle.px_num.proofs.Basics.{◌≡◌, ℕ, ◌<◌, ◌≤◌, ◌⊎◌, true, false, List, length, Option, Some, inl, inr, refl, ap}
+use Rattle.px_num.proofs.Basics.{option_map, option_or, lt-ltb}
 use Rattle.px_num.specs.Want.{want}
 use Rattle.px_num.proofs.TruthLaws.{lt_false}
-use Rattle.std.proofs.lemmas.Bool.{lt-ltb}
 use Rattle.px_text.specs.declared.text.TheConstants.{MAX_TEXT_BYTES}
 use Rattle.px_text.specs.Text.{worded}
 use Rattle.px_scene.specs.Reading.{scene_of}

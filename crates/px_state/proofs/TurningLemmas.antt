@@ -1,10 +1,7 @@
 -- The stages by which a block is turned over.
-use Rattle.std.proofs.Common.{◌≡◌, ℕ, zero, suc, ◌+◌, ◌-◌, ◌*◌, ◌/◌, ◌%◌, ◌^◌, ◌==◌, ◌<◌, ◌≤◌, nat_le, nat_lt}
-use Rattle.std.proofs.Common.{Bool, true, false, cond, if◌then◌else◌, List, get_or, refl, ap, ◌∙◌, arith, inl}
-use Rattle.std.proofs.Common.{inr}
-use Rattle.std.proofs.lemmas.Bool.{agree_below_at, cases_Bool}
-use Rattle.std.proofs.lemmas.Bool.Decides.{nat_tests}
-use Rattle.std.proofs.lemmas.Nat.Bits.{bit_at_cat_high}
+use Rattle.px_num.proofs.Basics.{◌≡◌, ℕ, zero, suc, ◌+◌, ◌-◌, ◌*◌, ◌/◌, ◌%◌, ◌^◌, ◌==◌, ◌<◌, ◌≤◌, nat_le, nat_lt, Bool}
+use Rattle.px_num.proofs.Basics.{true, false, cond, if◌then◌else◌, List, get_or, refl, ap, ◌∙◌, arith, inl, inr}
+use Rattle.px_num.proofs.Basics.{agree_below_at, cases_Bool, nat_tests, bit_at_cat_high}
 use Rattle.px_num.specs.Bits.{nat_bit}
 use Rattle.px_num.proofs.BitLaws.{pow_above}
 use Rattle.px_num.proofs.TruthLaws.{itself_true, lt_holds}
@@ -100,9 +97,6 @@ one_bit : (k n : ℕ) → (rest_at k n == 0) ≡ false → rest_at k n ≡ 1
 one_bit k n e = let small : rest_at k n < 2 = omega arith in grind (arith, nat_tests)
 
 module _ (words : List ℕ) (k w i low : ℕ) (few : k < 6) (word : w < 64) (bit : i < 64) (masks : HasLow k low) where
-  row : 64 * w + i < 4096
-  row = omega arith
-
   word_is : (64 * w + i) / 64 ≡ w
   word_is = omega arith
 

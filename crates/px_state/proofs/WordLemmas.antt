@@ -1,7 +1,6 @@
 -- The first word of a line, and of a text.
-use Rattle.std.proofs.Common.{◌≡◌, ℕ, ◌<◌, List, [], ◌∷◌, length, get_or, Some, Bool, codes, ap, sym, arith}
-use Rattle.std.specs.List.{slice_get}
-use Rattle.std.specs.Str.{bytes_eq}
+use Rattle.px_num.proofs.Basics.{◌≡◌, ℕ, ◌<◌, List, [], ◌∷◌, length, get_or, Some, Bool, codes, ap, sym, arith}
+use Rattle.px_num.proofs.Basics.{slice_get, bytes_eq}
 use Rattle.px_text.specs.Text.{Words}
 use Rattle.px_state.specs.Refusals.{starts_listing}
 

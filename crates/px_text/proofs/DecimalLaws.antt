@@ -1,46 +1,31 @@
 -- A number that is written in decimal digits is read as it.
-use Rattle.std.proofs.Common.{◌≡◌, ℕ, ℤ, pos, ◌+◌, ◌-◌, ◌<◌, ◌≤◌, ◌^◌, ◌==◌, min, List, [], ◌∷◌, ◌++◌, map, Some}
-use Rattle.std.proofs.Common.{None, Bool, true, false, decimal, refl, ap, ◌∙◌, arith}
-use Prim.Native.Nat.{zero, suc}
+use Rattle.px_num.proofs.Basics.{◌≡◌, ℕ, ℤ, pos, ◌+◌, ◌-◌, ◌<◌, ◌≤◌, ◌^◌, List, [], ◌∷◌, ◌++◌, map, Some, None, true}
+use Rattle.px_num.proofs.Basics.{false, decimal, refl, ap, ◌∙◌, arith, zero, suc, list_all, signed_decimal}
+use Rattle.px_num.proofs.Basics.{AllBelowBase}
 use lib.IntN.{negsuc}
 use lib.Signed.{mag}
-use Rattle.std.specs.List.{list_all}
-use Rattle.std.specs.Fmt.{signed_decimal}
-use Rattle.std.specs.Int.Digits.{digits_of, AllBelowBase}
-use Rattle.std.proofs.lemmas.Bool.Decides.{nat_tests}
+use Rattle.std.specs.Int.Digits.{digits_of}
 use Rattle.std.proofs.lemmas.Fmt.{decimal-digits_of, decimal_digit}
 use Rattle.std.proofs.lemmas.Int.Digits.{number_digits_of, all_below_base_digits_of, digits_of_step}
 use Rattle.px_text.specs.Text.{is_some_byte, is_digit, size_of_digits, negative, number_of}
 
 digits_all : (ds : List ℕ) → AllBelowBase 10 ds → list_all is_digit (map (λ d. 48 + d) ds) ≡ true
 digits_all [] below = refl
-digits_all (d ∷ ds) below =
-    let here : is_digit (48 + d) ≡ true = grind (arith, nat_tests, below.0)
-    in rw (here, digits_all ds below.1) refl
+digits_all (d ∷ ds) below = grind (arith, digits_all ds below.1)
 
 digits_back : (ds : List ℕ) → map (λ b. b - 48) (map (λ d. 48 + d) ds) ≡ ds
 digits_back [] = refl
-digits_back (d ∷ ds) =
-    let here : 48 + d - 48 ≡ d = omega arith
-    in rw (here, digits_back ds) refl
+digits_back (d ∷ ds) = grind (arith, digits_back ds)
 
 some_last : (ds : List ℕ) (d : ℕ) → is_some_byte (map (λ c. 48 + c) (ds ++ d ∷ [])) ≡ true
 some_last [] d = refl
 some_last (c ∷ ds) d = refl
 
 some_digit : (n : ℕ) → 0 < n → is_some_byte (map (λ c. 48 + c) (digits_of 10 n)) ≡ true
-some_digit n some = ap (λ ds. is_some_byte (map (λ c. 48 + c) ds)) (digits_of_step 10 n (omega arith) some)
-    ∙ some_last _ _
+some_digit n some = grind (arith, digits_of_step, some_last)
 
 size_digits : (n : ℕ) → 0 < n → n ≤ 10 ^ 18 → size_of_digits (map (λ d. 48 + d) (digits_of 10 n)) ≡ Some n
-size_digits n some most =
-    let least : min n (10 ^ 18) ≡ n = omega arith
-    in rw (
-      some_digit n some,
-      digits_all (digits_of 10 n) (all_below_base_digits_of 10 n (omega arith)),
-      digits_back (digits_of 10 n),
-      number_digits_of 10 n (omega arith),
-    ) (ap Some least)
+size_digits n some most = grind (arith, some_digit, digits_all, all_below_base_digits_of, digits_back, number_digits_of)
 
 pub size_read : (n : ℕ) → n ≤ 10 ^ 18 → size_of_digits (decimal n) ≡ Some n
 size_read zero most = ap size_of_digits (decimal_digit 0 (omega arith))
@@ -52,12 +37,7 @@ no_digits b bs other = rw other refl
 
 number_positive : (bs : List ℕ) (n : ℕ) → size_of_digits bs ≡ Some n → number_of bs ≡ Some (pos n)
 number_positive [] n is = cc
-number_positive (b ∷ bs) n is = by_test (b == 45) (is_digit b) refl refl
-  where
-    by_test : (minus digit : Bool) → (b == 45) ≡ minus → is_digit b ≡ digit → number_of (b ∷ bs) ≡ Some (pos n)
-    by_test false digit other here = rw (other, is) refl
-    by_test true true same here = absurd (grind (arith, nat_tests))
-    by_test true false same here = let none = no_digits b bs here in cc
+number_positive (b ∷ bs) n is = grind (arith, no_digits)
 
 pub number_read : (n : ℕ) → n ≤ 10 ^ 18 → number_of (decimal n) ≡ Some (pos n)
 number_read n most = number_positive (decimal n) n (size_read n most)

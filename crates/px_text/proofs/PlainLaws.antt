@@ -1,17 +1,11 @@
 -- Words are plain: no byte of a number or a name is a blank, begins a comment or ends a line.
-use Rattle.std.proofs.Common.{◌≡◌, ℕ, ℤ, pos, ◌<◌, ◌≤◌, ◌^◌, ◌==◌, List, [], ◌∷◌, length, Bool, true}
-use Rattle.std.proofs.Common.{false, not, nat_le, ◌&&◌, ◌||◌, if◌then◌else◌, Some, None, decimal, refl, ap}
-use Rattle.std.proofs.Common.{◌∙◌, arith}
-use Prim.Native.Nat.{suc}
+use Rattle.px_num.proofs.Basics.{common_steps, ◌≡◌, ℕ, ℤ, pos, ◌<◌, ◌≤◌, ◌^◌, ◌==◌, List, [], ◌∷◌, Bool, true, false}
+use Rattle.px_num.proofs.Basics.{not, ◌&&◌, ◌||◌, if◌then◌else◌, Some, None, decimal, refl, ap, arith, suc}
+use Rattle.px_num.proofs.Basics.{signed_decimal, list_all, nat_tests, list_all-append}
 use lib.IntN.{negsuc}
 use lib.Signed.{mag}
-use Rattle.std.specs.Fmt.{signed_decimal}
-use Rattle.std.specs.List.{list_all, take_while}
-use Rattle.std.proofs.lemmas.Bool.Decides.{nat_tests}
-use Rattle.std.proofs.lemmas.List.Folds.{list_all-append}
-use Rattle.std.proofs.lemmas.List.Sums.{take_while-cons}
-use Rattle.px_text.specs.Text.{Words, is_blank, is_some_byte, is_digit, is_letter, is_name, is_name_byte}
-use Rattle.px_text.specs.Text.{size_of_digits}
+use Rattle.std.specs.List.{take_while}
+use Rattle.px_text.specs.Text.{Words, is_blank, is_some_byte, is_digit, is_name, is_name_byte, size_of_digits}
 use Rattle.px_text.specs.Written.{spaced, is_plain_byte, is_plain, are_plain, is_no_feed}
 use Rattle.px_text.proofs.DecimalLaws.{size_read}
 
@@ -26,13 +20,11 @@ is_no_comment b = not (b == 35)
 pub before_none : (bs : List ℕ) → list_all is_no_comment bs ≡ true → take_while is_no_comment bs ≡ bs
 before_none [] all = refl
 before_none (b ∷ bs) all =
-    let each = both (is_no_comment b) (list_all is_no_comment bs) all
-    in take_while-cons is_no_comment b bs ∙ rw (each.0, before_none bs each.1) refl
+    grind (arith, nat_tests, common_steps, before_none bs (both (is_no_comment b) (list_all is_no_comment bs) all).1)
 
 pub name_bytes : (n : List ℕ) → is_name n ≡ true → list_all is_name_byte n ≡ true
 name_bytes [] e = cc
-name_bytes (b ∷ bs) e = (both (is_letter b) (list_all is_name_byte (b ∷ bs))
-    (both (is_letter b && list_all is_name_byte (b ∷ bs)) (nat_le (length (b ∷ bs)) 32) e).0).1
+name_bytes (b ∷ bs) e = grind (arith, both)
 
 -- a byte of a word
 pub record IsPlainByte (b : ℕ) : Type 0 where
@@ -59,23 +51,19 @@ name_plain b e = grind (arith, nat_tests)
 pub digits_plain : (w : List ℕ) → list_all is_digit w ≡ true → list_all is_plain_byte w ≡ true
 digits_plain [] all = refl
 digits_plain (b ∷ w) all =
-    let each = both (is_digit b) (list_all is_digit w) all
-    in rw (digit_plain b each.0, digits_plain w each.1) refl
+    grind (arith, both, digit_plain, digits_plain w (both (is_digit b) (list_all is_digit w) all).1)
 
 pub names_plain : (w : List ℕ) → list_all is_name_byte w ≡ true → list_all is_plain_byte w ≡ true
 names_plain [] all = refl
 names_plain (b ∷ w) all =
-    let each = both (is_name_byte b) (list_all is_name_byte w) all
-    in rw (name_plain b each.0, names_plain w each.1) refl
+    grind (arith, both, name_plain, names_plain w (both (is_name_byte b) (list_all is_name_byte w) all).1)
 
 sized : (ok : Bool) (m n : ℕ) → (if ok then Some m else None) ≡ Some n → ok ≡ true
 sized true m n e = refl
 sized false m n e = cc
 
 size_plain : (w : List ℕ) (n : ℕ) → size_of_digits w ≡ Some n → is_plain w ≡ true
-size_plain w n e =
-    let each = both (is_some_byte w) (list_all is_digit w) (sized (is_some_byte w && list_all is_digit w) _ n e)
-    in rw (each.0, digits_plain w each.1) refl
+size_plain w n e = grind (arith, both, sized, digits_plain)
 
 pub decimal_plain : (n : ℕ) → n ≤ 10 ^ 18 → is_plain (decimal n) ≡ true
 decimal_plain n most = size_plain (decimal n) n (size_read n most)
@@ -94,12 +82,9 @@ name_is_plain (b ∷ w) e = names_plain (b ∷ w) (name_bytes (b ∷ w) e)
 pub plain_fed : (w : List ℕ) → list_all is_plain_byte w ≡ true → list_all is_no_feed w ≡ true
 plain_fed [] all = refl
 plain_fed (b ∷ w) all =
-    let each = both (is_plain_byte b) (list_all is_plain_byte w) all
-    in rw ((plain_byte b each.0).no_feed, plain_fed w each.1) refl
+    grind (arith, both, plain_byte, plain_fed w (both (is_plain_byte b) (list_all is_plain_byte w) all).1)
 
 pub spaced_fed : (ws : Words) → are_plain ws ≡ true → list_all is_no_feed (spaced ws) ≡ true
 spaced_fed [] plain = refl
 spaced_fed (v ∷ ws) plain =
-    let each = both (is_plain v) (are_plain ws) plain
-    in let first = both (is_some_byte v) (list_all is_plain_byte v) each.0
-    in list_all-append is_no_feed v (spaced ws) ∙ rw (plain_fed v first.1, spaced_fed ws each.1) refl
+    grind (arith, both, list_all-append, plain_fed, spaced_fed ws (both (is_plain v) (are_plain ws) plain).1)

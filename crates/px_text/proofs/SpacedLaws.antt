@@ -1,13 +1,10 @@
 -- Words that are written with spaces between them, and lines with their feeds, are read back.
-use Rattle.std.proofs.Common.{◌≡◌, ℕ, ◌-◌, ◌==◌, List, [], ◌∷◌, ◌++◌, length, filter, Some, true, false}
-use Rattle.std.proofs.Common.{refl, ap, ◌∙◌, arith, append_assoc, append-nil, length-append, slice_get}
-use Prim.Native.Nat.{zero, suc}
-use Rattle.std.specs.List.{All, flat_map, slice_split, list_all}
+use Rattle.px_num.proofs.Basics.{nat_tests, common_steps, ◌≡◌, ℕ, ◌==◌, List, [], ◌∷◌, ◌++◌, length, filter, Some, true}
+use Rattle.px_num.proofs.Basics.{false, refl, ap, ◌∙◌, arith, append_assoc, append-nil, length-append, slice_get, zero}
+use Rattle.px_num.proofs.Basics.{suc, All, flat_map, slice_split, list_all, list_all-append, take-append_seam}
 use Rattle.std.proofs.lemmas.List.Splits.{slice_split_none, slice_split_at}
-use Rattle.std.proofs.lemmas.List.Folds.{list_all-append}
 use Rattle.px_text.specs.Text.{Words, is_blank, is_some_byte, words_of, lines_of}
 use Rattle.px_text.specs.Written.{spaced, is_plain_byte, is_plain, are_plain, is_no_feed, fed}
-use Rattle.std.proofs.Math.Seq.{take-append_seam}
 use Rattle.px_num.proofs.TruthLaws.{not_true}
 use Rattle.px_text.proofs.PlainLaws.{both, is_no_comment, before_none, plain_byte}
 
@@ -23,14 +20,12 @@ split_words w [] all plain = ap (slice_split is_blank) (append-nil w) ∙ slice_
 split_words w (v ∷ ws) all plain =
     let each = both (is_plain v) (are_plain ws) plain
     in let first = both (is_some_byte v) (list_all is_plain_byte v) each.0
-    in slice_split_at is_blank w 32 (v ++ spaced ws) (no_blanks w all) refl
-    ∙ ap (λ vs. w ∷ vs) (split_words v ws first.1 each.1)
+    in grind (arith, slice_split_at, no_blanks, split_words v ws first.1 each.1)
 
 no_comments : (w : List ℕ) → list_all is_plain_byte w ≡ true → list_all is_no_comment w ≡ true
 no_comments [] all = refl
 no_comments (b ∷ w) all =
-    let each = both (is_plain_byte b) (list_all is_plain_byte w) all
-    in rw ((plain_byte b each.0).no_comment, no_comments w each.1) refl
+    grind (arith, both, plain_byte, no_comments w (both (is_plain_byte b) (list_all is_plain_byte w) all).1)
 
 spaced_uncommented : (ws : Words) → are_plain ws ≡ true → list_all is_no_comment (spaced ws) ≡ true
 spaced_uncommented [] plain = refl
@@ -41,9 +36,7 @@ spaced_uncommented (v ∷ ws) plain =
 
 some_words : (ws : Words) → are_plain ws ≡ true → filter is_some_byte ws ≡ ws
 some_words [] plain = refl
-some_words (w ∷ ws) plain =
-    let each = both (is_plain w) (are_plain ws) plain
-    in rw ((both (is_some_byte w) (list_all is_plain_byte w) each.0).0, some_words ws each.1) refl
+some_words (w ∷ ws) plain = grind (arith, both, some_words ws (both (is_plain w) (are_plain ws) plain).1)
 
 pub words_read : (w : List ℕ) (ws : Words) → is_plain w ≡ true → are_plain ws ≡ true
     → words_of (w ++ spaced ws) ≡ w ∷ ws
@@ -70,12 +63,10 @@ no_feeds (b ∷ l) all (suc k) d lt = no_feeds l (both (is_no_feed b) (list_all 
 
 split_lines : (l : List ℕ) (ls : List (List ℕ)) → list_all is_no_feed l ≡ true
     → list_all (λ m. list_all is_no_feed m) ls ≡ true → slice_split (λ b. b == 10) (l ++ between ls) ≡ l ∷ ls
-split_lines l [] all each = ap (slice_split (λ b. b == 10)) (append-nil l)
-    ∙ slice_split_none (λ b. b == 10) l (no_feeds l all)
+split_lines l [] all each = grind (arith, append-nil, slice_split_none, no_feeds)
 split_lines l (m ∷ ls) all each =
     let next = both (list_all is_no_feed m) (list_all (λ n. list_all is_no_feed n) ls) each
-    in slice_split_at (λ b. b == 10) l 10 (m ++ between ls) (no_feeds l all) refl
-    ∙ ap (λ ms. l ∷ ms) (split_lines m ls next.0 next.1)
+    in grind (arith, slice_split_at, no_feeds, split_lines m ls next.0 next.1)
 
 last_feed : (t : List ℕ) → slice_get (t ++ 10 ∷ []) (length t) ≡ Some 10
 last_feed [] = refl
@@ -86,13 +77,9 @@ some_fed [] = refl
 some_fed (b ∷ t) = refl
 
 lines_fed : (t : List ℕ) → lines_of (t ++ 10 ∷ []) ≡ slice_split (λ b. b == 10) t
-lines_fed t =
-    let count : length (t ++ 10 ∷ []) - 1 ≡ length t = omega (arith, length-append t (10 ∷ []))
-    in rw (some_fed t, count, last_feed t, take-append_seam t (10 ∷ [])) refl
+lines_fed t = grind (arith, nat_tests, common_steps, length-append, some_fed, last_feed, take-append_seam)
 
 pub lines_read : (lines : List (List ℕ)) → list_all (λ l. list_all is_no_feed l) lines ≡ true
     → lines_of (fed lines) ≡ lines
 lines_read [] each = refl
-lines_read (l ∷ ls) each =
-    let all = both (list_all is_no_feed l) (list_all (λ m. list_all is_no_feed m) ls) each
-    in ap lines_of (fed_between l ls) ∙ lines_fed (l ++ between ls) ∙ split_lines l ls all.0 all.1
+lines_read (l ∷ ls) each = grind (arith, both, fed_between, lines_fed, split_lines)

@@ -1,15 +1,12 @@
 -- Expressions without "^".
-use Rattle.std.proofs.Common.{◌≡◌, ◌≢◌, ℕ, ◌+◌, ◌≤◌, ◌&&◌, true, false, Bool, [], ◌∷◌, ◌++◌, length, Option, None}
-use Rattle.std.proofs.Common.{refl, sym, ◌∙◌, arith}
+use Rattle.px_num.proofs.Basics.{◌≡◌, ◌≢◌, ℕ, ◌+◌, ◌≤◌, ◌&&◌, true, false, Bool, [], ◌∷◌, ◌++◌, length, Option, None}
+use Rattle.px_num.proofs.Basics.{refl, sym, ◌∙◌, arith, list_all, list_all-append}
 use Rattle.std.specs.Bool.{OnTrue}
 use Rattle.std.proofs.lemmas.Bool.{OnTrue_from}
-use Rattle.std.specs.List.{list_all}
-use Rattle.std.proofs.lemmas.List.Folds.{list_all-append}
 use Rattle.px_expr.specs.Postorder.{nodes_behind, nodes_of, size}
 use Rattle.px_expr.specs.Shapes.{op_node}
 use Rattle.px_expr.specs.Tree.{Tree, leaf, join}
 use Rattle.px_expr.specs.declared.node.Op.{Op}
-use Rattle.px_expr.specs.declared.node.Op.TheVariants as o
 use Rattle.px_normal.specs.Crowd.{crowd}
 use Rattle.px_normal.specs.CrowdLaw.{CrowdLaw, HasNoDiffer}
 use Rattle.px_normal.specs.Forms.{sum_of_products}
@@ -17,6 +14,7 @@ use Rattle.px_sets.specs.declared.cell_box.CellBox.{CellBox}
 use Rattle.px_normal.specs.declared.product.TheConstants.{MAX_PRODUCTS}
 use Rattle.px_count.specs.Counting.{capped}
 use Rattle.px_tile.specs.Operators.{is_no_differ}
+use Rattle.px_expr.specs.declared.node.Op.TheVariants as o
 
 both_true : (a b : Bool) → (a && b) ≡ true → (a ≡ true) × (b ≡ true)
 both_true true b both = (refl, both)

@@ -1,32 +1,28 @@
 -- The tiles of a wide picture, one after another.
-use Rattle.std.proofs.Common.{◌≡◌, ℕ, ◌+◌, ◌-◌, ◌*◌, ◌/◌, ◌%◌, ◌<◌, ◌≤◌, min, nat_lt, Bool, true, false, inl, inr}
-use Rattle.std.proofs.Common.{List, [], ◌++◌, drop, take, length, Option, Some, None, if◌then◌else◌, refl, ap, ◌∙◌}
-use Rattle.std.proofs.Common.{arith}
-use Rattle.std.specs.Option.{option_map}
-use Rattle.std.proofs.Math.Nat.{mul-le-mul_right}
-use Rattle.std.proofs.lemmas.Bool.{cases_lt}
-use Rattle.std.proofs.lemmas.List.{append-nil, drop_all, take_all}
+use Rattle.px_num.proofs.Basics.{◌≡◌, ℕ, ◌+◌, ◌-◌, ◌*◌, ◌/◌, ◌%◌, ◌<◌, ◌≤◌, min, nat_lt, Bool, true, false, inl, inr}
+use Rattle.px_num.proofs.Basics.{List, ◌++◌, drop, take, length, Option, Some, None, if◌then◌else◌, refl, ap, ◌∙◌}
+use Rattle.px_num.proofs.Basics.{arith, option_map, mul-le-mul_right, cases_lt, drop_all, take_all}
+use Rattle.std.proofs.lemmas.List.{append-nil}
 use Rattle.px_array.specs.Slots.{ArrayView}
 use Rattle.px_prune.specs.Kept.{crowd_of}
 use Rattle.px_model.specs.Scenes.{SceneView}
 use Rattle.px_model.specs.Cells.{picture}
-use Rattle.px_sched.specs.Layouts.{bit_length, layout_of, layout_with, need_of}
+use Rattle.px_sched.specs.Layouts.{layout_of, need_of}
 use Rattle.px_control.specs.declared.fault.JobFault.{JobFault}
-use Rattle.px_control.specs.declared.fault.JobFault.TheVariants as job
 use Rattle.px_tile.specs.declared.fault.WideFault.{WideFault}
-use Rattle.px_tile.specs.declared.fault.WideFault.TheVariants as wide
 use Rattle.px_model.specs.Planes.{first_past}
 use Rattle.px_tile.specs.Drawn.{HasTiles, IsLeft, tile_at, crowd_of_tile}
 use Rattle.px_tile.specs.Found.{IsFound, IsInTile, PutsTile, number_at, sight_number}
 use Rattle.px_tile.specs.Pictures.{IsLastDrawn, LeavesOnWideRefusal}
-use Rattle.px_tile.specs.Refusals.{bits_short, first_coefficient, first_crowd, many_tiles, tile_refusal, wide_refusal}
+use Rattle.px_tile.specs.Refusals.{bits_short, first_coefficient, first_crowd, tile_refusal, wide_refusal}
 use Rattle.px_tile.specs.TilesLaw.{TilesLaw}
 use Rattle.px_tile.specs.Tilings.{IsWideSize, column_of, row_of, scene_of_tile, tile_count, tiles_across}
 use Rattle.px_tile.proofs.FirstLemmas.{none_each, both_none}
-use Rattle.px_model.specs.declared.pixels.Pixels.TheVariants.{StartingAt}
 use Rattle.px_model.proofs.PixelsLaws.{counts_kept}
 use Rattle.px_tile.proofs.TilingLemmas.{column_is, covers_all, in_part, part_of_pixel, place_inside, place_is, row_is}
 use Rattle.px_tile.proofs.TilingLemmas.{some_across}
+use Rattle.px_control.specs.declared.fault.JobFault.TheVariants as job
+use Rattle.px_tile.specs.declared.fault.WideFault.TheVariants as wide
 
 module _ (scene : SceneView) (width height : ℕ) (some_w : 1 ≤ scene.width) (some_h : 1 ≤ scene.height)
     (size : IsWideSize width height) where
@@ -50,16 +46,12 @@ module _ (scene : SceneView) (width height : ℕ) (some_w : 1 ≤ scene.width) (
   only_in_its_tile : (tile x y : ℕ) → IsInTile (scene_of_tile scene width height tile) (column_of scene width tile)
       (row_of scene width tile) x y
       → tile_at scene width x y ≡ tile
-  only_in_its_tile tile x y is =
-      place_is columns tile (y / scene.height) (x / scene.width)
-      (part_of_pixel scene.height height y (tile / columns) some_h is.from_top is.above)
-      (part_of_pixel scene.width width x (tile % columns) some_w is.from_left is.left)
+  only_in_its_tile tile x y is = grind (arith, place_is, part_of_pixel)
 
   -- one tile more
   pub tiles_more : TilesLaw → (tile : ℕ) (old new : List ℕ) → HasTiles scene width height tile old
-      → PutsTile (scene_of_tile scene width height tile) (column_of scene width tile) (row_of scene width tile)
-      width old new
-      → HasTiles scene width height (tile + 1) new
+      → PutsTile (scene_of_tile scene width height tile) (column_of scene width tile)
+      (row_of scene width tile) width old new → HasTiles scene width height (tile + 1) new
   tiles_more law tile old new has put = record {
     size = put.count ∙ has.size;
     each = λ x y left above low. elim (cases_lt (tile_at scene width x y) tile) [
@@ -96,11 +88,7 @@ module _ (scene : SceneView) (width height : ℕ) (some_w : 1 ≤ scene.width) (
   }
 
   pub some_tiles : 1 ≤ tile_count scene width height
-  some_tiles =
-      let none : 0 * columns + 0 ≡ 0 = omega arith in
-      rw none at
-      (place_inside columns (tiles_across scene.height height) 0 0
-      (some_across scene.height height some_h size.some_height) (some_across scene.width width some_w size.some_width))
+  some_tiles = grind (arith, place_inside, some_across)
 
   -- the array that the last tile left
   pub last_left : (bits : ℕ) (before now : ArrayView) → IsLeft bits scene width height (tile_count scene width height)
@@ -134,15 +122,7 @@ unmapped g (Some x) none = absurd cc
 
 pub is_drawable : (scene : SceneView) (width height bits : ℕ) → wide_refusal scene width height bits ≡ None
     → IsDrawable scene width height bits
-is_drawable scene width height bits none =
-    let tiles = both_none (many_tiles (tile_count scene width height)) _ none in
-    let coefficients = both_none (option_map wide.Coefficient (first_coefficient scene width height)) _ tiles.1 in
-    let memory = both_none (bits_short wide.PixelMemory scene bits) _ coefficients.1 in
-    record {
-      coefficients = unmapped (λ n. wide.Coefficient n) (first_coefficient scene width height) coefficients.0;
-      memory = memory.0;
-      products = unmapped (λ n. wide.Products n) (first_crowd scene width height) memory.1;
-    }
+is_drawable scene width height bits none = grind (arith, both_none, unmapped)
 
 pub tile_within : (scene : SceneView) (width height bits tile : ℕ) → wide_refusal scene width height bits ≡ None
     → tile < tile_count scene width height → first_past (scene_of_tile scene width height tile).solids ≡ None
@@ -153,9 +133,7 @@ tile_within scene width height bits tile none low =
 -- the passes of a tile need as many bits as those of the scene
 need_same : (scene : SceneView) (width height tile : ℕ) → need_of (layout_of (scene_of_tile scene width height tile))
     ≡ need_of (layout_of scene)
-need_same scene width height tile =
-    ap (λ faces. need_of (layout_with scene.depth_bits scene.fraction_bits (bit_length faces)))
-    (counts_kept (StartingAt (column_of scene width tile) (row_of scene width tile)) scene.solids)
+need_same scene width height tile = grind (arith, counts_kept)
 
 bits_enough : (need bits : ℕ) (other : JobFault) (b : Bool) → (if b then Some (wide.PixelMemory need) else None) ≡ None
     → (if b then Some other else None) ≡ None
@@ -176,13 +154,9 @@ tile_fits scene width height bits tile none low =
 
 -- a tile's rows are rows of the wide picture
 pub rows_inside : (width height last : ℕ) → last ≤ height → last * width ≤ width * height
-rows_inside width height last within =
-    let turned : height * width ≡ width * height = grind arith in
-    omega (arith, mul-le-mul_right width within)
+rows_inside width height last within = grind (arith, mul-le-mul_right)
 
 -- numbers that stand in place of all of others
 pub put_back : (count : ℕ) (new old : List ℕ) → length new ≡ length old → count ≡ length old
     → take count (new ++ drop (length new) old) ≡ new
-put_back count new old same all =
-    let none : drop (length new) old ≡ [] = drop_all (length new) old (omega arith) in
-    rw (none, append-nil new) (take_all count new (omega arith))
+put_back count new old same all = grind (arith, drop_all, append-nil, take_all)

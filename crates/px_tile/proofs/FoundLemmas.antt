@@ -1,8 +1,7 @@
 -- Numbers that are put row by row into those of a wide picture.
-use Rattle.std.proofs.Common.{◌≡◌, ◌≢◌, ℕ, ◌+◌, ◌*◌, ◌^◌, ◌<◌, ◌≤◌, ◌⊎◌, inl, inr, List, length, slice_set as set, refl}
-use Rattle.std.proofs.Common.{ap, sym, ◌∙◌, arith, slice_index}
-use Rattle.std.proofs.Math.Nat.{mul-le-mul_right}
-use Rattle.std.proofs.lemmas.Bool.{cases_lt}
+use Rattle.px_num.proofs.Basics.{◌≡◌, ℕ, ◌+◌, ◌*◌, ◌^◌, ◌<◌, ◌≤◌, ◌⊎◌, inl, inr, List, length, refl, ap, sym, ◌∙◌}
+use Rattle.px_num.proofs.Basics.{arith, slice_index, mul-le-mul_right, cases_lt}
+use Rattle.std.proofs.Common.{slice_set as set}
 use Rattle.std.proofs.lemmas.List.{length-set, get_or-set_other, get_or-set_same}
 use Rattle.px_model.specs.Scenes.{SceneView}
 use Rattle.px_model.specs.Cells.{Sight, picture}
@@ -22,35 +21,14 @@ number_shown depth face n sight is p q = rw (is, p, q) refl
 pub row_more : (scene : SceneView) (x y start n : ℕ) (old mid new : List ℕ) → PutsRow scene x y start old mid
     → start + x < length mid → n ≡ sight_number (picture scene x y) → new ≡ set mid (start + x) n
     → PutsRow scene (x + 1) y start old new
-row_more scene x y start n old mid new put inside is now = record {
-  same_count = rw now (length-set mid (start + x) n ∙ put.same_count);
-  row = λ left low. elim (cases_lt left x) [
-    | inl before ↦
-        let apart : start + left ≢ start + x = λ e. absurd (omega arith) in
-        rw now (get_or-set_other mid (start + x) (start + left) n 0 apart ∙ put.row left before)
-    | inr last ↦
-        let same : left ≡ x = omega arith in
-        rw (now, same) (get_or-set_same mid (start + x) n 0 inside ∙ is)
-  ];
-  rest = λ place out.
-      let apart : place ≢ start + x = λ e. absurd (omega arith) in
-      let wider : (place < start) ⊎ (start + x ≤ place) =
-      elim out [ inl low ↦ inl low | inr high ↦ inr (omega arith) ] in
-      rw now (get_or-set_other mid (start + x) place n 0 apart ∙ put.rest place wider);
-}
+row_more scene x y start n old mid new put inside is now = grind (arith, length-set, get_or-set_other, get_or-set_same)
 
 -- the rows before one end before it
 ends_before : (width y later x : ℕ) → x < width → y < later → y * width + x < later * width
-ends_before width y later x left before =
-    let one : (y + 1) * width ≡ y * width + width = grind arith in
-    let more : (y + 1) * width ≤ later * width = mul-le-mul_right width (omega arith) in
-    omega arith
+ends_before width y later x left before = grind (arith, mul-le-mul_right)
 
 ends_at_most : (width y later x : ℕ) → x ≤ width → y < later → y * width + x ≤ later * width
-ends_at_most width y later x within before =
-    let one : (y + 1) * width ≡ y * width + width = grind arith in
-    let more : (y + 1) * width ≤ later * width = mul-le-mul_right width (omega arith) in
-    omega arith
+ends_at_most width y later x within before = grind (arith, mul-le-mul_right)
 
 -- one row more
 pub rows_more : (scene : SceneView) (y x0 y0 width start : ℕ) (old mid new : List ℕ)
@@ -101,9 +79,4 @@ pub sights_held : (scene : SceneView) (layout : LayoutView) (state : State) (y :
     → y < scene.height → y < 2 ^ state.tree.ny → ShowsThePicture scene layout (λ x y. (pixel_of state x y).memory)
     → HoldsRow depths (depth_part layout layout.key_b) state scene.width y
     → HoldsRow faces (number_part layout layout.key_b) state scene.width y → HoldSights scene y depths faces
-sights_held scene layout state y depths faces high above shows depth face = record {
-  depth_columns = depth.long;
-  face_columns = face.long;
-  depth = λ x left. depth.each x y left refl above ∙ (shows x y left high).depth;
-  face = λ x left. face.each x y left refl above ∙ (shows x y left high).face;
-}
+sights_held scene layout state y depths faces high above shows depth face = grind arith

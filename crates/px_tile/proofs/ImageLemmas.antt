@@ -1,35 +1,28 @@
 -- The images of the numbers of a wide picture.
-use Rattle.std.proofs.Common.{◌≡◌, ℕ, zero, suc, ◌+◌, ◌*◌, ◌/◌, ◌%◌, ◌^◌, ◌<◌, ◌≤◌, All, Result, Ok, Err, OnErr}
-use Rattle.std.proofs.Common.{OnOk, List, [], ◌∷◌, ◌++◌, Option, Some, None, length, get_or, take, drop, refl, ap}
-use Rattle.std.proofs.Common.{sym, ◌∙◌, arith}
-use Rattle.std.specs.List.{between, flat_map, range_with_len}
-use Rattle.std.proofs.Math.Nat.{div-lt_iff_lt-mul, div-mul-le_self, mod-eq-sub-div-mul}
-use Rattle.std.proofs.Math.Pow.{pow_mono}
-use Rattle.std.proofs.lemmas.Grind.{flat_map-append}
-use Rattle.std.proofs.lemmas.List.{get_or_default, take-append-drop}
-use Rattle.std.proofs.lemmas.Slice.{between_is}
+use Rattle.px_num.proofs.Basics.{◌≡◌, ℕ, zero, suc, ◌+◌, ◌*◌, ◌/◌, ◌%◌, ◌^◌, ◌<◌, ◌≤◌, All, Result, Ok, Err, OnErr}
+use Rattle.px_num.proofs.Basics.{OnOk, List, [], ◌∷◌, ◌++◌, length, get_or, take, drop, refl, ap, sym, ◌∙◌, arith}
+use Rattle.px_num.proofs.Basics.{between, flat_map, range_with_len, div-lt_iff_lt-mul, div-mul-le_self, pow_mono}
+use Rattle.px_num.proofs.Basics.{flat_map-append, get_or_default, take-append-drop, between_is}
+use Rattle.std.proofs.Math.Nat.{mod-eq-sub-div-mul}
 use Rattle.px_num.proofs.RangeLaws.{range_cut, same_parts}
 use Rattle.px_io.specs.Told.{SinkState, TakesAll, TakesFront}
 use Rattle.px_io.proofs.ToldLaws.{front_after, takes_both}
 use Rattle.px_frame.specs.Picture.{header, three_bytes, depth_at, face_at}
 use Rattle.px_frame.specs.Rows.{row_bytes}
-use Rattle.px_face.specs.Surfaces.{FirstCellsAreFirst, IsFirstOf, PicturesShowFaces}
+use Rattle.px_face.specs.Surfaces.{FirstCellsAreFirst, PicturesShowFaces}
 use Rattle.px_model.specs.Scenes.{IsLawfulScene, SceneView}
-use Rattle.px_model.specs.Cells.{far_of, first_cell, is_member_at, picture, sight_at}
+use Rattle.px_model.specs.Cells.{far_of, picture}
 use Rattle.px_tile.specs.declared.image.Part.{Part}
-use Rattle.px_tile.specs.declared.image.Part.TheVariants as part
 use Rattle.px_tile.specs.Found.{IsFound, number_at, sight_number}
 use Rattle.px_tile.specs.Parts.{IsSmall, bytes_of, part_image, part_of}
 use Rattle.px_tile.specs.Tiles.{wide_scene}
+use Rattle.px_tile.specs.declared.image.Part.TheVariants as part
 
 -- or of numbers that are so much greater
 shifted : (g : ℕ → List ℕ) (c from count : ℕ) → flat_map g (range_with_len (c + from) count)
     ≡ flat_map (λ k. g (c + k)) (range_with_len from count)
 shifted g c from zero = refl
-shifted g c from (suc count) =
-    let next : c + from + 1 ≡ c + (from + 1) = omega arith in
-    ap (λ others. g (c + from) ++ others) (ap (λ a. flat_map g (range_with_len a count)) next
-    ∙ shifted g c (from + 1) count)
+shifted g c from (suc count) = grind (arith, shifted g c (from + 1) count)
 
 -- places row by row
 by_rows : (g : ℕ → List ℕ) (width from height : ℕ) → flat_map g (range_with_len (from * width) (width * height))
@@ -39,13 +32,7 @@ by_rows g width from (suc height) =
     let more : width * suc height ≡ width + width * height = grind arith in
     let next : from * width + width ≡ (from + 1) * width = grind arith in
     let here : from * width ≡ from * width + 0 = omega arith in
-    ap (λ n. flat_map g (range_with_len (from * width) n)) more
-    ∙ ap (flat_map g) (range_cut (from * width) width (width * height))
-    ∙ flat_map-append g (range_with_len (from * width) width) (range_with_len (from * width + width) (width * height))
-    ∙ ap (λ row. row ++ flat_map g (range_with_len (from * width + width) (width * height)))
-    (ap (λ a. flat_map g (range_with_len a width)) here ∙ shifted g (from * width) 0 width)
-    ∙ ap (λ rows. flat_map (λ x. g (from * width + x)) (range_with_len 0 width) ++ rows)
-    (ap (λ a. flat_map g (range_with_len a (width * height))) next ∙ by_rows g width (from + 1) height)
+    grind (arith, range_cut, flat_map-append, shifted, by_rows g width (from + 1) height)
 
 -- a list by its places
 listed : (f : ℕ → List ℕ) (xs : List ℕ) → flat_map f xs ≡ flat_map (λ i. f (get_or xs i 0))
@@ -71,22 +58,13 @@ module _ (scene : SceneView) (lawful : IsLawfulScene scene) (faces : PicturesSho
   face_small x y = omega (arith, faces scene lawful x y, lawful.faces)
 
   far_small : far_of scene < 2 ^ 24
-  far_small =
-      let most : 2 ^ scene.depth_bits ≤ 2 ^ 24 =
-      pow_mono {i = scene.depth_bits} {j = 24} (omega (arith, lawful.sizes.depth_limit)) in
-      omega arith
+  far_small = grind (arith, pow_mono)
 
   depth_small : (x y : ℕ) → (picture scene x y).depth < 2 ^ 24
-  depth_small x y = within (first_cell scene x y) (firsts scene x y) where
-    within : (cell : Option ℕ) → IsFirstOf (is_member_at scene x y) (far_of scene) cell
-        → (sight_at scene x y cell).depth < 2 ^ 24
-    within None none = far_small
-    within (Some z) first = omega (arith, first.below, far_small)
+  depth_small x y = grind (arith, far_small)
 
   part_small : (p : Part) (x y : ℕ) → IsSmall p (sight_number (picture scene x y))
-  part_small part.Depth x y =
-      rw (depth_part (picture scene x y).depth (picture scene x y).face (omega (arith, face_small x y)))
-      (depth_small x y)
+  part_small part.Depth x y = grind (arith, depth_part, face_small, depth_small)
   part_small part.Face x y =
       rw (face_part (picture scene x y).depth (picture scene x y).face (omega (arith, face_small x y))) (face_small x y)
 
@@ -99,8 +77,7 @@ module _ (scene : SceneView) (lawful : IsLawfulScene scene) (faces : PicturesSho
       omega (arith, is.count, (let t : width * height ≡ height * width = grind arith in t)) in
       let above : y < height = (div-lt_iff_lt-mul {k = width} {x = i} {y = height} some).1 all in
       let left : x < width = omega arith in
-      let here : get_or found i 0 ≡ sight_number (picture scene x y) = ap (λ place. get_or found place 0) (sym back)
-      ∙ is.each x y left above in
+      let here : get_or found i 0 ≡ sight_number (picture scene x y) = grind arith in
       rw (get_or_default found i d 0 low, here) (part_small p x y)
 
   abbrev part_at : Part → (x y : ℕ) → ℕ
@@ -147,14 +124,11 @@ on_err (Ok x) f p = p
 on_err (Err x) f p = f p
 
 -- first all of some bytes, and then all of others, or a front of them
-pub all_after : {T E : Type 0} (r : Result T E) (a b c : SinkState) (xs ys zs : List ℕ)
-    → xs ++ ys ≡ zs
+pub all_after : {T E : Type 0} (r : Result T E) (a b c : SinkState) (xs ys zs : List ℕ) → xs ++ ys ≡ zs
     → TakesAll a b xs → OnOk r (TakesAll b c ys) → OnOk r (TakesAll a c zs)
-all_after r a b c xs ys zs whole first second =
-    on_ok r (λ next. rw whole at (takes_both a b c xs ys first next)) second
+all_after r a b c xs ys zs whole first second = on_ok r (λ next. rw whole at (takes_both a b c xs ys first next)) second
 
-pub front_then : {T E : Type 0} (r : Result T E) (a b c : SinkState) (xs ys zs : List ℕ)
-    → xs ++ ys ≡ zs
+pub front_then : {T E : Type 0} (r : Result T E) (a b c : SinkState) (xs ys zs : List ℕ) → xs ++ ys ≡ zs
     → TakesAll a b xs → OnErr r (TakesFront b c ys) → OnErr r (TakesFront a c zs)
 front_then r a b c xs ys zs whole first second =
     on_err r (λ next. rw whole at (front_after a b c xs ys first next)) second

@@ -1,14 +1,7 @@
 -- A tile's solids have at its pixels the cells and the faces that the scene's have in the wide picture.
-use Rattle.std.proofs.Common.{◌≡◌, ℕ, zero, suc, ◌+◌, ℤ, pos, ◌+ℤ◌, ◌*ℤ◌, Bool, List, [], ◌∷◌}
-use Rattle.std.proofs.Common.{Option, Some, None, map, slice_get, true, false, if◌then◌else◌, refl, ap, sym, ◌∙◌}
-use Rattle.std.proofs.Common.{arith}
-use Rattle.std.specs.List.{fold, list_all}
-use Rattle.std.specs.Option.{option_map, option_map_or}
-use Rattle.std.specs.Int.{int_max, int_min}
-use Rattle.std.specs.Ordering.{int_eq}
-use Rattle.std.proofs.lemmas.Int.{ints}
-use Rattle.std.proofs.lemmas.Option.{slice_get-map}
-use lib.Signed.{lt_z, le_z}
+use Rattle.px_num.proofs.Basics.{◌≡◌, ℕ, zero, suc, ◌+◌, ℤ, pos, ◌+ℤ◌, Bool, List, [], ◌∷◌, Option, Some, None, map}
+use Rattle.px_num.proofs.Basics.{slice_get, true, false, if◌then◌else◌, refl, ap, ◌∙◌, arith, fold, list_all, int_max}
+use Rattle.px_num.proofs.Basics.{int_min, ints, slice_get-map}
 use Rattle.px_num.specs.declared.linear.Linear.{Linear}
 use Rattle.px_num.specs.Forms.{value_at}
 use Rattle.px_num.proofs.FormLaws.{times_sum}
@@ -16,9 +9,9 @@ use Rattle.px_expr.specs.Cells.{Cell, cell}
 use Rattle.px_expr.specs.Tree.{Tree, leaf, join}
 use Rattle.px_model.specs.declared.solid.Face.{Face}
 use Rattle.px_model.specs.Scenes.{SolidView, SceneView}
-use Rattle.px_model.specs.Cells.{Depths, backs_at, depths_of, end_of, enters_at, faces_at, far_of, first, first_cell}
-use Rattle.px_model.specs.Cells.{first_or, fronts_at, is_inside_at, is_inside_before, is_member_at, leaf_cell}
-use Rattle.px_model.specs.Cells.{leaves_at, no_cell, picture, scene_cell, sight_at, solid_cell, value_of}
+use Rattle.px_model.specs.Cells.{Depths, backs_at, end_of, enters_at, faces_at, first, first_cell, fronts_at}
+use Rattle.px_model.specs.Cells.{is_inside_at, is_inside_before, leaf_cell, leaves_at, picture, scene_cell, sight_at}
+use Rattle.px_model.specs.Cells.{solid_cell, value_of}
 use Rattle.px_model.specs.declared.pixels.Pixels.TheVariants.{StartingAt}
 use Rattle.px_model.specs.Pixels.{face_over, plane_over, solid_over}
 use Rattle.px_tile.specs.Tiles.{tile_scene, wide_scene}
@@ -26,12 +19,9 @@ use Rattle.px_tile.specs.Tiles.{tile_scene, wide_scene}
 turned : (p q u v c : ℤ) → (u +ℤ v) +ℤ ((p +ℤ q) +ℤ c) ≡ ((p +ℤ u) +ℤ (q +ℤ v)) +ℤ c
 turned p q u v c = omega (arith, ints)
 
-pub value_moved : (x0 y0 x y : ℕ) (plane : Linear) → value_at (plane_over (StartingAt x0 y0) plane) x y
-    ≡ value_at plane (x0 + x)
-    (y0 + y)
-value_moved x0 y0 x y plane =
-    turned (plane.a *ℤ pos x0) (plane.b *ℤ pos y0) (plane.a *ℤ pos x) (plane.b *ℤ pos y) plane.c
-    ∙ sym (rw (times_sum plane.a x0 x, times_sum plane.b y0 y) refl)
+pub value_moved : (x0 y0 x y : ℕ) (plane : Linear)
+    → value_at (plane_over (StartingAt x0 y0) plane) x y ≡ value_at plane (x0 + x) (y0 + y)
+value_moved x0 y0 x y plane = grind (arith, turned, times_sum)
 
 -- tests and values of moved things, where each has that of the other before it was moved
 all_moved : {X Y : Type 0} (f : Y → X) (p : X → Bool) (q : Y → Bool) → ((y : Y) → p (f y) ≡ q y)
@@ -57,8 +47,7 @@ module _ (x0 y0 x y : ℕ) where
 
   values_moved : (faces : List Face) → map (λ f. value_at f.plane x y) (map (face_over (StartingAt x0 y0)) faces)
       ≡ map (λ f. value_at f.plane (x0 + x) (y0 + y)) faces
-  values_moved faces = map_moved (face_over (StartingAt x0 y0)) (λ f. value_at f.plane x y)
-      (λ f. value_at f.plane (x0 + x) (y0 + y)) value_of_face faces
+  values_moved faces = grind (arith, map_moved, value_of_face)
 
   enters_moved : (s : SolidView) → enters_at (solid_over (StartingAt x0 y0) s) x y ≡ enters_at s (x0 + x) (y0 + y)
   enters_moved s = ap (fold int_max (pos 0)) (values_moved s.fronts)
@@ -67,29 +56,14 @@ module _ (x0 y0 x y : ℕ) where
       ≡ leaves_at s end (x0 + x) (y0 + y)
   leaves_moved s end = ap (fold int_min (pos end)) (values_moved s.backs)
 
-  faces_moved : (faces : List Face) (v : ℤ) → faces_at (map (face_over (StartingAt x0 y0)) faces) x y v
-      ≡ faces_at faces (x0 + x)
-      (y0 + y) v
+  faces_moved : (faces : List Face) (v : ℤ)
+      → faces_at (map (face_over (StartingAt x0 y0)) faces) x y v ≡ faces_at faces (x0 + x) (y0 + y) v
   faces_moved [] v = refl
-  faces_moved (face ∷ faces) v =
-      rw (value_of_face face)
-      (with_face (int_eq (value_at face.plane (x0 + x) (y0 + y)) v) (face_over (StartingAt x0 y0) face) face _ _ refl
-      (faces_moved faces v))
+  faces_moved (face ∷ faces) v = grind (arith, value_of_face, with_face, faces_moved faces v)
 
-  inside_at_moved : (s : SolidView) (end v : ℕ) → is_inside_at (solid_over (StartingAt x0 y0) s) end x y v
-      ≡ is_inside_at s end
-      (x0 + x) (y0 + y) v
-  inside_at_moved s end v =
-      let sides = all_moved (plane_over (StartingAt x0 y0)) (λ side. le_z (pos 0) (value_at side x y))
-      (λ side. le_z (pos 0) (value_at side (x0 + x) (y0 + y)))
-      (λ side. ap (le_z (pos 0)) (value_moved x0 y0 x y side)) s.sides in
-      let fronts = all_moved (face_over (StartingAt x0 y0)) (λ f. le_z (value_at f.plane x y) (pos v))
-      (λ f. le_z (value_at f.plane (x0 + x) (y0 + y)) (pos v))
-      (λ f. ap (λ u. le_z u (pos v)) (value_of_face f)) s.fronts in
-      let backs = all_moved (face_over (StartingAt x0 y0)) (λ f. lt_z (pos v) (value_at f.plane x y))
-      (λ f. lt_z (pos v) (value_at f.plane (x0 + x) (y0 + y)))
-      (λ f. ap (lt_z (pos v)) (value_of_face f)) s.backs in
-      rw (sides, fronts, backs) refl
+  inside_at_moved : (s : SolidView) (end v : ℕ)
+      → is_inside_at (solid_over (StartingAt x0 y0) s) end x y v ≡ is_inside_at s end (x0 + x) (y0 + y) v
+  inside_at_moved s end v = grind (arith, all_moved, value_moved, value_of_face)
 
   before_moved : (s : SolidView) (d : Depths) (z : ℕ) → is_inside_before (solid_over (StartingAt x0 y0) s) d x y z
       ≡ is_inside_before s d (x0 + x) (y0 + y) z
@@ -100,15 +74,9 @@ module _ (x0 y0 x y : ℕ) where
       ≡ fronts_at s d (x0 + x) (y0 + y) z
   fronts_moved s d z = rw (enters_moved s, faces_moved s.fronts (enters_at s (x0 + x) (y0 + y))) refl
 
-  backs_moved : (s : SolidView) (d : Depths) (z : ℕ) → backs_at (solid_over (StartingAt x0 y0) s) d x y z
-      ≡ backs_at s d (x0 + x)
-      (y0 + y) z
-  backs_moved s d z =
-      rw (
-        before_moved s d z,
-        leaves_moved s (end_of d),
-        faces_moved s.backs (leaves_at s (end_of d) (x0 + x) (y0 + y)),
-      ) refl
+  backs_moved : (s : SolidView) (d : Depths) (z : ℕ)
+      → backs_at (solid_over (StartingAt x0 y0) s) d x y z ≡ backs_at s d (x0 + x) (y0 + y) z
+  backs_moved s d z = grind (arith, before_moved, leaves_moved, faces_moved)
 
   solid_moved : (d : Depths) (z : ℕ) (s : SolidView) → solid_cell d x y z (solid_over (StartingAt x0 y0) s)
       ≡ solid_cell d (x0 + x) (y0 + y) z s
@@ -117,13 +85,7 @@ module _ (x0 y0 x y : ℕ) where
   leaf_moved : (solids : List SolidView) (d : Depths) (z solid : ℕ)
       → leaf_cell (map (solid_over (StartingAt x0 y0)) solids) d x y z solid ≡ leaf_cell solids d (x0 + x)
       (y0 + y) z solid
-  leaf_moved solids d z solid =
-      rw (slice_get-map (solid_over (StartingAt x0 y0)) solids solid) (found (slice_get solids solid)) where
-        found : (s : Option SolidView) → option_map_or (solid_cell d x y z)
-            (option_map (solid_over (StartingAt x0 y0)) s) no_cell
-            ≡ option_map_or (solid_cell d (x0 + x) (y0 + y) z) s no_cell
-        found None = refl
-        found (Some s) = solid_moved d z s
+  leaf_moved solids d z solid = grind (arith, slice_get-map, slice_get, solid_moved)
 
 -- an expression over the same cells
 same_cell : (f g : ℕ → Cell) → ((solid : ℕ) → f solid ≡ g solid) → (tree : Tree) → cell f tree ≡ cell g tree
@@ -132,10 +94,7 @@ same_cell f g same (join op left right) = rw (same_cell f g same left, same_cell
 
 same_first : (p q : ℕ → Bool) → ((z : ℕ) → p z ≡ q z) → (n : ℕ) → first p n ≡ first q n
 same_first p q same zero = refl
-same_first p q same (suc n) = ap (first_or p n) (same_first p q same n) ∙ last (first q n) where
-  last : (found : Option ℕ) → first_or p n found ≡ first_or q n found
-  last None = rw (same n) refl
-  last (Some z) = refl
+same_first p q same (suc n) = grind (arith, same_first p q same n)
 
 pub tile_shows : (scene : SceneView) (x0 y0 width height wide high x y : ℕ)
     → picture (tile_scene scene x0 y0 width height) x y ≡ picture (wide_scene scene wide high) (x0 + x) (y0 + y)
@@ -143,12 +102,8 @@ tile_shows scene x0 y0 width height wide high x y =
     let tile = tile_scene scene x0 y0 width height in
     let whole = wide_scene scene wide high in
     let cells : (z : ℕ) → scene_cell tile x y z ≡ scene_cell whole (x0 + x) (y0 + y) z =
-    λ z. same_cell (leaf_cell tile.solids (depths_of scene) x y z) (leaf_cell scene.solids (depths_of scene) (x0 + x)
-    (y0 + y) z)
-    (leaf_moved x0 y0 x y scene.solids (depths_of scene) z) scene.show in
-    let firsts : first_cell tile x y ≡ first_cell whole (x0 + x) (y0 + y) =
-    same_first (is_member_at tile x y) (is_member_at whole (x0 + x) (y0 + y)) (λ z. ap (λ c. c.member) (cells z))
-    (far_of scene) in
+    grind (arith, same_cell, leaf_moved) in
+    let firsts : first_cell tile x y ≡ first_cell whole (x0 + x) (y0 + y) = grind (arith, same_first) in
     ap (sight_at tile x y) firsts ∙ sights cells (first_cell whole (x0 + x) (y0 + y))
   where
     sights : ((z : ℕ) → scene_cell (tile_scene scene x0 y0 width height) x y z

@@ -1,7 +1,6 @@
 -- A list of nodes that are known place by place.
-use Rattle.std.proofs.Common.{◌≡◌, ℕ, ◌<◌, ◌≤◌, Bool, List, length, sym, inl, inr, ◌∙◌, arith}
-use Rattle.std.proofs.lemmas.Bool.{cases_lt}
-use Rattle.std.proofs.lemmas.Grind.{common_steps}
+use Rattle.px_num.proofs.Basics.{◌≡◌, ℕ, ◌<◌, ◌≤◌, Bool, List, length, sym, inl, inr, ◌∙◌, arith, cases_lt}
+use Rattle.px_num.proofs.Basics.{common_steps}
 use Rattle.px_num.proofs.ListLaws.{is_tabulate}
 use Rattle.px_num.specs.Lists.{tabulate}
 use Rattle.px_tree.specs.declared.node.Node.{Node}

@@ -1,7 +1,6 @@
 -- What each leaf gives.
-use Rattle.std.proofs.Common.{◌≡◌, ℕ, zero, suc, ◌+◌, ◌*◌, ◌^◌, ◌<◌, ◌≤◌, refl, ap, ◌∙◌, arith}
-use Rattle.std.proofs.lemmas.Int.{ints}
-use Rattle.std.proofs.Math.Nat.{pow-le-pow_right}
+use Rattle.px_num.proofs.Basics.{◌≡◌, ℕ, zero, suc, ◌+◌, ◌*◌, ◌^◌, ◌<◌, ◌≤◌, refl, ap, ◌∙◌, arith, ints}
+use Rattle.px_num.proofs.Basics.{pow-le-pow_right}
 use Rattle.px_num.proofs.BitLaws.{modulo_bit, sign_bit}
 use Rattle.px_num.specs.Bits.{bit_of}
 use Rattle.px_num.proofs.FormLaws.{value_within}

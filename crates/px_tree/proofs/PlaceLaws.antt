@@ -1,7 +1,5 @@
 -- Where leaves and nodes stand.
-use Rattle.std.proofs.Common.{◌≡◌, ℕ, ◌+◌, ◌*◌, ◌^◌, ◌<◌, ◌≤◌, arith}
-use Rattle.std.proofs.lemmas.Nat.{pow-add, mul-add-lt}
-use Rattle.std.proofs.Math.Nat.{pow-le-pow_right}
+use Rattle.px_num.proofs.Basics.{◌≡◌, ℕ, ◌+◌, ◌*◌, ◌^◌, ◌<◌, ◌≤◌, arith, pow-add, mul-add-lt, pow-le-pow_right}
 
 pub power_next : (e : ℕ) → 2 ^ (e + 1) ≡ 2 * 2 ^ e
 power_next e = omega (arith, pow-add 2 e 1)

@@ -1,9 +1,6 @@
 -- The sums on the way to a leaf.
-use Rattle.std.proofs.Common.{◌≡◌, ℕ, zero, suc, ◌+◌, ◌-◌, ◌*◌, ◌/◌, ◌%◌, ◌^◌, ◌<◌, ◌≤◌, ◌==◌, ℤ, pos, ◌+ℤ◌, ◌*ℤ◌}
-use Rattle.std.proofs.Common.{cond, refl, sym, ap, ◌∙◌, arith}
-use Rattle.std.proofs.Math.IntN.{*ℤ-zero}
-use Rattle.std.proofs.lemmas.Int.{ints}
-use Rattle.std.proofs.lemmas.Nat.{shr-shr, mod-pow-add, div-mul-add, mod-mul-add}
+use Rattle.px_num.proofs.Basics.{◌≡◌, ℕ, zero, suc, ◌+◌, ◌-◌, ◌*◌, ◌/◌, ◌%◌, ◌^◌, ◌<◌, ◌≤◌, ◌==◌, ℤ, pos, ◌+ℤ◌, ◌*ℤ◌}
+use Rattle.px_num.proofs.Basics.{cond, refl, sym, ap, ◌∙◌, arith, ints, shr-shr, mod-pow-add, div-mul-add, mod-mul-add}
 use Rattle.px_num.specs.declared.linear.Linear.{Linear}
 use Rattle.px_num.proofs.TruthLaws.{double_pow, lt_false, lt_true}
 use Rattle.px_num.proofs.FormLaws.{times_sum}
@@ -29,10 +26,7 @@ one_more v i m = by_parity (i % 2) refl
 module _ (form : Linear) (nx ny : ℕ) where
   -- the levels of line a
   sum_a : (k i : ℕ) → k ≤ nx → i < 2 ^ k → partial_sum form nx ny k i ≡ (form.a *ℤ pos (i * 2 ^ (nx - k))) +ℤ form.c
-  sum_a zero i in_a below =
-      let first : i ≡ 0 = omega arith in
-      let none : i * 2 ^ (nx - 0) ≡ 0 = ap (λ j. j * 2 ^ (nx - 0)) first ∙ omega arith in
-      rw none (omega (arith, ints, *ℤ-zero form.a))
+  sum_a zero i in_a below = grind (arith, zero)
   sum_a (suc k) i in_a below =
       let parent : i / 2 < 2 ^ k = omega (arith, double_pow k) in
       let above : k ≤ nx = omega arith in
@@ -45,12 +39,7 @@ module _ (form : Linear) (nx ny : ℕ) where
   sum_b : (j k i : ℕ) → k ≡ nx + j → j ≤ ny
       → partial_sum form nx ny k i ≡ partial_sum form nx ny nx (i / 2 ^ j)
       +ℤ (form.b *ℤ pos ((i % 2 ^ j) * 2 ^ (ny - j)))
-  sum_b zero k i at_level in_b =
-      let same : k ≡ nx = omega arith in
-      let one : i / 2 ^ 0 ≡ i = omega arith in
-      let none : (i % 2 ^ 0) * 2 ^ (ny - 0) ≡ 0 = let no_rest : i % 2 ^ 0 ≡ 0 = omega arith in
-      ap (λ r. r * 2 ^ (ny - 0)) no_rest ∙ omega arith in
-      rw (same, one, none) (omega (arith, ints, *ℤ-zero form.b))
+  sum_b zero k i at_level in_b = grind (arith, zero)
   sum_b (suc j) zero i at_level in_b = absurd (omega arith)
   sum_b (suc j) (suc k) i at_level in_b =
       let above : k ≡ nx + j = omega arith in
@@ -73,10 +62,8 @@ pub leaf_sum_is_value : LeafSumIsValue
 leaf_sum_is_value form nx ny x y column row =
     let high : (x * 2 ^ ny + y) / 2 ^ ny ≡ x = div-mul-add x (2 ^ ny) y row in
     let low : (x * 2 ^ ny + y) % 2 ^ ny ≡ y = mod-mul-add x (2 ^ ny) y row in
-    let one_x : x * 2 ^ (nx - nx) ≡ x = let none : nx - nx ≡ 0 = omega arith in
-    ap (λ e. x * 2 ^ e) none ∙ omega arith in
-    let one_y : y * 2 ^ (ny - ny) ≡ y = let none : ny - ny ≡ 0 = omega arith in
-    ap (λ e. y * 2 ^ e) none ∙ omega arith in
+    let one_x : x * 2 ^ (nx - nx) ≡ x = grind arith in
+    let one_y : y * 2 ^ (ny - ny) ≡ y = grind arith in
     let in_a = rw one_x at (sum_a form nx ny nx x (omega arith) column) in
     let in_b = rw (high, low, one_y) at (sum_b form nx ny ny (nx + ny) (x * 2 ^ ny + y) refl (omega arith)) in
     omega (arith, ints, in_a, in_b)

@@ -11,8 +11,9 @@ use Rattle.px_refine.specs.RefinedLaw.{MeansAreRefined}
 use Rattle.px_outcome.specs.declared.refusal.Refusal.{Refusal}
 use Rattle.px_outcome.specs.declared.stop.Stop.{Stop}
 use Rattle.px_outcome.specs.Outcomes.{done, drawable, unless_refused}
+use Rattle.px_outcome.specs.Refusals.{fault_refusal}
 use Rattle.px_work_run.specs.Refining.{fine_refusal, refined}
-use Rattle.px_outcome.specs.Stops.{DoesWork, StopsAt, fine_stop}
+use Rattle.px_outcome.specs.Stops.{DoesWork, StopsAt, stop_at}
 use Rattle.px_refine.specs.FineFaults.{IsRefusal, fine_fault}
 use Rattle.px_refine.specs.declared.fault.FineFault.{FineFault}
 use Rattle.px_refine.specs.declared.fault.FineFault.TheVariants as fine
@@ -28,9 +29,8 @@ means_drawn law s scene fine layout drawn state is same shows =
     (subst (λ (f : SceneView). ShowsThePicture f layout (λ x y. (pixel_of state x y).memory)) is here)
 
 -- what serves the finer scene serves its refinement
-pub serves_refined : (result : Result (Unit {0}) Stop) (s t : ℕ) (scene fine : SceneView) (bits : ℕ)
-    (a b : SinkState) → s ≡ t → fine_refusal s scene ≡ None
-    → fine ≡ fine_scene s scene
+pub serves_refined : (result : Result (Unit {0}) Stop) (s t : ℕ) (scene fine : SceneView) (bits : ℕ) (a b : SinkState)
+    → s ≡ t → fine_refusal s scene ≡ None → fine ≡ fine_scene s scene
     → DoesWork result (drawable bits fine (done (refined_image s scene))) a b
     → DoesWork result (refined t scene bits) a b
 serves_refined result s t scene fine bits a b same none is serves =
@@ -41,6 +41,6 @@ serves_refined result s t scene fine bits a b same none is serves =
 
 -- the stop of a fault is what the finer scene is refused by
 pub fine_stops : (fault : FineFault) (s : ℕ) (scene : SceneView) → IsRefusal (fine_fault s scene) fault
-    → StopsAt (unless_refused (fine_refusal s scene)) (fine_stop fault)
-fine_stops (fine.Memory _) s scene is = record { scene = tt; meets = λ o. tt }
-fine_stops other s scene is = record { scene = tt; meets = λ o. rw is refl }
+    → StopsAt (unless_refused (fine_refusal s scene)) (stop_at (fault_refusal fault))
+fine_stops (fine.Memory _) s scene is = tt
+fine_stops other s scene is = λ o. rw is refl

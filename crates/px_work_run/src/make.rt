@@ -27,7 +27,9 @@ use px_count::count_products;
 use px_deliver::deliver_images;
 use px_frame::Plane;
 use px_io::{Sink, Source};
-use px_outcome::{Stop, drawing_of, kept_of, open_job, read_text, scene_in, write_finished};
+use px_outcome::{
+    SceneStop, Stop, drawing_of, kept_of, open_job, read_text, scene_in, write_finished,
+};
 use px_scene::Scene;
 use std::alloc::Global;
 
@@ -139,7 +141,7 @@ fn make_cost<O: Sink>(alloc: Global, scene: &Scene, bits: u32, out: &mut O) -> R
 }
 
 /// The text of the command `cost`.
-fn cost_of(alloc: Global, scene: &Scene, bits: u32) -> Result<ArrayString<128>, Stop>
+fn cost_of(alloc: Global, scene: &Scene, bits: u32) -> Result<ArrayString<128>, SceneStop>
     ensures ok { IfOk result (λ text. made Work.Cost scene.now bits ≡ done text.bytes) }
     ensures err { IfErr result (λ stop. StopsAt (drawable bits scene.now) stop) }
 {

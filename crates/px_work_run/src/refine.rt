@@ -23,7 +23,7 @@ use px_control::{Job, law_of_grids};
 use px_deliver::draw;
 use px_frame::laws_of_images;
 use px_io::{Failed, Sink};
-use px_outcome::{Stop, open_job};
+use px_outcome::{SceneStop, Stop, open_job};
 use px_refine::{fine_scene, laws_of_refinement, write_refined};
 use px_scene::{Scene, laws_of_scenes};
 use px_sched::Layout;
@@ -49,7 +49,7 @@ pub(crate) fn make_refined<O: Sink, A: Operating>(
 }
 
 /// The finer scene.
-fn finer(alloc: Global, scene: &Scene, s: u32) -> Result<Scene, Stop>
+fn finer(alloc: Global, scene: &Scene, s: u32) -> Result<Scene, SceneStop>
     requires { s ≤ 2 }
     ensures ok { IfOk result (λ fine.
         (fine_refusal s scene.now ≡ None) × (fine ≡ fine_scene s scene.now)) }
@@ -57,7 +57,7 @@ fn finer(alloc: Global, scene: &Scene, s: u32) -> Result<Scene, Stop>
 {
     match fine_scene(alloc, scene, s) {
         Ok(fine) => Ok(fine),
-        Err(fault) => Err(Stop::from(fault)),
+        Err(fault) => Err(SceneStop::from(fault)),
     }
 }
 

@@ -9,15 +9,15 @@ ghost use Rattle.px_tile.specs.Pictures.{IsLastDrawn};
 ghost use Rattle.px_tile.specs.Tilings.{IsWideSize};
 ghost use Rattle.px_outcome.specs.Outcomes.{unless_refused};
 ghost use Rattle.px_outcome.specs.Results.{status_in, status_of};
-ghost use Rattle.px_outcome.specs.Stops.{DoesWork, StopsAt, stop_at};
+ghost use Rattle.px_outcome.specs.Stops.{DoesWork, StopsAt, stop_at, stopped};
 ghost use Rattle.px_work_run.specs.Tiling.{DrawsTiles, tiled, tiles_refusal, wide_fault_refusal, wide_images};
-ghost use Rattle.px_outcome.specs.declared.stop.Stop.{Stop};
+ghost use Rattle.px_outcome.specs.declared.stop.SceneStop.{SceneStop};
 ghost use Rattle.px_outcome.specs.declared.refusal.Refusal.{Refusal};
 
 use px_asm::Operating;
 use px_command::Size;
 use px_io::{Failed, Sink};
-use px_outcome::{Kind, Refusal, Stop, short_of_bits, too_many};
+use px_outcome::{Kind, Refusal, SceneStop, Stop, short_of_bits, too_many};
 use px_scene::{LimitKind, Scene};
 use px_tile::{WideFault, render_tiles, write_wide};
 use std::alloc::Global;
@@ -50,7 +50,7 @@ fn find_pixels<A: Operating>(
     scene: &Scene,
     size: Size,
     array: &mut A,
-) -> Result<Vec<u64>, Stop>
+) -> Result<Vec<u64>, SceneStop>
     requires size { IsWideSize size.width size.height }
     ensures fits { OnOk result (tiles_refusal size scene.now A.BITS ≡ None) }
     ensures found { IfOk result (λ found. IsFound scene.now size.width size.height found.items) }
@@ -58,7 +58,7 @@ fn find_pixels<A: Operating>(
         (array_view (A.device array.new) (A.slots array.new) (A.work array.new))) }
     ensures err { IfErr result (λ stop.
         StopsAt (unless_refused (tiles_refusal size scene.now A.BITS)) stop) }
-    ensures array { IfErr result (λ stop. DrawsTiles (status_of stop) A.BITS size scene.now
+    ensures array { IfErr result (λ stop. DrawsTiles (status_of (stopped stop)) A.BITS size scene.now
         (array_view (A.device array.old) (A.slots array.old) (A.work array.old))
         (array_view (A.device array.new) (A.slots array.new) (A.work array.new))) }
 {
@@ -69,7 +69,7 @@ fn find_pixels<A: Operating>(
 }
 
 /// Why a wide picture is not drawn.
-fn stop_of(fault: WideFault) -> Stop
+fn stop_of(fault: WideFault) -> SceneStop
     requires { (count : ℕ) → fault ≡ WideFault.Products count → count ≤ 2 ^ 21 }
     ensures { result ≡ stop_at (wide_fault_refusal fault) }
 {
@@ -78,17 +78,17 @@ fn stop_of(fault: WideFault) -> Stop
         WideFault::Coefficient { found } => {
             past_limit(Kind::Scene(LimitKind::Coefficient), found)
         }
-        WideFault::PixelMemory { need } => Stop::Refused(short_of_bits(need)),
-        WideFault::Products { count } => Stop::Refused(too_many(count)),
-        WideFault::Memory(lack) => Stop::Memory(lack),
+        WideFault::PixelMemory { need } => SceneStop::Refused(short_of_bits(need)),
+        WideFault::Products { count } => SceneStop::Refused(too_many(count)),
+        WideFault::Memory(lack) => SceneStop::Memory(lack),
     }
 }
 
 /// A wide picture is past a limit.
-fn past_limit(kind: Kind, found: i64) -> Stop
-    ensures { result ≡ Stop.Refused (Refusal.Limit 0 kind found) }
+fn past_limit(kind: Kind, found: i64) -> SceneStop
+    ensures { result ≡ SceneStop.Refused (Refusal.Limit 0 kind found) }
 {
-    Stop::Refused(Refusal::Limit {
+    SceneStop::Refused(Refusal::Limit {
         line: 0,
         kind,
         found,

@@ -1,4 +1,4 @@
-use Rattle.std.proofs.Common.{◌≡◌, drop, take, ◌++◌}
+use Rattle.px_num.proofs.Basics.{◌≡◌, drop, take, ◌++◌}
 use Rattle.std.specs.Vec.Iter.{into_iter_items, into_iter_len}
 use Rattle.px_program.proofs.behind_the_name.Given as goal
 

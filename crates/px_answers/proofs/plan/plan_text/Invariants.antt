@@ -1,5 +1,4 @@
-use Rattle.std.proofs.Common.{◌≡◌, ◌++◌, length, take}
-use Rattle.std.specs.List.{flat_map}
+use Rattle.px_num.proofs.Basics.{◌≡◌, ◌++◌, length, take, flat_map}
 use Rattle.px_model.specs.Scenes.{names_of}
 use Rattle.px_answers.specs.Plans.{kept_line, product_line}
 use Rattle.px_answers.proofs.plan.plan_text.Given as goal

@@ -1,4 +1,4 @@
-use Rattle.std.proofs.Common.{◌≡◌, ◌++◌, take}
+use Rattle.px_num.proofs.Basics.{◌≡◌, ◌++◌, take}
 use Rattle.px_model.specs.Scenes.{names_of}
 use Rattle.px_answers.specs.Plans.{signed}
 use Rattle.px_answers.proofs.plan.push_signed.Given as goal

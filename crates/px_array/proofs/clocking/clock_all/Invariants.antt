@@ -1,4 +1,4 @@
-use Rattle.std.proofs.Common.{◌≡◌, ◌+◌, drop}
+use Rattle.px_num.proofs.Basics.{◌≡◌, ◌+◌, drop}
 use Rattle.px_array.specs.Arrays.{IsOpen}
 use Rattle.px_array.specs.Clocks.{all_clocked}
 use Rattle.px_array.specs.Slots.{worked}

@@ -1,4 +1,4 @@
-use Rattle.std.proofs.Common.{◌≡◌, ◌^◌, ◌+◌, length, slice_index_or, arith, ◌∙◌}
+use Rattle.px_num.proofs.Basics.{◌≡◌, ◌^◌, ◌+◌, length, slice_index_or, arith, ◌∙◌}
 use Rattle.px_num.proofs.ListLaws.{is_tabulate}
 use Rattle.px_pixel.specs.Acts.{after_act}
 use Rattle.px_tree.specs.Nodes.{leaf_output}

@@ -1,5 +1,4 @@
-use Rattle.std.proofs.Common.{◌≡◌, ◌+◌, ◌-◌}
-use Rattle.std.specs.List.{between}
+use Rattle.px_num.proofs.Basics.{◌≡◌, ◌+◌, ◌-◌, between}
 use Rattle.px_array.specs.Clocks.{all_clocked}
 use Rattle.px_array.specs.Slots.{worked}
 use Rattle.px_asm.specs.Making.{micros_on}

@@ -1,4 +1,4 @@
-use Rattle.std.proofs.Common.{◌≡◌, ◌+◌, ◌^◌, ◌<◌}
+use Rattle.px_num.proofs.Basics.{◌≡◌, ◌+◌, ◌^◌, ◌<◌}
 use Rattle.px_num.specs.Bits.{bit_at}
 use Rattle.px_array.specs.Arrays.{pixel_of}
 use Rattle.px_macro.specs.Fields.{number_from_bits}

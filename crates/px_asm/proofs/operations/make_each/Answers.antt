@@ -1,6 +1,6 @@
-use Rattle.std.proofs.Common.{◌∙◌, get_or, arith}
-use Rattle.px_macro.specs.declared.operation.Macro.TheVariants as m
+use Rattle.px_num.proofs.Basics.{◌∙◌, get_or, arith}
 use Rattle.px_asm.proofs.OperationsLemmas.{clocked_more, few_here, own_grid, sized}
+use Rattle.px_macro.specs.declared.operation.Macro.TheVariants as m
 use Rattle.px_asm.proofs.operations.make_each.Goals as goal
 
 pub make_operation-requires-clause-grid : goal.make_operation-requires-clause-grid

@@ -1,6 +1,6 @@
-use Rattle.std.proofs.Common.{◌∙◌, arith}
-use Rattle.px_macro.specs.declared.operation.Macro.TheVariants as m
+use Rattle.px_num.proofs.Basics.{◌∙◌, arith}
 use Rattle.px_asm.proofs.OperationsLemmas.{nearly_more}
+use Rattle.px_macro.specs.declared.operation.Macro.TheVariants as m
 use Rattle.px_asm.proofs.operations.operate_each.Goals as goal
 
 pub loop-m-preserved : goal.loop-m-preserved

@@ -1,4 +1,4 @@
-use Rattle.std.proofs.Common.{◌≡◌, ◌-◌, ◌≤◌, take}
+use Rattle.px_num.proofs.Basics.{◌≡◌, ◌-◌, ◌≤◌, take}
 use Rattle.px_array.specs.Slots.{worked}
 use Rattle.px_asm.specs.AtOnce.{IsNearly}
 use Rattle.px_asm.proofs.operations.operate_each.Given as goal

@@ -1,4 +1,4 @@
-use Rattle.std.proofs.Common.{sym, ◌∙◌}
+use Rattle.px_num.proofs.Basics.{sym, ◌∙◌}
 use Rattle.px_c.proofs.clocks.pxplanes_clocks.Goals as goal
 
 pub returns-clause-words : goal.returns-clause-words

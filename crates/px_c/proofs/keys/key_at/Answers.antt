@@ -1,4 +1,4 @@
-use Rattle.std.proofs.Common.{◌/◌, ◌%◌, ◌<◌, arith}
+use Rattle.px_num.proofs.Basics.{◌/◌, ◌%◌, ◌<◌, arith}
 use Rattle.px_control.specs.Program.{total}
 use Rattle.px_c.proofs.BufferLemmas.{column_below, row_below}
 use Rattle.px_c.proofs.keys.key_at.Goals as goal

@@ -1,4 +1,4 @@
-use Rattle.std.proofs.Common.{◌≡◌, ℕ, ◌*◌, ◌<◌, ◌≤◌, ◌/◌, ◌%◌, get_or}
+use Rattle.px_num.proofs.Basics.{◌≡◌, ℕ, ◌*◌, ◌<◌, ◌≤◌, ◌/◌, ◌%◌, get_or}
 use Rattle.px_frame.specs.Picture.{colour_at}
 use Rattle.px_c.specs.Buffers.{HasColour}
 use Rattle.px_c.proofs.keys.write_colours.Given as goal

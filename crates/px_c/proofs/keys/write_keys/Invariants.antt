@@ -1,4 +1,4 @@
-use Rattle.std.proofs.Common.{◌≡◌, ℕ, ◌<◌, ◌≤◌, ◌/◌, ◌%◌, get_or}
+use Rattle.px_num.proofs.Basics.{◌≡◌, ℕ, ◌<◌, ◌≤◌, ◌/◌, ◌%◌, get_or}
 use Rattle.px_frame.specs.Picture.{depth_at, face_at}
 use Rattle.px_c.proofs.keys.write_keys.Given as goal
 

@@ -1,4 +1,4 @@
-use Rattle.std.proofs.Common.{◌≡◌, take}
+use Rattle.px_num.proofs.Basics.{◌≡◌, take}
 use Rattle.px_c.specs.Literals.{all_literals}
 use Rattle.px_c.proofs.products.all_literals.Given as goal
 

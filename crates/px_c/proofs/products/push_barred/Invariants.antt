@@ -1,4 +1,4 @@
-use Rattle.std.proofs.Common.{◌≡◌, ◌++◌, map, take}
+use Rattle.px_num.proofs.Basics.{◌≡◌, ◌++◌, map, take}
 use Rattle.px_c.specs.Literals.{barred_literal}
 use Rattle.px_c.proofs.products.push_barred.Given as goal
 

@@ -1,5 +1,4 @@
-use Rattle.std.proofs.Common.{◌≡◌, ◌++◌, ◌+◌}
-use Rattle.std.specs.List.{flat_map, range_with_len}
+use Rattle.px_num.proofs.Basics.{◌≡◌, ◌++◌, ◌+◌, flat_map, range_with_len}
 use Rattle.px_canonical.specs.Canonical.{lines_of_number}
 use Rattle.px_canonical.proofs.write.put_faces.Given as goal
 

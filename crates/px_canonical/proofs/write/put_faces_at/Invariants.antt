@@ -1,4 +1,4 @@
-use Rattle.std.proofs.Common.{◌≡◌, ◌++◌, take}
+use Rattle.px_num.proofs.Basics.{◌≡◌, ◌++◌, take}
 use Rattle.px_canonical.specs.Canonical.{face_lines_at}
 use Rattle.px_canonical.proofs.write.put_faces_at.Given as goal
 

@@ -1,5 +1,4 @@
-use Rattle.std.proofs.Common.{◌≡◌, ◌++◌, take}
-use Rattle.std.specs.List.{flat_map}
+use Rattle.px_num.proofs.Basics.{◌≡◌, ◌++◌, take, flat_map}
 use Rattle.px_canonical.specs.Canonical.{side_line}
 use Rattle.px_canonical.proofs.write.put_sides.Given as goal
 

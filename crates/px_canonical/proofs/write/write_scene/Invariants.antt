@@ -1,5 +1,4 @@
-use Rattle.std.proofs.Common.{◌≡◌, ◌++◌, take}
-use Rattle.std.specs.List.{All, flat_map}
+use Rattle.px_num.proofs.Basics.{◌≡◌, ◌++◌, take, All, flat_map}
 use Rattle.px_model.specs.Scenes.{IsLawfulSolid}
 use Rattle.px_canonical.specs.Canonical.{first_lines, solid_lines}
 use Rattle.px_canonical.proofs.write.write_scene.Given as goal

@@ -1,4 +1,4 @@
-use Rattle.std.proofs.Common.{◌∙◌, sym}
+use Rattle.px_num.proofs.Basics.{arith, ◌∙◌, sym}
 use Rattle.px_normal.specs.Forms.{sum_of_products}
 use Rattle.px_sched.specs.Passes.{passes}
 use Rattle.px_sched.proofs.DrawnLaws.{kept_drawn}
@@ -7,15 +7,8 @@ use Rattle.px_control.specs.declared.measure.Measure.TheVariants.{Clocks, Operat
 use Rattle.px_control.proofs.CostLemmas.{passes_come_to, total_is}
 use Rattle.px_control.proofs.total.cost.Goals as goal
 
-pub products_cost-requires-clause-few : goal.products_cost-requires-clause-few
-products_cost-requires-clause-few c = rw (c.as_slice.ensures.value, c.requires.products) c.requires.few
-
 pub products_cost-requires-clause-known : goal.products_cost-requires-clause-known
-products_cost-requires-clause-known c =
-    let forms = c.laws_of_normal_forms.ensures in
-    let pruning = c.laws_of_pruning.ensures in
-    kept_drawn pruning.plain pruning.known forms.plain forms.known c.args.scene.now c.laws_of_scenes.ensures.scene
-    c.as_slice.result.now (c.as_slice.ensures.value ∙ c.requires.products)
+products_cost-requires-clause-known c = grind (arith, kept_drawn)
 
 pub returns-clause-macros : goal.returns-clause-macros
 returns-clause-macros c =

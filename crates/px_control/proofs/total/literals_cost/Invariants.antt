@@ -1,5 +1,4 @@
-use Rattle.std.proofs.Common.{◌≡◌, ℕ, List, ◌*◌, ◌^◌, ◌≤◌, take}
-use Rattle.std.specs.List.{sum_by}
+use Rattle.px_num.proofs.Basics.{◌≡◌, ℕ, List, ◌*◌, ◌^◌, ◌≤◌, take, sum_by}
 use Rattle.px_sched.specs.declared.literal.Literal.{Literal}
 use Rattle.px_sched.specs.Worths.{share_worth}
 use Rattle.px_control.specs.Costs.{rated}

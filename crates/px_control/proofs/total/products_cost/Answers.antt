@@ -1,5 +1,4 @@
-use Rattle.std.proofs.Common.{◌≡◌, ℕ, ◌+◌, ◌<◌, ◌≤◌, ◌^◌, ◌∙◌, List, length, get_or, ap, arith}
-use Rattle.std.proofs.lemmas.List.Sums.{sum_by_more}
+use Rattle.px_num.proofs.Basics.{◌≡◌, ℕ, ◌+◌, ◌<◌, ◌≤◌, ◌^◌, ◌∙◌, List, length, get_or, arith, sum_by_more}
 use Rattle.px_normal.specs.declared.product.Product.{Product}
 use Rattle.px_model.specs.Scenes.{SceneView}
 use Rattle.px_sched.specs.declared.literal.Literal.{Literal}
@@ -16,16 +15,7 @@ more : (cost added : ℕ) (rates : Rates) (scene : SceneView) (products : List P
     → i < length products → AreCounted cost rates scene products i → qs ≡ literals (get_or products i no_product)
     → added ≡ shares_worth (rated rates scene) scene qs → added ≤ 2 ^ 39
     → AreCounted (cost + added) rates scene products (i + 1)
-more cost added rates scene products i qs there before same is few = record {
-  counted = omega (
-    arith,
-    before.counted,
-    is,
-    ap (shares_worth (rated rates scene) scene) same,
-    sum_by_more (λ product. shares_worth (rated rates scene) scene (literals product)) products i no_product there,
-  );
-  few = omega (arith, before.few, few);
-}
+more cost added rates scene products i qs there before same is few = grind (arith, sum_by_more)
 
 pub loop-product-preserved : goal.loop-product-preserved
 loop-product-preserved c =

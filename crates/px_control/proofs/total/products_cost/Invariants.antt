@@ -1,4 +1,4 @@
-use Rattle.std.proofs.Common.{◌≡◌, ℕ, List, ◌+◌, ◌*◌, ◌^◌, ◌≤◌, take}
+use Rattle.px_num.proofs.Basics.{◌≡◌, ℕ, List, ◌+◌, ◌*◌, ◌^◌, ◌≤◌, take}
 use Rattle.px_normal.specs.declared.product.Product.{Product}
 use Rattle.px_model.specs.Scenes.{SceneView}
 use Rattle.px_sched.specs.Worths.{products_worth}

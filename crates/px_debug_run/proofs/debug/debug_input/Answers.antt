@@ -1,36 +1,37 @@
-use Rattle.std.proofs.Common.{◌≡◌, ◌-◌, Err, arith, length, refl, rules}
+use Rattle.px_num.proofs.Basics.{◌≡◌, ◌-◌, Err, ap, arith, length, refl, err_from_is_err_and}
 use Rattle.px_io.proofs.ToldLaws.{stays}
 use Rattle.px_outcome.proofs.RunLaws.{still}
 use Rattle.px_debug_run.proofs.AskingLemmas.{answers_listened, answers_served, answers_unread}
-use Rattle.px_debug_run.proofs.ServedLemmas.{begins, causes_behind, performs_empty, performs_served}
-use Rattle.px_debug_run.proofs.ServedLemmas.{served_causes, took_served}
+use Rattle.px_debug_run.proofs.ServedLemmas.{begins, causes_behind, performs_empty, performs_served, served_causes}
+use Rattle.px_debug_run.proofs.ServedLemmas.{took_served}
 use Rattle.px_debug_run.proofs.StopLemmas.{is_scene_in, performs_long, performs_open, performs_scene, performs_text}
 use Rattle.px_debug_run.proofs.debug.debug_input.Goals as goal
 
 pub returns-in_err-opening-clause-performs : goal.returns-in_err-opening-clause-performs
 returns-in_err-opening-clause-performs g c =
-    let is : c.from_residual.result ≡ Err c.in_err-opening.field-0.0 = search rules in
-    performs_open _ _ _ _ _ is c.in_err-opening.ensures.err c.in_err-opening.ensures.most (still _ _ refl refl)
+    let p = err_from_is_err_and c.from_residual.result c.from_residual.ensures.1 in
+    rw (p.1, p.2) (performs_open _ _ _ _ (λ is. c.in_err-opening.ensures.failed (ap Err is))
+    c.in_err-opening.ensures.most (still _ _ refl refl))
 
 pub returns-in_err-part-clause-performs : goal.returns-in_err-part-clause-performs
 returns-in_err-part-clause-performs g c =
-    let is : c.from_residual-in_err-part.result ≡ Err c.in_err-part.field-0.0 = search rules in
-    performs_long _ _ _ c.in_ok-opening.opening _ _ is c.in_ok-opening.ensures.opens c.in_err-part.ensures.err
-    (still _ _ refl refl)
+    let p = err_from_is_err_and c.from_residual-in_err-part.result c.from_residual-in_err-part.ensures.1 in
+    rw (p.1, p.2) (performs_long _ _ c.in_ok-opening.opening _ _ c.in_ok-opening.ensures.opens
+    c.in_err-part.ensures.err (still _ _ refl refl))
 
 pub returns-in_err-scene-clause-performs : goal.returns-in_err-scene-clause-performs
 returns-in_err-scene-clause-performs g c =
-    let is : c.from_residual-in_err-scene.result ≡ Err c.in_err-scene.field-0.0 = search rules in
-    performs_text _ _ _ c.in_ok-opening.opening _ _ _ _ is c.in_ok-opening.ensures.opens c.in_ok-part.ensures.ok
-    c.in_err-scene.ensures.err (still _ _ refl refl)
+    let p = err_from_is_err_and c.from_residual-in_err-scene.result c.from_residual-in_err-scene.ensures.1 in
+    rw (p.1, p.2) (performs_text _ _ c.in_ok-opening.opening _ _ _ _ c.in_ok-opening.ensures.opens
+    c.in_ok-part.ensures.ok c.in_err-scene.ensures.err (still _ _ refl refl))
 
 pub returns-in_err-session-clause-performs : goal.returns-in_err-session-clause-performs
 returns-in_err-session-clause-performs g c =
-    let is : c.from_residual-in_err-session.result ≡ Err c.in_err-session.field-0.0 = search rules in
+    let p = err_from_is_err_and c.from_residual-in_err-session.result c.from_residual-in_err-session.ensures.1 in
     let parts = c.in_ok-part.ensures.ok in
-    performs_scene _ _ _ c.in_ok-opening.opening _ _ _ _ _ is c.in_ok-opening.ensures.opens parts
+    rw (p.1, p.2) (performs_scene _ _ c.in_ok-opening.opening _ _ _ _ _ c.in_ok-opening.ensures.opens parts
     (is_scene_in _ _ _ _ parts c.in_ok-scene.ensures.ok) c.in_err-session.ensures.err c.in_err-session.ensures.array
-    (stays _)
+    (stays _))
 
 pub returns-in-Some-clause-performs : goal.returns-in-Some-clause-performs
 returns-in-Some-clause-performs g c =

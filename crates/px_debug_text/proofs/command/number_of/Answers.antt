@@ -1,4 +1,4 @@
-use Rattle.std.proofs.Common.{◌<◌, ◌^◌, IfSome, subst, sym}
+use Rattle.px_num.proofs.Basics.{◌<◌, ◌^◌, IfSome, subst, sym}
 use Rattle.px_text.proofs.LineLaws.{size_low}
 use Rattle.px_debug_text.proofs.command.number_of.Goals as goal
 

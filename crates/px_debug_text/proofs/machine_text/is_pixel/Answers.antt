@@ -1,5 +1,4 @@
-use Rattle.std.proofs.Common.{◌<◌, ◌^◌, ap, arith}
-use Rattle.std.proofs.lemmas.Bool.Decides.{nat_tests}
+use Rattle.px_num.proofs.Basics.{◌<◌, ◌^◌, ap, arith, nat_tests}
 use Rattle.px_debug_text.proofs.GridLemmas.{below_power}
 use Rattle.px_debug_text.proofs.machine_text.is_pixel.Goals as goal
 

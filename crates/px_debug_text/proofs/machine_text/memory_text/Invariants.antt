@@ -1,4 +1,4 @@
-use Rattle.std.proofs.Common.{◌≡◌, map, take}
+use Rattle.px_num.proofs.Basics.{◌≡◌, map, take}
 use Rattle.px_array.specs.Arrays.{pixel_of}
 use Rattle.px_debug_text.specs.Lines.{digit}
 use Rattle.px_debug_text.proofs.machine_text.memory_text.Given as goal

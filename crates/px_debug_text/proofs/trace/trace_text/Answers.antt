@@ -1,4 +1,4 @@
-use Rattle.std.proofs.Common.{◌+◌, ◌-◌, ◌++◌, ◌∙◌, ap, arith, length, sym, take}
+use Rattle.px_num.proofs.Basics.{◌+◌, ◌-◌, ◌++◌, ◌∙◌, ap, arith, length, sym, take}
 use Rattle.px_debug_text.specs.Lines.{trace_line, trace_lines}
 use Rattle.px_debug_text.proofs.TraceLineLemmas.{line_more}
 use Rattle.px_debug_text.proofs.trace.trace_text.Goals as goal

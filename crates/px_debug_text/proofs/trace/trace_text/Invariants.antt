@@ -1,4 +1,4 @@
-use Rattle.std.proofs.Common.{◌≡◌, ◌-◌, ◌*◌, ◌≤◌, length, take}
+use Rattle.px_num.proofs.Basics.{◌≡◌, ◌-◌, ◌*◌, ◌≤◌, length, take}
 use Rattle.px_debug_text.specs.Lines.{trace_lines}
 use Rattle.px_debug_text.proofs.trace.trace_text.Given as goal
 

@@ -1,8 +1,8 @@
 use Rattle.px_io.proofs.ToldLaws.{front_after, front_before, on_err}
-use Rattle.px_frame.specs.declared.plane.Plane.TheVariants as plane
 use Rattle.px_deliver.specs.Images.{images}
-use Rattle.std.proofs.Common.{◌+◌, take, drop}
+use Rattle.px_num.proofs.Basics.{◌+◌, take, drop}
 use Rattle.px_deliver.proofs.ImageLemmas.{images_at}
+use Rattle.px_frame.specs.declared.plane.Plane.TheVariants as plane
 use Rattle.px_deliver.proofs.drawing.write_images.Goals as goal
 
 pub returns-in_err-write_image-clause-err : goal.returns-in_err-write_image-clause-err

@@ -1,4 +1,4 @@
-use Rattle.std.proofs.Common.{Err, ap}
+use Rattle.px_num.proofs.Basics.{arith}
 use Rattle.px_deliver.proofs.RefusalLemmas.{refuses, accepts}
 use Rattle.px_deliver.proofs.opening.open_job.Goals as goal
 
@@ -6,6 +6,4 @@ pub returns-in-Ok-clause-ok : goal.returns-in-Ok-clause-ok
 returns-in-Ok-clause-ok g c = accepts g.A.Array.BITS c.args.scene.now c.in-Ok.ensures.at.enough c.in-Ok.ensures.lawful
 
 pub returns-in-Err-clause-err : goal.returns-in-Err-clause-err
-returns-in-Err-clause-err g c =
-    refuses c.in-Err.fault g.A.Array.BITS c.args.scene.now
-    (λ need is. c.in-Err.ensures.need need (ap Err is)) (λ count is. c.in-Err.ensures.many count (ap Err is))
+returns-in-Err-clause-err g c = grind (arith, refuses)

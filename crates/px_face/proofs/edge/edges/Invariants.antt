@@ -1,4 +1,4 @@
-use Rattle.std.proofs.Common.{◌≡◌, All, take}
+use Rattle.px_num.proofs.Basics.{◌≡◌, All, take}
 use Rattle.arrayvec.specs.ArrayVec.{array_vec_len}
 use Rattle.px_num.specs.Forms.{IsInTreeRange}
 use Rattle.px_face.specs.Edges.{edges}

@@ -1,24 +1,35 @@
-use Rattle.std.proofs.Common.{◌≡◌, suc, arith, ◌+◌, ◌^◌, ◌/◌, ◌%◌, ◌∙◌, ap, if◌then◌else◌, subst, ◌<◌, sym}
+use Rattle.px_num.proofs.Basics.{◌≡◌, suc, arith, ◌+◌, ◌^◌, ◌/◌, ◌%◌, ◌∙◌, ap, get_or, if◌then◌else◌, subst, ◌<◌, sym}
 use Rattle.px_array.specs.Words.{memory_bit}
 use Rattle.px_macro.specs.Fields.{number_from_bits}
 use Rattle.px_num.specs.Bits.{nat_bit}
+use Rattle.px_tree.proofs.PlaceLaws.{power_next}
+use Rattle.px_num.proofs.TruthLaws.{power_grows}
 use Rattle.px_frame.proofs.StripLemmas.{moved_bit, small_more}
 use Rattle.px_frame.proofs.strip.eight_numbers.Goals as goal
+
+pub add_bits-requires-clause-few : goal.add_bits-requires-clause-few
+add_bits-requires-clause-few g c = omega (arith, c.loop-t.invariant.value, power_grows c.loop-t.t 23 (omega arith))
+
+pub overflow_mul-value : goal.overflow_mul-value
+overflow_mul-value g c = omega (arith, c.loop-t.invariant.value, power_grows c.loop-t.t 23 (omega arith))
 
 pub loop-t-preserved : goal.loop-t-preserved
 loop-t-preserved g c =
     let state = (g.A.Array.device c.args.array.now).state in
     let t = c.loop-t.t in
     let place = c.args.place in
-    let bits = c.word-word.result / 2 ^ (place % 64) in
+    let bits = c.word-word.result / 2 ^ (place % 64) % 256 in
+    let counts = c.loop-t.invariant.value in
     let next : suc t ≡ t + 1 = omega arith in
     record {
       numbers = λ j low within. c.add_bits.ensures j low
+          ∙ ap (λ v. get_or c.loop-t.numbers j 0 + (if nat_bit bits j then v else 0)) counts
           ∙ (ap (λ n. n + (if nat_bit bits j then 2 ^ t else 0)) (c.loop-t.invariant.numbers j low within)
           ∙ ap (λ b. number_from_bits (λ s. memory_bit state (c.args.field.at + s) (place + j)) t
           + (if b then 2 ^ t else 0))
-          (moved_bit state (c.args.field.at + t) place c.word-word.result j c.word-word.ensures within)
+          (moved_bit state (c.args.field.at + t) place c.word-word.result j c.word-word.ensures low within)
           ∙ ap (number_from_bits (λ s. memory_bit state (c.args.field.at + s) (place + j))) next);
-      small = λ j low. subst (λ n. n < 2 ^ (t + 1)) (sym (c.add_bits.ensures j low))
+      small = λ j low. subst (λ n. n < 2 ^ (t + 1)) (sym (rw counts at c.add_bits.ensures j low))
           (small_more (nat_bit bits j) _ t (c.loop-t.invariant.small j low));
+      value = omega (arith, counts, power_next t);
     }

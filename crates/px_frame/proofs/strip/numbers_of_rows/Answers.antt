@@ -1,4 +1,4 @@
-use Rattle.std.proofs.Common.{◌≡◌, ◌+◌, ◌*◌, ◌^◌, ◌<◌, length, arith}
+use Rattle.px_num.proofs.Basics.{◌≡◌, ◌+◌, ◌*◌, ◌^◌, ◌<◌, length, arith}
 use Rattle.px_frame.proofs.StripLemmas.{columns_more}
 use Rattle.px_frame.proofs.strip.numbers_of_rows.Goals as goal
 

@@ -1,5 +1,4 @@
-use Rattle.std.proofs.Common.{◌-◌, ◌≡◌, ◌≤◌, vec_len}
-use Rattle.std.specs.Io.KnownBytes.{Consumes}
+use Rattle.px_num.proofs.Basics.{◌-◌, ◌≡◌, ◌≤◌, vec_len, Consumes}
 use Rattle.px_io.proofs.reading.read_whole.Given as goal
 
 abbrev pub invariant-loop-piece : goal.invariant-loop-piece

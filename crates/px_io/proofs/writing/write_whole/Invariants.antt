@@ -1,5 +1,4 @@
-use Rattle.std.proofs.Common.{length, ◌-◌, ◌≡◌, ◌≤◌, take}
-use Rattle.std.specs.Io.KnownBytes.{Appends}
+use Rattle.px_num.proofs.Basics.{length, ◌-◌, ◌≡◌, ◌≤◌, take, Appends}
 use Rattle.px_io.specs.Told.{Reopens}
 use Rattle.px_io.proofs.writing.write_whole.Given as goal
 

@@ -1,6 +1,4 @@
-use Rattle.std.proofs.Common.{◌≡◌, ◌≢◌, ◌∙◌, ℕ, ◌+◌, ◌*◌, ◌/◌, ◌%◌, ◌<◌, ap, arith, inl, inr}
-use Rattle.std.proofs.lemmas.Bool.{cases_lt}
-use Rattle.px_num.specs.Bits.{nat_bit}
+use Rattle.px_num.proofs.Basics.{◌≡◌, ◌∙◌, ◌+◌, ◌*◌, ◌/◌, ◌%◌, ◌<◌, arith, inl, inr, cases_lt}
 use Rattle.px_lanes.proofs.blocks.block_values.Goals as goal
 
 pub loop-k-preserved : goal.loop-k-preserved
@@ -11,9 +9,7 @@ loop-k-preserved c =
     record {
       done = λ t p low within before. elim (cases_lt (p / 64) k) [
         | inl done ↦
-            let other : p / 64 ≢ k = omega arith in
-            ap (λ (n : ℕ). nat_bit n (p % 64)) (put.beside t (p / 64) (omega (arith, low, i.whole)) other)
-            ∙ i.done t p low within done
+            grind arith
         | inr past ↦
             let here : p / 64 ≡ k = omega arith in
             let small : p % 64 < 64 = omega arith in
@@ -22,10 +18,3 @@ loop-k-preserved c =
       ];
       whole = c.put_word_values.ensures.words ∙ i.whole;
     }
-
-pub returns-clause-value : goal.returns-clause-value
-returns-clause-value c = record {
-  each = λ t p low within.
-      let first : 512 * 0 + p ≡ p = omega arith in
-      rw first (c.loop-k.invariant.done t p low within (omega arith));
-}

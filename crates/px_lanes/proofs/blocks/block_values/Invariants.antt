@@ -1,12 +1,11 @@
-use Rattle.std.proofs.Common.{◌≡◌, ℕ, ◌<◌, ◌/◌, ◌%◌, ◌^◌, [], length, get_or}
+use Rattle.px_num.proofs.Basics.{◌≡◌, ℕ, ◌<◌, ◌/◌, ◌%◌, ◌^◌, [], length, get_or}
 use Rattle.px_num.specs.Bits.{bit_of, nat_bit}
 use Rattle.px_num.specs.Forms.{value_at}
 use Rattle.px_lanes.proofs.blocks.block_values.Given as goal
 
 abbrev pub invariant-loop-k : goal.invariant-loop-k
 invariant-loop-k l = record {
-  done : (t p : ℕ) → t < length l.fn.words → p < 512 → p / 64 < l.k
-      → nat_bit (get_or (get_or l.words t []) (p / 64) 0) (p % 64)
-      ≡ bit_of (value_at l.form (p / 2 ^ l.ny) (p % 2 ^ l.ny)) t;
+  done : (t p : ℕ) → t < length l.fn.words → p < 512 → p / 64 < l.k → nat_bit (get_or (get_or l.words t []) (p / 64) 0)
+      (p % 64) ≡ bit_of (value_at l.form (p / 2 ^ l.ny) (p % 2 ^ l.ny)) t;
   whole : length l.words ≡ length l.fn.words;
 }

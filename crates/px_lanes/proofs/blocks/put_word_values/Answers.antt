@@ -1,5 +1,4 @@
-use Rattle.std.proofs.Common.{◌+◌, ◌^◌, ◌≤◌, arith}
-use Rattle.std.proofs.Math.Nat.{pow-le-pow_right}
+use Rattle.px_num.proofs.Basics.{◌+◌, ◌^◌, ◌≤◌, arith, pow-le-pow_right}
 use Rattle.px_lanes.proofs.blocks.put_word_values.Goals as goal
 
 pub word_values-requires-clause-word : goal.word_values-requires-clause-word

@@ -1,4 +1,4 @@
-use Rattle.std.proofs.Common.{◌≡◌, ◌≢◌, ℕ, ◌<◌, ◌≤◌, [], length, get_or}
+use Rattle.px_num.proofs.Basics.{◌≡◌, ◌≢◌, ℕ, ◌<◌, ◌≤◌, [], length, get_or}
 use Rattle.px_lanes.proofs.blocks.put_words.Given as goal
 
 abbrev pub invariant-loop-t : goal.invariant-loop-t

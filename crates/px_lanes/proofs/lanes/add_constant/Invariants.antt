@@ -1,4 +1,4 @@
-use Rattle.std.proofs.Common.{◌≡◌, ℕ, ℤ, pos, ◌+ℤ◌, ◌<◌, ◌≤◌, false, if◌then◌else◌, get_or, length}
+use Rattle.px_num.proofs.Basics.{◌≡◌, ℕ, ℤ, pos, ◌+ℤ◌, ◌<◌, ◌≤◌, false, if◌then◌else◌, get_or, length}
 use Rattle.px_num.specs.Bits.{bit_of, carry_from, nat_bit}
 use Rattle.px_lanes.specs.Lanes.{HasValue}
 use Rattle.px_lanes.proofs.lanes.add_constant.Given as goal

@@ -1,4 +1,4 @@
-use Rattle.std.proofs.Common.{◌≡◌, ◌∙◌, Bool, true, false, not, refl}
+use Rattle.px_num.proofs.Basics.{◌≡◌, ◌∙◌, Bool, true, false, not, refl}
 use Rattle.px_num.specs.Bits.{nat_bit, xor}
 use Rattle.px_rows.proofs.BitLaws.{bit-xor}
 use Rattle.px_rows.proofs.WordLemmas.{all_ones}

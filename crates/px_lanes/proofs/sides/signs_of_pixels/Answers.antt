@@ -1,8 +1,5 @@
-use Rattle.std.proofs.Common.{◌≡◌, ◌≢◌, ◌+ℤ◌, ◌||◌, ℤ, pos, ap, ◌∙◌, arith, inl, inr, w64, to_z, of_z}
-use Rattle.std.specs.Int.{is_negative}
-use Rattle.std.specs.Int.Signed.{lt_z}
-use Rattle.std.proofs.lemmas.Bool.{cases_eq}
-use Rattle.std.proofs.lemmas.Int.{ints}
+use Rattle.px_num.proofs.Basics.{◌≡◌, ◌+ℤ◌, ◌||◌, ℤ, pos, ap, ◌∙◌, arith, inl, inr, w64, to_z, of_z, is_negative, lt_z}
+use Rattle.px_num.proofs.Basics.{cases_eq, ints}
 use Rattle.px_num.proofs.TruthLaws.{or_false}
 use Rattle.px_lanes.proofs.SignLemmas.{of_sum}
 use Rattle.px_lanes.proofs.sides.signs_of_pixels.Goals as goal
@@ -24,7 +21,5 @@ loop-j-preserved c =
         | inl same ↦ rw same bit
         | inr other ↦ c.with_bit-word.ensures.beside k other ∙ i.done k (omega (arith, less, other))
       ];
-      rest = λ k more.
-          let other : k ≢ j = omega (arith, more) in
-          c.with_bit-word.ensures.beside k other ∙ i.rest k (omega (arith, more));
+      rest = grind arith;
     }

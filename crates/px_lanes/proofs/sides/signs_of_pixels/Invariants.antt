@@ -1,5 +1,4 @@
-use Rattle.std.proofs.Common.{◌≡◌, ℕ, ◌<◌, ◌≤◌, ◌+ℤ◌, false}
-use Rattle.std.specs.Int.{is_negative}
+use Rattle.px_num.proofs.Basics.{◌≡◌, ℕ, ◌<◌, ◌≤◌, ◌+ℤ◌, false, is_negative}
 use Rattle.px_num.specs.Bits.{nat_bit}
 use Rattle.px_lanes.specs.Lanes.{offset}
 use Rattle.px_lanes.proofs.sides.signs_of_pixels.Given as goal

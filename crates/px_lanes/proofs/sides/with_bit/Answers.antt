@@ -1,5 +1,4 @@
-use Rattle.std.proofs.Common.{◌==◌, ap, w64}
-use Rattle.std.proofs.lemmas.Nat.Bits.{bit_at_set_other, bit_at_set_same}
+use Rattle.px_num.proofs.Basics.{◌==◌, ap, w64, bit_at_set_other, bit_at_set_same}
 use Rattle.px_lanes.proofs.sides.with_bit.Goals as goal
 
 pub returns-then-v : goal.returns-then-v

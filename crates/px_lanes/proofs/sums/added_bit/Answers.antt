@@ -1,15 +1,10 @@
-use Rattle.std.proofs.Common.{◌≡◌, ◌∙◌, suc, ◌+◌, ◌+ℤ◌, refl, arith, bit_xor}
+use Rattle.px_num.proofs.Basics.{◌≡◌, suc, ◌+◌, ◌+ℤ◌, arith, bit_xor}
 use Rattle.px_num.specs.Bits.{bit_of, nat_bit}
 use Rattle.px_lanes.proofs.LaneLemmas.{sum_in_lane}
 use Rattle.px_lanes.proofs.sums.added_bit.Goals as goal
 
 pub returns-clause-bit : goal.returns-clause-bit
-returns-clause-bit c j t u v n small first second third held =
-    let carries = c.args.carries.now in
-    let both : nat_bit (bit_xor (bit_xor c.args.a c.args.b) carries.first) j ≡ bit_of (u +ℤ v) t =
-    sum_in_lane c.args.a c.args.b carries.first j t u v first second held.first in
-    sum_in_lane (bit_xor (bit_xor c.args.a c.args.b) carries.first) c.args.c carries.second j t (u +ℤ v) n both third
-    held.second
+returns-clause-bit c j t u v n small first second third held = grind (arith, bit_xor, sum_in_lane)
 
 pub returns-clause-carries : goal.returns-clause-carries
 returns-clause-carries c j t u v n small first second third held =
@@ -17,7 +12,4 @@ returns-clause-carries c j t u v n small first second third held =
     let next : t + 1 ≡ suc t = omega arith in
     let both : nat_bit (bit_xor (bit_xor c.args.a c.args.b) carries.first) j ≡ bit_of (u +ℤ v) t =
     sum_in_lane c.args.a c.args.b carries.first j t u v first second held.first in
-    record {
-      first = c.majority_word-carries.ensures j small ∙ rw (next, first, second, held.first) refl;
-      second = c.majority_word-carries-2.ensures j small ∙ rw (next, both, third, held.second) refl;
-    }
+    grind arith

@@ -1,5 +1,4 @@
-use Rattle.std.proofs.Common.{◌≡◌, w64, to_z, of_z}
-use Rattle.std.proofs.lemmas.Int.{to_z-of_z}
+use Rattle.px_num.proofs.Basics.{◌≡◌, w64, to_z, of_z, to_z-of_z}
 use Rattle.px_rows.proofs.WordLemmas.{all_ones}
 use Rattle.px_lanes.proofs.values.add_base.Goals as goal
 

@@ -1,5 +1,4 @@
-use Rattle.std.proofs.Common.{◌≡◌, refl, arith}
-use Rattle.std.proofs.lemmas.Bool.{agree_below_at}
+use Rattle.px_num.proofs.Basics.{◌≡◌, refl, arith, agree_below_at}
 use Rattle.px_num.specs.Bits.{nat_bit}
 use Rattle.px_lanes.proofs.values.lane_mask.Goals as goal
 

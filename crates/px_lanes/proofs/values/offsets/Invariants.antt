@@ -1,4 +1,4 @@
-use Rattle.std.proofs.Common.{◌≡◌, ℕ, ◌<◌, ◌%◌, ◌^◌, length}
+use Rattle.px_num.proofs.Basics.{◌≡◌, ℕ, ◌<◌, ◌%◌, ◌^◌, length}
 use Rattle.px_lanes.specs.Lanes.{HasValue, offset}
 use Rattle.px_lanes.proofs.values.offsets.Given as goal
 

@@ -1,11 +1,9 @@
-use Rattle.std.proofs.Common.{◌≡◌, ◌∙◌, ℕ, ◌+◌, ◌*◌, ◌%◌, ◌^◌, ◌<◌, ◌≤◌, ℤ, pos, ◌+ℤ◌, ◌≤ℤ◌, Bool, true, false}
-use Rattle.std.proofs.Common.{if◌then◌else◌, ap, arith, w64, to_z, of_z, rules}
-use Rattle.std.proofs.Math.Nat.{mod-eq_of_lt}
-use Rattle.std.proofs.lemmas.Int.{clamps, ints, to_z-of_z}
+use Rattle.px_num.proofs.Basics.{◌≡◌, ◌∙◌, ℕ, ◌+◌, ◌*◌, ◌%◌, ◌^◌, ◌<◌, ◌≤◌, ℤ, pos, ◌+ℤ◌, ◌≤ℤ◌, Bool, true, false}
+use Rattle.px_num.proofs.Basics.{if◌then◌else◌, ap, arith, w64, to_z, of_z, rules, mod-eq_of_lt, ints, to_z-of_z}
+use Rattle.px_num.proofs.Basics.{pow_below, int_max, int_min}
+use Rattle.std.proofs.lemmas.Int.{clamps}
 use mir.Val.{SFits}
 use Rattle.px_num.specs.Forms.{IsWithin}
-use Rattle.std.proofs.lemmas.Nat.{pow_below}
-use Rattle.std.specs.Int.{int_max, int_min}
 use Rattle.px_num.specs.Bits.{nat_bit}
 use Rattle.px_lanes.specs.Lanes.{offset}
 use Rattle.px_lanes.proofs.OffsetLemmas.{offset_step}

@@ -1,4 +1,4 @@
-use Rattle.std.proofs.Common.{ℕ, ◌<◌, ◌%◌, ◌*◌, ◌^◌, ◌≤ℤ◌}
+use Rattle.px_num.proofs.Basics.{ℕ, ◌<◌, ◌%◌, ◌*◌, ◌^◌, ◌≤ℤ◌}
 use Rattle.px_num.specs.Forms.{IsWithin}
 use Rattle.px_lanes.specs.Lanes.{offset}
 use Rattle.px_lanes.proofs.values.span.Given as goal

@@ -1,5 +1,4 @@
-use Rattle.std.proofs.Common.{◌∙◌, sym, arith, subst, to_z, of_z, w64, ◌^◌, All}
-use Rattle.std.proofs.lemmas.Int.{ints}
+use Rattle.px_num.proofs.Basics.{◌∙◌, sym, arith, subst, to_z, of_z, w64, ◌^◌, All, ints}
 use Rattle.px_num.specs.Forms.{IsWithin}
 use Rattle.px_text.specs.LentWords.{now_of}
 use Rattle.px_listing.proofs.WordLemmas.{are_small, read_more, read_whole}

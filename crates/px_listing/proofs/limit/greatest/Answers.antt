@@ -1,6 +1,4 @@
-use Rattle.std.proofs.Common.{◌≡◌, ◌^◌, ◌≤◌, ℕ, arith}
-use Rattle.std.proofs.Math.Pow.{pow_mono}
-use Rattle.std.proofs.lemmas.Int.{ints}
+use Rattle.px_num.proofs.Basics.{◌≡◌, ◌^◌, ◌≤◌, ℕ, arith, pow_mono, ints}
 use Rattle.px_listing.proofs.limit.greatest.Goals as goal
 
 small : (n len : ℕ) → n ≡ 2 ^ len → len ≤ 40 → n ≤ 2 ^ 40

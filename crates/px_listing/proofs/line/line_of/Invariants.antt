@@ -1,5 +1,4 @@
-use Rattle.std.proofs.Common.{◌≡◌, ◌+◌, ◌*◌, ◌≤◌, ◌++◌, length, map, take}
-use Rattle.std.specs.Fmt.{signed_decimal}
+use Rattle.px_num.proofs.Basics.{◌≡◌, ◌+◌, ◌*◌, ◌≤◌, ◌++◌, length, map, take, signed_decimal}
 use Rattle.px_text.specs.Written.{spaced}
 use Rattle.px_listing.proofs.line.line_of.Given as goal
 

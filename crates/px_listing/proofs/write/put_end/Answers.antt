@@ -1,4 +1,4 @@
-use Rattle.std.proofs.Common.{◌∙◌, [], sym}
+use Rattle.px_num.proofs.Basics.{◌∙◌, [], sym}
 use Rattle.std.proofs.lemmas.List.{append-nil}
 use Rattle.px_listing.specs.Listings.{end_line}
 use Rattle.px_listing.proofs.PieceLaws.{err_cut}

@@ -1,14 +1,11 @@
-use Rattle.std.proofs.Common.{◌++◌, ◌∙◌, [], ap}
+use Rattle.px_num.proofs.Basics.{arith, ◌++◌, ◌∙◌, [], ap}
 use Rattle.std.proofs.lemmas.List.{append-nil}
 use Rattle.px_listing.specs.Listings.{listing_head, grid_line, header_line}
 use Rattle.px_listing.proofs.PieceLaws.{err_cut, ok_both}
 use Rattle.px_listing.proofs.write.put_first_lines.Goals as goal
 
 pub returns-clause-ok : goal.returns-clause-ok
-returns-clause-ok g c =
-    let header = rw c.header_line.ensures.text at c.in_ok-put.ensures.ok in
-    let grid = rw (c.as_str.ensures.value ∙ c.grid_line.ensures) at c.put-2.ensures.ok in
-    ok_both _ _ _ _ _ _ _ _ _ header grid
+returns-clause-ok g c = grind (arith, ok_both)
 
 pub returns-clause-err : goal.returns-clause-err
 returns-clause-err g c =

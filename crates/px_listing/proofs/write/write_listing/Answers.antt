@@ -1,12 +1,11 @@
-use Rattle.std.proofs.Common.{◌<◌, ◌+◌, ◌++◌, [], ◌∙◌, ap, refl, append_assoc, length, take}
-use Rattle.std.proofs.Common.{drop, get_or}
-use Rattle.std.specs.List.{flat_map}
-use Rattle.std.proofs.lemmas.List.{append-nil, take_all}
-use Rattle.px_macro.specs.declared.operation.Macro.TheVariants as m
+use Rattle.px_num.proofs.Basics.{arith, ◌<◌, ◌+◌, ◌++◌, [], ◌∙◌, ap, refl, append_assoc, length, take, drop, get_or}
+use Rattle.px_num.proofs.Basics.{flat_map, take_all}
+use Rattle.std.proofs.lemmas.List.{append-nil}
 use Rattle.px_listing.specs.Listings.{ListingView, canonical_listing, end_line, listing_head, macro_line}
 use Rattle.px_listing.proofs.PieceLaws.{err_cut, ok_all, puts_both, puts_cut}
 use Rattle.px_listing.proofs.RowLaws.{behind, listed_cut, listed_more}
 use Rattle.px_io.proofs.ToldLaws.{on_err}
+use Rattle.px_macro.specs.declared.operation.Macro.TheVariants as m
 use Rattle.px_listing.proofs.write.write_listing.Goals as goal
 
 pub returns-in_err-put-clause-err : goal.returns-in_err-put-clause-err
@@ -34,10 +33,7 @@ loop-m-preserved g c =
     let first = listing_head l.nx l.ny in
     let more = append_assoc first (flat_map macro_line (take i l.macros)) (macro_line (get_or l.macros i m.All))
     ∙ ap (λ bytes. first ++ bytes) (listed_more macro_line l.macros i m.All within) in
-    record {
-      put = rw more at (puts_both _ _ _ [] _ _ _ _ c.loop-m.invariant.put (rw line at c.in_ok-put.ensures.ok));
-      calm = c.in_ok-put.ensures.cause.calm ∙ c.loop-m.invariant.calm;
-    }
+    grind (arith, puts_both)
 
 pub returns-clause-ok : goal.returns-clause-ok
 returns-clause-ok g c =

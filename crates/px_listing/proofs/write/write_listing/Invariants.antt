@@ -1,5 +1,4 @@
-use Rattle.std.proofs.Common.{◌≡◌, ◌++◌, [], take}
-use Rattle.std.specs.List.{flat_map}
+use Rattle.px_num.proofs.Basics.{◌≡◌, ◌++◌, [], take, flat_map}
 use Rattle.px_listing.specs.Listings.{listing_head, macro_line}
 use Rattle.px_listing.specs.Pieces.{Puts}
 use Rattle.px_listing.proofs.write.write_listing.Given as goal

@@ -1,4 +1,4 @@
-use Rattle.std.proofs.Common.{[], ◌∷◌}
+use Rattle.px_num.proofs.Basics.{[], ◌∷◌}
 use Rattle.px_array.proofs.ClockLaws.{grid_after_clocks}
 use Rattle.px_machine_tests.proofs.at_once.clock_each.Goals as goal
 

@@ -1,4 +1,4 @@
-use Rattle.std.proofs.Common.{◌≡◌}
+use Rattle.px_num.proofs.Basics.{◌≡◌}
 use Rattle.px_array.specs.Arrays.{IsOpen}
 use Rattle.px_machine_tests.proofs.clocks.go_on.Given as goal
 

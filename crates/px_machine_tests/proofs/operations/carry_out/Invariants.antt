@@ -1,4 +1,4 @@
-use Rattle.std.proofs.Common.{◌≡◌, ◌+◌}
+use Rattle.px_num.proofs.Basics.{◌≡◌, ◌+◌}
 use Rattle.px_machine_tests.proofs.operations.carry_out.Given as goal
 
 abbrev pub invariant-loop-i : goal.invariant-loop-i

@@ -1,4 +1,4 @@
-use Rattle.std.proofs.Common.{◌≡◌}
+use Rattle.px_num.proofs.Basics.{◌≡◌}
 use Rattle.px_machine_tests.proofs.operations.each_operation_leaves_its_meaning.Given as goal
 
 abbrev pub invariant-loop-m : goal.invariant-loop-m

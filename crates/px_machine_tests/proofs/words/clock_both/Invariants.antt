@@ -1,4 +1,4 @@
-use Rattle.std.proofs.Common.{◌≡◌}
+use Rattle.px_num.proofs.Basics.{◌≡◌}
 use Rattle.px_machine_tests.specs.Ready.{IsReady}
 use Rattle.px_machine_tests.proofs.words.clock_both.Given as goal
 

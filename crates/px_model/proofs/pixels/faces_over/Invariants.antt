@@ -1,4 +1,4 @@
-use Rattle.std.proofs.Common.{◌≡◌, map, take}
+use Rattle.px_num.proofs.Basics.{◌≡◌, map, take}
 use Rattle.px_model.specs.Pixels.{face_over}
 use Rattle.px_model.proofs.pixels.faces_over.Given as goal
 

@@ -1,4 +1,4 @@
-use Rattle.std.proofs.Common.{◌≡◌, drop, find, map}
+use Rattle.px_num.proofs.Basics.{◌≡◌, drop, find, map}
 use Rattle.px_model.specs.Pixels.{face_over}
 use Rattle.px_model.specs.Planes.{is_past, planes_among}
 use Rattle.px_model.proofs.pixels.past_among.Given as goal

@@ -1,5 +1,4 @@
-use Rattle.std.proofs.Common.{◌≡◌, ◌-◌, find, ◌+◌, length}
-use Rattle.std.specs.List.{flat_map, range_with_len}
+use Rattle.px_num.proofs.Basics.{◌≡◌, ◌-◌, find, ◌+◌, length, flat_map, range_with_len}
 use Rattle.px_model.specs.Pixels.{solid_over}
 use Rattle.px_model.specs.Planes.{face_planes, is_past, planes_numbered}
 use Rattle.px_model.proofs.pixels.past_in_faces.Given as goal

@@ -1,4 +1,4 @@
-use Rattle.std.proofs.Common.{◌≡◌, drop, find, map}
+use Rattle.px_num.proofs.Basics.{◌≡◌, drop, find, map}
 use Rattle.px_model.specs.Pixels.{plane_over}
 use Rattle.px_model.specs.Planes.{is_past}
 use Rattle.px_model.proofs.pixels.past_in_sides.Given as goal

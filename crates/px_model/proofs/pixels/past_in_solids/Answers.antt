@@ -1,5 +1,4 @@
-use Rattle.std.proofs.Common.{◌≡◌, is_some, true, false, ap, sym, ◌∙◌, arith}
-use Rattle.std.specs.List.{find}
+use Rattle.px_num.proofs.Basics.{◌≡◌, is_some, true, false, ap, sym, ◌∙◌, arith, find}
 use Rattle.px_model.specs.Pixels.{solid_over}
 use Rattle.px_model.specs.Planes.{is_past, planes_in}
 use Rattle.px_model.proofs.FindLemmas.{found_first, found_later}

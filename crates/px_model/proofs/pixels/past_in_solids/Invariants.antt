@@ -1,4 +1,4 @@
-use Rattle.std.proofs.Common.{◌≡◌, drop, find, map}
+use Rattle.px_num.proofs.Basics.{◌≡◌, drop, find, map}
 use Rattle.px_model.specs.Pixels.{solid_over}
 use Rattle.px_model.specs.Planes.{is_past, planes_of}
 use Rattle.px_model.proofs.pixels.past_in_solids.Given as goal

@@ -1,6 +1,5 @@
-use Rattle.std.proofs.Common.{arith, ap, sym}
+use Rattle.px_num.proofs.Basics.{arith, ap, sym, sum_by_more}
 use Rattle.std.proofs.lemmas.List.Elements.{All-more}
-use Rattle.std.proofs.lemmas.List.Sums.{sum_by_more}
 use Rattle.px_model.specs.Scenes.{IsLawfulSolid, faces_in}
 use Rattle.px_model.proofs.scene.faces_among.Goals as goal
 

@@ -1,4 +1,4 @@
-use Rattle.std.proofs.Common.{◌≡◌, All, take}
+use Rattle.px_num.proofs.Basics.{◌≡◌, All, take}
 use Rattle.px_model.specs.Scenes.{faces_of, IsLawfulSolid}
 use Rattle.px_model.proofs.scene.faces_among.Given as goal
 

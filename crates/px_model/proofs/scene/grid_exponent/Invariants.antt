@@ -1,4 +1,4 @@
-use Rattle.std.proofs.Common.{◌<◌, ◌≤◌, ◌^◌, ℕ}
+use Rattle.px_num.proofs.Basics.{◌<◌, ◌≤◌, ◌^◌, ℕ}
 use Rattle.px_model.proofs.scene.grid_exponent.Given as goal
 
 abbrev pub invariant-loop-exponent : goal.invariant-loop-exponent

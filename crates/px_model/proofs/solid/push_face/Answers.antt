@@ -1,4 +1,4 @@
-use Rattle.std.proofs.Common.{rules}
+use Rattle.px_num.proofs.Basics.{rules}
 use Rattle.px_model.proofs.SolidLemmas.{faces_pushed}
 use Rattle.px_model.proofs.solid.push_face.Goals as goal
 

@@ -1,5 +1,4 @@
-use Rattle.std.proofs.Common.{◌≡◌, take}
-use Rattle.std.specs.List.{All}
+use Rattle.px_num.proofs.Basics.{◌≡◌, take, All}
 use Rattle.px_normal.specs.Live.{boxes_in}
 use Rattle.px_normal.specs.Boxed.{IsBoxed, products_in}
 use Rattle.px_normal.proofs.live.boxed_all.Given as goal

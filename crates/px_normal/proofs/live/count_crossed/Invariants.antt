@@ -1,10 +1,9 @@
-use Rattle.std.proofs.Common.{◌≡◌, ◌≤◌, ◌*◌, length, take}
-use Rattle.std.specs.List.{filter}
+use Rattle.px_num.proofs.Basics.{◌≡◌, ◌≤◌, ◌*◌, length, take, filter}
 use Rattle.px_normal.specs.Forms.{crossed}
 use Rattle.px_normal.specs.Live.{boxes_in, is_live}
 use Rattle.px_normal.specs.Boxed.{products_in}
-use Rattle.px_normal.proofs.live.count_crossed.Given as goal
 use Rattle.px_normal.specs.declared.product.TheConstants.{MAX_PRODUCTS}
+use Rattle.px_normal.proofs.live.count_crossed.Given as goal
 
 abbrev pub invariant-loop-p : goal.invariant-loop-p
 invariant-loop-p l = record {

@@ -1,5 +1,4 @@
-use Rattle.std.proofs.Common.{◌≡◌, ◌++◌, take}
-use Rattle.std.specs.List.{filter}
+use Rattle.px_num.proofs.Basics.{◌≡◌, ◌++◌, take, filter}
 use Rattle.px_normal.specs.Live.{boxes_in, is_live}
 use Rattle.px_normal.proofs.live.push_live.Given as goal
 

@@ -1,4 +1,4 @@
-use Rattle.px_normal.specs.Live.{boxes_in, is_live}
+use Rattle.px_num.proofs.Basics.{arith, nat_tests, common_steps}
 use Rattle.px_normal.proofs.KeptLemmas.{added_with}
 use Rattle.px_normal.proofs.live.push_with.Goals as goal
 
@@ -9,6 +9,4 @@ pub push_both-requires-clause-q : goal.push_both-requires-clause-q
 push_both-requires-clause-q c = c.requires.boxed c.loop-q.q-index _ c.loop-q-test.true
 
 pub loop-q-preserved : goal.loop-q-preserved
-loop-q-preserved c =
-    added_with (is_live (boxes_in c.args.boxes.now)) _ _ _ c.args.p.now.product c.args.second.now c.loop-q.q-index _
-    c.loop-q-test.true c.in_ok-push_both.ensures c.loop-q.invariant
+loop-q-preserved c = grind (arith, nat_tests, common_steps, added_with)

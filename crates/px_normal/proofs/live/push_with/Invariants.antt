@@ -1,5 +1,4 @@
-use Rattle.std.proofs.Common.{◌≡◌, ◌++◌, take, map}
-use Rattle.std.specs.List.{filter}
+use Rattle.px_num.proofs.Basics.{◌≡◌, ◌++◌, take, map, filter}
 use Rattle.px_normal.specs.Forms.{both}
 use Rattle.px_normal.specs.Live.{boxes_in, is_live}
 use Rattle.px_normal.specs.Boxed.{products_in}

@@ -1,4 +1,4 @@
-use Rattle.std.proofs.lemmas.List.Elements.{All-filter}
+use Rattle.px_num.proofs.Basics.{All-filter}
 use Rattle.px_normal.specs.Forms.{HasPlain, HasSolidsBelow}
 use Rattle.px_normal.proofs.normal.normal_form_law.Goals as goal
 

@@ -1,4 +1,4 @@
-use Rattle.std.proofs.Common.{length, reverse}
+use Rattle.px_num.proofs.Basics.{length, reverse}
 use Rattle.px_normal.specs.Live.{boxes_in}
 use Rattle.px_normal.proofs.BuildingLemmas.{IsOnTheWay}
 use Rattle.px_normal.proofs.normal.products_of.Given as goal

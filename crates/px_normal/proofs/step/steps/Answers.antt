@@ -1,4 +1,4 @@
-use Rattle.std.proofs.Common.{◌≡◌, ◌∷◌, List, [], ◌++◌, reverse}
+use Rattle.px_num.proofs.Basics.{arith, ◌≡◌, ◌∷◌, List, [], ◌++◌, reverse}
 use Rattle.px_expr.specs.declared.node.Node.{Node}
 use Rattle.px_expr.specs.Tree.{Tree}
 use Rattle.px_expr.specs.Postorder.{nodes_of}
@@ -16,5 +16,4 @@ started nodes tree before wanted first known none one root unknown is =
     rw (one, none, root, unknown) (walked_all nodes tree is)
 
 pub loop-node-init : goal.loop-node-init
-loop-node-init c = started _ c.args.expr.now _ _ _ _ c.new-wanted.ensures.items c.in_ok-push.ensures.items
-    c.of_root.ensures c.new-steps.ensures.items c.nodes-rest.ensures.nodes
+loop-node-init c = grind (arith, started)

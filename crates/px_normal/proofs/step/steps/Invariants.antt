@@ -1,4 +1,4 @@
-use Rattle.std.proofs.Common.{◌≡◌, length, reverse}
+use Rattle.px_num.proofs.Basics.{◌≡◌, length, reverse}
 use Rattle.px_normal.specs.Crowd.{of_root}
 use Rattle.px_normal.specs.Building.{steps_of, walked}
 use Rattle.px_normal.proofs.step.steps.Given as goal

@@ -1,5 +1,4 @@
-use Rattle.std.proofs.Common.{◌<◌, ◌^◌, ◌∙◌, sym, false, nat_lt, arith, ◌≡◌}
-use Rattle.std.proofs.lemmas.Bool.Decides.{nat_tests}
+use Rattle.px_num.proofs.Basics.{◌<◌, ◌^◌, ◌∙◌, sym, false, nat_lt, arith, ◌≡◌, nat_tests}
 use Rattle.px_num.proofs.BitLaws.{nat_bit_above}
 use Rattle.px_num.proofs.bits.bit_of_word.Goals as goal
 

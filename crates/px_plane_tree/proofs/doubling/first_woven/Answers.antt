@@ -1,4 +1,4 @@
-use Rattle.std.proofs.Common.{ℕ, ◌*◌, ◌+◌, get_or, List, [], ◌∷◌, refl, arith}
+use Rattle.px_num.proofs.Basics.{ℕ, ◌*◌, ◌+◌, get_or, List, [], ◌∷◌, refl, arith}
 use Rattle.px_plane_tree.proofs.WeaveLemmas.{woven_law, eight_places}
 use Rattle.px_plane_tree.proofs.doubling.first_woven.Goals as goal
 

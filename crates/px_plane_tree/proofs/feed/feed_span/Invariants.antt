@@ -1,4 +1,4 @@
-use Rattle.std.proofs.Common.{◌-◌, ◌*◌, ◌≡◌, ◌≤◌, ◌%◌}
+use Rattle.px_num.proofs.Basics.{◌-◌, ◌*◌, ◌≡◌, ◌≤◌, ◌%◌}
 use Rattle.px_plane_tree.specs.Heap.{IsFed, rows}
 use Rattle.px_plane_tree.proofs.feed.feed_span.Given as goal
 

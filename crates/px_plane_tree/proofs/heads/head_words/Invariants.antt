@@ -1,4 +1,4 @@
-use Rattle.std.proofs.Common.{◌≡◌, ℕ, ◌<◌, ◌+◌, ◌*◌, length, get_or}
+use Rattle.px_num.proofs.Basics.{◌≡◌, ℕ, ◌<◌, ◌+◌, ◌*◌, length, get_or}
 use Rattle.px_num.specs.Bits.{nat_bit}
 use Rattle.px_plane_tree.specs.Heap.{line_bit}
 use Rattle.px_plane_tree.proofs.heads.head_words.Given as goal

@@ -1,13 +1,11 @@
-use Rattle.std.proofs.Common.{◌≡◌, ◌-◌, length, subst, ◌∙◌, arith}
+use Rattle.px_num.proofs.Basics.{◌≡◌, ◌-◌, length, subst, ◌∙◌, arith}
 use Rattle.px_num.proofs.TruthLaws.{power_grows}
-use Rattle.px_plane_tree.proofs.LevelLemmas.{IsFedDown, are_still, at_next, fed_heap, fed_more, next_fits}
-use Rattle.px_plane_tree.proofs.LevelLemmas.{next_odd, levels}
+use Rattle.px_plane_tree.proofs.LevelLemmas.{IsFedDown, are_still, at_next, fed_heap, fed_more, next_fits, levels}
 use Rattle.px_plane_tree.proofs.LevelLemmas.{next_rest}
 use Rattle.px_plane_tree.proofs.heap.feed_heap.Goals as goal
 
 pub feed_level-requires-clause-from : goal.feed_level-requires-clause-from
-feed_level-requires-clause-from c =
-    omega (arith, c.power.ensures, power_grows 1 (c.loop-u.u - 1) (omega arith))
+feed_level-requires-clause-from c = omega (arith, c.power.ensures, power_grows 1 (c.loop-u.u - 1) (omega arith))
 
 pub feed_level-requires-clause-outputs : goal.feed_level-requires-clause-outputs
 feed_level-requires-clause-outputs c =
@@ -18,11 +16,6 @@ pub feed_level-requires-clause-carries : goal.feed_level-requires-clause-carries
 feed_level-requires-clause-carries c =
     rw c.power.ensures (next_fits (c.loop-u.u - 1) (length c.args.still.now) (length c.loop-u.carries) (omega arith)
     (c.loop-u.auto.carries ∙ (c.requires.heap.same ∙ c.requires.levels)))
-
-pub feed_level-requires-clause-odd : goal.feed_level-requires-clause-odd
-feed_level-requires-clause-odd c =
-    rw c.power.ensures (next_odd c.args.nx c.args.now (c.loop-u.u - 1) _ _ _ _ _ _ (omega arith) c.requires.levels
-    c.requires.heap (at_next _ _ _ _ _ _ _ _ _ (omega arith) c.loop-u.invariant.down))
 
 pub feed_level-requires-clause-rest : goal.feed_level-requires-clause-rest
 feed_level-requires-clause-rest c = λ may here.

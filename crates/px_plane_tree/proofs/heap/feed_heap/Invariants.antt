@@ -1,4 +1,4 @@
-use Rattle.std.proofs.Common.{◌≤◌}
+use Rattle.px_num.proofs.Basics.{◌≤◌}
 use Rattle.px_plane_tree.proofs.LevelLemmas.{IsFedDown, levels}
 use Rattle.px_plane_tree.proofs.heap.feed_heap.Given as goal
 

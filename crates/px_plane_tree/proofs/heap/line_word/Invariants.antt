@@ -1,4 +1,4 @@
-use Rattle.std.proofs.Common.{◌≡◌, ℕ, ◌<◌, ◌≤◌, ◌+◌, ◌*◌, false}
+use Rattle.px_num.proofs.Basics.{◌≡◌, ℕ, ◌<◌, ◌≤◌, ◌+◌, ◌*◌, false}
 use Rattle.px_num.specs.Bits.{nat_bit}
 use Rattle.px_plane_tree.specs.Heap.{line_bit}
 use Rattle.px_plane_tree.proofs.heap.line_word.Given as goal

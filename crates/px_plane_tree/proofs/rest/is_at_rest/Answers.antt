@@ -1,4 +1,4 @@
-use Rattle.std.proofs.Common.{◌-◌, arith}
+use Rattle.px_num.proofs.Basics.{◌-◌, arith}
 use Rattle.px_plane_tree.proofs.HeapLemmas.{span_law}
 use Rattle.px_plane_tree.proofs.rest.is_at_rest.Goals as goal
 

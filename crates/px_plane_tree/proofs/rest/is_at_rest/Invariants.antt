@@ -1,4 +1,4 @@
-use Rattle.std.proofs.Common.{◌-◌, ◌*◌, ◌≡◌, ◌≤◌, ◌%◌}
+use Rattle.px_num.proofs.Basics.{◌-◌, ◌*◌, ◌≡◌, ◌≤◌, ◌%◌}
 use Rattle.px_plane_tree.specs.Heap.{IsAtRest}
 use Rattle.px_plane_tree.proofs.rest.is_at_rest.Given as goal
 

@@ -1,4 +1,4 @@
-use Rattle.std.proofs.Common.{arith, ◌^◌}
+use Rattle.px_num.proofs.Basics.{arith, ◌^◌}
 use Rattle.px_plane_tree.proofs.TreeLemmas.{level_law, small_power}
 use Rattle.px_plane_tree.proofs.small.level_of.Goals as goal
 

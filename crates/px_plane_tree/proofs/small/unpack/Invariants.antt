@@ -1,4 +1,4 @@
-use Rattle.std.proofs.Common.{◌≡◌, ℕ, ◌<◌, ◌≤◌, ◌+◌, ◌^◌, cond, nat_lt, false, get_or}
+use Rattle.px_num.proofs.Basics.{◌≡◌, ℕ, ◌<◌, ◌≤◌, ◌+◌, ◌^◌, cond, nat_lt, false, get_or}
 use Rattle.px_num.specs.Bits.{nat_bit}
 use Rattle.px_plane_tree.proofs.small.unpack.Given as goal
 

@@ -1,6 +1,4 @@
-use Rattle.std.proofs.Common.{pos, ◌+ℤ◌, ◌≤ℤ◌, ◌<ℤ◌, length, arith, rules, w64}
-use Rattle.std.proofs.lemmas.Int.{ints, to_z-of_z}
-use mir.Val.{SFits}
+use Rattle.px_num.proofs.Basics.{pos, ◌+ℤ◌, ◌≤ℤ◌, ◌<ℤ◌, length, arith, ints, to_z-of_z}
 use Rattle.px_planes.proofs.OperationLemmas.{kept_whole, none_kept}
 use Rattle.px_planes.proofs.edges.cut_enabled_word.Goals as goal
 
@@ -29,6 +27,4 @@ returns-then-base-edge-lt0 c =
     c.keep_word.ensures c.base_of-base.ensures.value span.most test
 
 pub cut_mixed_word-requires-clause-values : goal.cut_mixed_word-requires-clause-values
-cut_mixed_word-requires-clause-values c j small =
-    let fit : SFits w64 c.base_of-base.result = search rules in
-    rw (to_z-of_z w64 c.base_of-base.result fit) (c.base_of-base.ensures.value j small)
+cut_mixed_word-requires-clause-values c j small = grind (arith, to_z-of_z)

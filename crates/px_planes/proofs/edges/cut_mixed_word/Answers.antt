@@ -1,6 +1,4 @@
-use Rattle.std.proofs.Common.{◌∙◌, Bool, ℤ, ◌<◌, ◌%◌, length, not, ap, sym, arith, w64}
-use Rattle.std.specs.Int.{is_negative}
-use Rattle.std.proofs.lemmas.Int.{to_z-of_z}
+use Rattle.px_num.proofs.Basics.{◌∙◌, Bool, ℤ, ◌<◌, ◌%◌, length, not, ap, sym, arith, w64, is_negative, to_z-of_z}
 use Rattle.px_asm.specs.Microprograms.{bits_of}
 use Rattle.px_macro.specs.declared.operation.Macro.TheVariants.{KeepSign}
 use Rattle.px_pixel.specs.Acts.{kept}

@@ -1,4 +1,4 @@
-use Rattle.std.proofs.Common.{◌+◌, ◌/◌, ◌^◌, ap}
+use Rattle.px_num.proofs.Basics.{◌+◌, ◌/◌, ◌^◌, ap}
 use Rattle.px_plane_tree.proofs.LevelLemmas.{power_some}
 use Rattle.px_planes.proofs.GridLemmas.{whole_words, zero_law, zero_pixels}
 use Rattle.px_planes.proofs.plane_grid.zero_planes.Goals as goal

@@ -1,4 +1,4 @@
-use Rattle.std.proofs.Common.{◌-◌}
+use Rattle.px_num.proofs.Basics.{◌-◌}
 use Rattle.px_planes.specs.Operations.{IsReach}
 use Rattle.px_planes.proofs.reach.without_first.Given as goal
 

@@ -1,5 +1,4 @@
-use Rattle.std.proofs.Common.{◌≡◌, ◌∙◌, [], get_or, length, not, refl, ap}
-use Rattle.std.proofs.lemmas.List.{get_or_default}
+use Rattle.px_num.proofs.Basics.{arith, ◌≡◌, ◌∙◌, [], get_or, length, not, refl, ap, get_or_default}
 use Rattle.px_macro.specs.declared.operation.Macro.TheVariants.{Toggle}
 use Rattle.px_rows.specs.Rows.{row_bit}
 use Rattle.px_planes.proofs.OperationLemmas.{stored_in_rows}
@@ -10,8 +9,7 @@ pub returns : goal.returns
 returns c =
     let planes = c.args.planes.now in
     let at = c.args.at in
-    let old : c.index_mut.result.now ≡ get_or planes.memory.items at [] = c.index_mut.ensures.value
-    ∙ get_or_default planes.memory.items at c.index_mut.result.now [] c.requires.place in
+    let old : c.index_mut.result.now ≡ get_or planes.memory.items at [] = grind (arith, get_or_default) in
     stored_in_rows (Toggle at) c.args.ny planes at c.flip.new.self
     (λ p. not (row_bit (get_or planes.memory.items at []) p))
     c.requires.words c.requires.place

@@ -1,6 +1,5 @@
-use Rattle.std.proofs.Common.{◌≡◌, ◌∙◌, ◌+◌, ◌*◌, ◌/◌, ◌%◌, ◌<◌, ◌≤◌, [], get_or, length, ap, arith, inl, inr}
-use Rattle.std.proofs.lemmas.Bool.{cases_lt}
-use Rattle.std.proofs.lemmas.List.{get_or_default}
+use Rattle.px_num.proofs.Basics.{rules, ◌≡◌, ◌∙◌, ◌+◌, ◌*◌, ◌/◌, ◌%◌, ◌<◌, ◌≤◌, [], get_or, length, ap, arith, inl, inr}
+use Rattle.px_num.proofs.Basics.{cases_lt, get_or_default}
 use Rattle.px_num.specs.Bits.{bit_at, xor}
 use Rattle.px_rows.specs.Rows.{row_bit}
 use Rattle.px_rows.specs.Sums.{value_on}
@@ -17,8 +16,7 @@ returns-clause-worked c =
     let value = value_on c.args.value.now c.args.step c.args.first.now in
     let first = c.args.first.now in
     let second = c.args.second.now in
-    let target : c.index_mut.result.now ≡ get_or planes.memory.items at [] = c.index_mut.ensures.value
-    ∙ get_or_default planes.memory.items at c.index_mut.result.now [] c.requires.place in
+    let target : c.index_mut.result.now ≡ get_or planes.memory.items at [] = grind (arith, get_or_default) in
     put_row_law 32768 strip at planes c.add_steps.new.self
     (λ p. xor (value (p % 32768)) (xor (bit_at (pixel_in planes p).memory at) (row_bit second (p % 32768))))
     c.requires.words c.requires.place
@@ -39,15 +37,9 @@ returns-clause-second c p within is =
     let planes = c.args.planes.now in
     let at = c.args.at in
     let strip = c.args.strip in
-    let target : c.index_mut.result.now ≡ get_or planes.memory.items at [] = c.index_mut.ensures.value
-    ∙ get_or_default planes.memory.items at c.index_mut.result.now [] c.requires.place in
+    let target : c.index_mut.result.now ≡ get_or planes.memory.items at [] = grind (arith, get_or_default) in
     let whole : 64 * (512 * strip) + p % 32768 ≡ p = omega arith in
-    let low : p % 32768 < 64 * length c.add_steps.new.second =
-    omega (arith, c.requires.second, c.add_steps.ensures.second_words) in
-    rw (bit_of_rows planes.memory.items at p c.requires.place)
-    (rw (whole, target) at (c.add_steps.ensures.second (p % 32768) low))
+    grind (arith, bit_of_rows)
 
 pub returns-clause-value : goal.returns-clause-value
-returns-clause-value c i small =
-    let blocks : length c.args.first.now / 8 ≡ 64 = omega (arith, c.requires.first) in
-    rw blocks at (c.add_steps.ensures.value i small)
+returns-clause-value c i small = search (rules, c.requires.first, c.add_steps.ensures.value)

@@ -1,5 +1,4 @@
-use Rattle.std.proofs.Common.{◌≡◌, ◌≢◌, ◌∙◌, ◌/◌, ◌^◌, ◌%◌, length, ap, arith, inl, inr}
-use Rattle.std.proofs.lemmas.Bool.{cases_lt}
+use Rattle.px_num.proofs.Basics.{◌≡◌, ◌≢◌, ◌∙◌, ◌/◌, ◌^◌, ◌%◌, length, ap, arith, inl, inr, cases_lt}
 use Rattle.px_asm.specs.Microprograms.{bits_of}
 use Rattle.px_macro.specs.Macros.{after_macro}
 use Rattle.px_macro.specs.declared.operation.Macro.TheVariants.{AddLinear}
@@ -27,9 +26,7 @@ loop-strip-preserved c =
             work.each p within here
             ∙ ap (λ (x : PixelState). after_macro op (p / 2 ^ ny) (p % 2 ^ ny) (bits_of x)) (i.rest p within past)
       ];
-      rest = λ p within past.
-          let other : p / 32768 ≢ strip = omega arith in
-          work.others p within other ∙ i.rest p within (omega arith);
+      rest = grind arith;
       like = like_then n planes c.loop-strip.planes c.add_to_strip.new.planes i.like work.like;
       values = c.add_to_strip.ensures.values;
       long = c.add_to_strip.ensures.long ∙ i.long;

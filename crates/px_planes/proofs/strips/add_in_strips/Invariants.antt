@@ -1,4 +1,4 @@
-use Rattle.std.proofs.Common.{◌≡◌, ℕ, ◌*◌, ◌/◌, ◌%◌, ◌^◌, ◌<◌, ◌≤◌, length}
+use Rattle.px_num.proofs.Basics.{◌≡◌, ℕ, ◌*◌, ◌/◌, ◌%◌, ◌^◌, ◌<◌, ◌≤◌, length}
 use Rattle.px_asm.specs.Microprograms.{bits_of}
 use Rattle.px_lanes.specs.Lanes.{AreBlockValues}
 use Rattle.px_macro.specs.Macros.{after_macro}

@@ -1,17 +1,12 @@
-use Rattle.std.proofs.Common.{◌≡◌, ◌≢◌, ◌∙◌, ℕ, suc, ℤ, pos, false, ◌+ℤ◌, ◌+◌, ◌*◌, ◌/◌, ◌^◌, ◌<◌, ◌≤◌, ◌%◌, []}
-use Rattle.std.proofs.Common.{length, get_or, get_or-set_other, get_or-set_same, length-set, replicate, ap, sym}
-use Rattle.std.proofs.Common.{refl, arith, inl, inr, w64, rules}
-use Rattle.std.proofs.lemmas.Bool.{cases_lt}
-use Rattle.std.proofs.lemmas.Int.{ints, to_z-of_z}
-use mir.Val.{SFits}
-use Rattle.px_asm.specs.Microprograms.{bits_of}
+use Rattle.px_num.proofs.Basics.{◌≡◌, ◌≢◌, ◌∙◌, ℕ, suc, ℤ, pos, false, ◌+ℤ◌, ◌+◌, ◌*◌, ◌/◌, ◌^◌, ◌<◌, ◌≤◌, ◌%◌, []}
+use Rattle.px_num.proofs.Basics.{length, get_or, get_or-set_other, get_or-set_same, length-set, replicate, sym, refl}
+use Rattle.px_num.proofs.Basics.{arith, inl, inr, cases_lt, ints, to_z-of_z}
 use Rattle.px_lanes.specs.Lanes.{offset}
 use Rattle.px_macro.specs.Fields.{number_in}
-use Rattle.px_num.specs.Bits.{bit_at, bit_of, modulo, nat_bit}
+use Rattle.px_num.specs.Bits.{bit_at, bit_of, nat_bit}
 use Rattle.px_num.specs.Forms.{value_at}
 use Rattle.px_num.proofs.AdderLaws.{sum_bit}
 use Rattle.px_num.proofs.BitLaws.{modulo_bit}
-use Rattle.px_pixel.specs.Pixels.{PixelState}
 use Rattle.px_planes.specs.Pixels.{pixel_in}
 use Rattle.px_rows.specs.Rows.{row_bit}
 use Rattle.px_rows.specs.Sums.{value_on}
@@ -57,10 +52,7 @@ loop-t-preserved c =
     let step = offset form ny 512 in
     let first = c.loop-t.first in
     let bit = c.bit_of-bit.result in
-    let fit : SFits w64 c.block_step-step.result = search rules in
-    let is : bit ≡ bit_of step t =
-    c.bit_of-bit.ensures.value
-    ∙ ap (λ (z : ℤ). bit_of z t) (to_z-of_z w64 c.block_step-step.result fit ∙ c.block_step-step.ensures) in
+    let is : bit ≡ bit_of step t = grind (arith, to_z-of_z) in
     let work = rw long at c.add_bit.ensures.worked in
     let second = rw long at c.add_bit.ensures.second in
     let begins : (j : ℕ) → j < 512 → nat_bit (get_or a (j / 64) 0) (j % 64) ≡ bit_of (value (512 * (64 * strip) + j))
@@ -80,10 +72,7 @@ loop-t-preserved c =
     rw place at (value_bit (p % 32768) within) in
     let held : (p : ℕ) → p < 64 * n → p / 32768 ≡ strip → bit_at (pixel_in c.loop-t.planes p).memory (f.at + t)
     ≡ bit_of (number p) t =
-    λ p within here.
-    ap (λ (x : PixelState). bit_at x.memory (f.at + t)) (i.worked.each p within here)
-    ∙ (bit_above f.at (λ s. bit_of (value p +ℤ number p) s) t (f.at + t) (pixel_in planes p) (omega arith)
-    ∙ sym (c.laws_of_fields.ensures.bits f (pixel_in planes p).memory t low)) in
+    grind (arith, bit_above) in
     record {
       worked = rw next (stored_more 32768 strip n f.at t (λ p s. bit_of (value p +ℤ number p) s) _ planes
           c.loop-t.planes c.add_bit.new.planes i.worked work
@@ -110,9 +99,7 @@ loop-t-preserved c =
             rw (same, get_or-set_same c.loop-t.values t c.add_bit.new.value [] in_values, place)
             (c.add_bit.ensures.value j small ∙ rw is (in_strip 64 j (omega arith) small))
       ];
-      rest = λ s past.
-          let other : s ≢ t = omega arith in
-          get_or-set_other c.loop-t.values t s c.add_bit.new.value [] other ∙ i.rest s (omega arith);
+      rest = grind (arith, get_or-set_other);
       whole = length-set c.loop-t.values t c.add_bit.new.value ∙ i.whole;
     }
 
@@ -120,29 +107,7 @@ turned : (n v : ℤ) → v +ℤ n ≡ n +ℤ v
 turned n v = omega (arith, ints)
 
 pub returns-clause-done : goal.returns-clause-done
-returns-clause-done c =
-    let planes = c.args.planes.now in
-    let form = c.args.form.now in
-    let f = c.args.field.now in
-    let ny = c.args.ny in
-    let i = c.loop-t.invariant in
-    let end : c.loop-t.t ≡ f.len = omega (arith, i.whole, c.requires.long) in
-    record {
-      each = λ p within here.
-          let v = value_at form (p / 2 ^ ny) (p % 2 ^ ny) in
-          let number = pos (number_in f (pixel_in planes p).memory) in
-          ap bits_of (i.worked.each p within here)
-          ∙ stored_law f (modulo (number +ℤ v) f.len) (λ s. bit_of (v +ℤ number) s) c.loop-t.t planes p end
-          c.requires.field.within
-          (λ t low. ap (λ (z : ℤ). bit_of z t) (turned number v) ∙ modulo_bit (number +ℤ v) f.len t low);
-      others = i.worked.others;
-      like = i.worked.like;
-    }
+returns-clause-done c = grind (arith, stored_law, turned, modulo_bit)
 
 pub returns-clause-values : goal.returns-clause-values
-returns-clause-values c = record {
-  each = λ t p low small.
-      let i = c.loop-t.invariant in
-      let before : t < c.loop-t.t = omega (arith, low, i.whole, c.requires.long) in
-      i.behind t p before small;
-}
+returns-clause-values c = grind arith

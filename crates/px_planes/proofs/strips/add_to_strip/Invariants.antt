@@ -1,4 +1,4 @@
-use Rattle.std.proofs.Common.{◌≡◌, ℕ, pos, false, ◌+ℤ◌, ◌<◌, ◌≤◌, ◌+◌, ◌*◌, ◌/◌, ◌%◌, ◌^◌, [], length, get_or}
+use Rattle.px_num.proofs.Basics.{◌≡◌, ℕ, pos, false, ◌+ℤ◌, ◌<◌, ◌≤◌, ◌+◌, ◌*◌, ◌/◌, ◌%◌, ◌^◌, [], length, get_or}
 use Rattle.px_lanes.specs.Lanes.{offset}
 use Rattle.px_macro.specs.Fields.{number_in}
 use Rattle.px_num.specs.Bits.{bit_of, carry_from, nat_bit}

@@ -1,4 +1,4 @@
-use Rattle.std.proofs.Common.{◌%◌, length, get_or}
+use Rattle.px_num.proofs.Basics.{◌%◌, length, get_or}
 use Rattle.px_num.specs.Bits.{nat_bit}
 use Rattle.px_planes.specs.Operations.{IsWorked, stored_bits}
 use Rattle.px_planes.proofs.word_acts.store_words.Given as goal

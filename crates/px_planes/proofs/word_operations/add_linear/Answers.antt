@@ -1,14 +1,12 @@
-use Rattle.std.proofs.Common.{◌≡◌, ◌∙◌, ℕ, suc, ℤ, pos, ◌+ℤ◌, ◌+◌, ◌*◌, ◌/◌, ◌^◌, ◌<◌, ◌%◌, length, get_or, ap}
-use Rattle.std.proofs.Common.{sym, arith, w64, to_z, of_z, rules}
-use Rattle.std.proofs.lemmas.Int.{ints, to_z-of_z}
+use Rattle.px_num.proofs.Basics.{◌≡◌, ◌∙◌, ℕ, suc, ℤ, pos, ◌+ℤ◌, ◌+◌, ◌*◌, ◌/◌, ◌^◌, ◌<◌, ◌%◌, length, get_or, ap}
+use Rattle.px_num.proofs.Basics.{arith, w64, to_z, of_z, rules, ints, to_z-of_z}
 use mir.Val.{SFits}
 use Rattle.px_lanes.specs.Lanes.{offset}
-use Rattle.px_num.specs.Bits.{bit_at, bit_of, modulo, nat_bit}
+use Rattle.px_num.specs.Bits.{bit_of, modulo, nat_bit}
 use Rattle.px_num.specs.Forms.{value_at}
 use Rattle.px_num.proofs.BitLaws.{modulo_bit}
 use Rattle.px_macro.specs.Fields.{number_in}
 use Rattle.px_macro.specs.declared.operation.Macro.TheVariants.{AddLinear}
-use Rattle.px_pixel.specs.Pixels.{PixelState}
 use Rattle.px_planes.specs.Pixels.{pixel_in}
 use Rattle.px_planes.proofs.OperationLemmas.{done_by_work, stored_law, value_here}
 use Rattle.px_planes.proofs.WorkLemmas.{bit_above, stored_more}
@@ -22,8 +20,6 @@ loop-t-preserved c =
     let n = length planes.enable in
     let f = c.args.field.now in
     let base = to_z w64 (of_z w64 c.base_of-base.result) in
-    let low : t < f.len = omega (arith, c.loop-t-test.true, c.requires.long) in
-    let long : length c.loop-t.planes.enable ≡ n = i.worked.like.words.enable in
     let next : t + 1 ≡ suc t = omega arith in
     let o = λ (p : ℕ). offset c.args.form.now c.args.ny (p % 64) in
     let number = λ (p : ℕ). pos (number_in f (pixel_in planes p).memory) in
@@ -33,19 +29,9 @@ loop-t-preserved c =
     λ p. let small : p % 64 < 64 = omega arith in c.bit_of_all.ensures (p % 64) small in
     let third : (p : ℕ) → p < 64 * n → p / 64 ≡ c.args.w → nat_bit c.memory_word-held.result (p % 64)
     ≡ bit_of (number p) t =
-    λ p within here.
-    c.memory_word-held.ensures p (rw long within) here
-    ∙ (ap (λ (x : PixelState). bit_at x.memory (f.at + t)) (i.worked.each p within here)
-    ∙ (bit_above f.at (λ s. bit_of ((o p +ℤ base) +ℤ number p) s) t (f.at + t) (pixel_in planes p) (omega arith)
-    ∙ sym (c.laws_of_fields.ensures.bits f (pixel_in planes p).memory t low))) in
+    grind (arith, bit_above) in
     record {
-      worked = rw next (stored_more 64 c.args.w n f.at t (λ p s. bit_of ((o p +ℤ base) +ℤ number p) s)
-          (λ p. nat_bit c.added_bit-sum.result (p % 64)) planes
-          c.loop-t.planes c.put_word.new.planes i.worked (rw long at c.put_word.ensures)
-          (λ p within here.
-          let small : p % 64 < 64 = omega arith in
-          c.added_bit-sum.ensures.bit (p % 64) t (o p) base (number p) small (first p) (second p) (third p within here)
-          (i.carries p within here)));
+      worked = grind (arith, stored_more);
       carries = λ p within here.
           let small : p % 64 < 64 = omega arith in
           c.added_bit-sum.ensures.carries (p % 64) t (o p) base (number p) small (first p) (second p)

@@ -1,4 +1,4 @@
-use Rattle.std.proofs.Common.{◌≡◌, ℕ, pos, ◌+ℤ◌, ◌<◌, ◌*◌, ◌/◌, ◌%◌, length}
+use Rattle.px_num.proofs.Basics.{◌≡◌, ℕ, pos, ◌+ℤ◌, ◌<◌, ◌*◌, ◌/◌, ◌%◌, length}
 use Rattle.px_lanes.specs.Lanes.{HasCarries, offset}
 use Rattle.px_macro.specs.Fields.{number_in}
 use Rattle.px_num.specs.Bits.{bit_of}

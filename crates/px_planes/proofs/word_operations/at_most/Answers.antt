@@ -1,7 +1,7 @@
-use Rattle.std.proofs.Common.{◌≡◌, ◌∙◌, suc, pos, ◌+◌, ◌<◌, ◌%◌, true, not, ap, sym, refl, arith}
+use Rattle.px_num.proofs.Basics.{◌≡◌, ◌∙◌, suc, ◌+◌, ◌<◌, ◌%◌, not, ap, sym, refl, arith}
 use Rattle.px_asm.proofs.ComparingLemmas.{carry_is_at_most}
 use Rattle.px_macro.specs.Fields.{number_in}
-use Rattle.px_num.specs.Bits.{bit_of, carry_from, nat_bit}
+use Rattle.px_num.specs.Bits.{bit_of, nat_bit}
 use Rattle.px_num.proofs.AdderLaws.{flipped, flipped_bit}
 use Rattle.px_planes.specs.Pixels.{pixel_in}
 use Rattle.px_planes.proofs.word_operations.at_most.Goals as goal
@@ -15,17 +15,9 @@ loop-t-preserved c p u within here h =
     let memory = (pixel_in c.args.planes.now p).memory in
     let turned : nat_bit c.turned.result j ≡ bit_of (flipped u) t =
     c.turned.ensures j small ∙ (ap not (h.each t (omega arith)) ∙ sym (flipped_bit u t)) in
-    let bit : nat_bit c.memory_word-bit.result j ≡ nat_bit (number_in f memory) t =
-    c.memory_word-bit.ensures p within here
-    ∙ sym (c.laws_of_fields.ensures.bits f memory t (omega (arith, c.requires.long))) in
+    let bit : nat_bit c.memory_word-bit.result j ≡ nat_bit (number_in f memory) t = grind arith in
     let next : t + 1 ≡ suc t = omega arith in
     c.majority_word-most.ensures j small ∙ rw (next, turned, bit, c.loop-t.invariant p u within here h) refl
 
 pub returns : goal.returns
-returns c p u within here h =
-    let f = c.args.field.now in
-    let memory = (pixel_in c.args.planes.now p).memory in
-    let end : c.loop-t.t ≡ f.len = omega (arith, c.requires.long) in
-    c.loop-t.invariant p u within here h
-    ∙ (ap (carry_from true (flipped u) (pos (number_in f memory))) end
-    ∙ carry_is_at_most u (number_in f memory) f.len (c.laws_of_fields.ensures.below f memory))
+returns c p u within here h = grind (arith, flipped, carry_is_at_most)

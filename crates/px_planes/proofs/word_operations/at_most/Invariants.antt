@@ -1,4 +1,4 @@
-use Rattle.std.proofs.Common.{◌≡◌, ℕ, ℤ, pos, ◌<◌, ◌*◌, ◌/◌, ◌%◌, true, length}
+use Rattle.px_num.proofs.Basics.{◌≡◌, ℕ, ℤ, pos, ◌<◌, ◌*◌, ◌/◌, ◌%◌, true, length}
 use Rattle.px_lanes.specs.Lanes.{HasValue}
 use Rattle.px_macro.specs.Fields.{number_in}
 use Rattle.px_num.specs.Bits.{carry_from, nat_bit}

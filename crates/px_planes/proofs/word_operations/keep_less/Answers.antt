@@ -1,6 +1,5 @@
-use Rattle.std.proofs.Common.{◌≡◌, ◌∙◌, Bool, ℕ, pos, ◌^◌, ◌<◌, ◌%◌, length, not, nat_le, nat_lt, ap, sym, arith, rules}
-use Rattle.std.proofs.Math.Nat.{mod-eq_of_lt}
-use Rattle.std.proofs.lemmas.Bool.Decides.{nat_tests}
+use Rattle.px_num.proofs.Basics.{◌≡◌, ◌∙◌, Bool, ℕ, pos, ◌^◌, ◌<◌, ◌%◌, length, not, nat_le, nat_lt, ap, arith, rules}
+use Rattle.px_num.proofs.Basics.{mod-eq_of_lt, nat_tests}
 use Rattle.px_asm.specs.Microprograms.{bits_of}
 use Rattle.px_lanes.specs.Lanes.{HasValue}
 use Rattle.px_macro.specs.Fields.{number_in}
@@ -25,11 +24,7 @@ returns c =
     (λ p within here.
     let small : p % 64 < 64 = omega arith in
     let memory = (pixel_in planes p).memory in
-    let h : HasValue values (p % 64) (pos (number_in g memory)) = record {
-      each = λ t low.
-          c.read_words.ensures.bits t p (omega (arith, low, c.read_words.ensures.words)) within here
-          ∙ sym (c.laws_of_fields.ensures.bits g memory t (omega (arith, low, long)));
-    } in
+    let h : HasValue values (p % 64) (pos (number_in g memory)) = grind arith in
     let rest : number_in g memory % 2 ^ f.len ≡ number_in g memory =
     mod-eq_of_lt (rw (c.requires.fields.length) (c.laws_of_fields.ensures.below g memory)) in
     ap (λ (b : Bool). bits_of (kept b (pixel_in planes p)))

@@ -1,4 +1,4 @@
-use Rattle.std.proofs.Common.{◌++◌, ◌∙◌, ap, arith}
+use Rattle.px_num.proofs.Basics.{◌++◌, ◌∙◌, ap, arith}
 use Rattle.px_array.specs.Arrays.{pixel_of}
 use Rattle.px_num.specs.Bits.{bit_at}
 use Rattle.px_playing.specs.Memories.{bit_digit, digits_of}

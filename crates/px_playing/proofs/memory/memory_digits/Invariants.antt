@@ -1,4 +1,4 @@
-use Rattle.std.proofs.Common.{◌≡◌, length}
+use Rattle.px_num.proofs.Basics.{◌≡◌, length}
 use Rattle.px_array.specs.Arrays.{pixel_of}
 use Rattle.px_playing.specs.Memories.{digits_of}
 use Rattle.px_playing.proofs.memory.memory_digits.Given as goal

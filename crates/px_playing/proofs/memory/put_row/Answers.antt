@@ -1,5 +1,4 @@
-use Rattle.std.proofs.Common.{◌+◌, ◌-◌, ◌<◌, ℕ, List, ◌∙◌, arith}
-use Rattle.std.specs.List.{flat_map, range_with_len}
+use Rattle.px_num.proofs.Basics.{◌+◌, ◌-◌, ◌<◌, ℕ, List, ◌∙◌, arith, flat_map, range_with_len}
 use Rattle.px_array.specs.Arrays.{pixel_of}
 use Rattle.px_asm.specs.Microprograms.{bits_of}
 use Rattle.px_playing.specs.Memories.{line_of_pixel}

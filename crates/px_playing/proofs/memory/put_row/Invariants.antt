@@ -1,4 +1,4 @@
-use Rattle.std.proofs.Common.{◌≡◌}
+use Rattle.px_num.proofs.Basics.{◌≡◌}
 use Rattle.px_array.specs.Arrays.{pixel_of}
 use Rattle.px_asm.specs.Microprograms.{bits_of}
 use Rattle.px_playing.specs.Memories.{row_lines}

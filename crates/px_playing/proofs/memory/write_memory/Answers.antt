@@ -1,6 +1,5 @@
-use Rattle.std.proofs.Common.{◌≡◌, ◌+◌, ◌-◌, ◌^◌, ◌<◌, ℕ, List, [], ◌∙◌, ap, sym, arith}
+use Rattle.px_num.proofs.Basics.{◌≡◌, ◌+◌, ◌-◌, ◌^◌, ◌<◌, ℕ, List, [], ◌∙◌, ap, sym, arith, flat_map, range_with_len}
 use Rattle.std.proofs.lemmas.List.{append-nil}
-use Rattle.std.specs.List.{flat_map, range_with_len}
 use Rattle.px_array.specs.Arrays.{pixel_of}
 use Rattle.px_asm.specs.Microprograms.{bits_of}
 use Rattle.px_playing.specs.Memories.{row_lines}

@@ -1,21 +1,14 @@
-use Rattle.std.proofs.Common.{◌∙◌, refl, sym}
+use Rattle.px_num.proofs.Basics.{arith, ◌∙◌, sym}
 use Rattle.px_sched.specs.Passes.{passes}
 use Rattle.px_playing.proofs.PassesLemmas.{lawful_here, puts_next, puts_next_front, puts_start}
 use Rattle.px_io.proofs.ToldLaws.{on_err}
 use Rattle.px_playing.proofs.passes.put_passes.Goals as goal
 
 pub loop-m-init : goal.loop-m-init
-loop-m-init g c = record {
-  stands = c.start-cursor.ensures.stands c.args.scene.now c.requires.few;
-  put = puts_start _ _ (passes c.args.scene.now) _ c.start-cursor.ensures.given;
-  calm = refl;
-}
+loop-m-init g c = grind (arith, puts_start)
 
 pub macro_line-requires : goal.macro_line-requires
-macro_line-requires g c = record {
-  lawful = lawful_here 256 (passes c.args.scene.now) c.loop-m.cursor.given c.in-Some.m
-      (sym c.next_macro.ensures.operation ∙ c.in-Some.is) c.requires.lawful;
-}
+macro_line-requires g c = grind (arith, lawful_here)
 
 pub loop-m-preserved : goal.loop-m-preserved
 loop-m-preserved g c = record {

@@ -1,5 +1,4 @@
-use Rattle.std.proofs.Common.{◌≡◌, ◌-◌, length, take}
-use Rattle.std.specs.List.{flat_map}
+use Rattle.px_num.proofs.Basics.{◌≡◌, ◌-◌, length, take, flat_map}
 use Rattle.px_sched.specs.Cursors.{Stands}
 use Rattle.px_sched.specs.Passes.{passes}
 use Rattle.px_listing.specs.Listings.{macro_line}

@@ -1,5 +1,4 @@
-use Rattle.std.proofs.Common.{arith}
-use Rattle.std.specs.List.{flat_map}
+use Rattle.px_num.proofs.Basics.{arith, flat_map}
 use Rattle.px_model.specs.Grids.{exponent_of}
 use Rattle.px_sched.specs.Passes.{passes}
 use Rattle.px_listing.specs.Listings.{end_line, listing_head, macro_line}
@@ -9,15 +8,10 @@ use Rattle.px_io.proofs.ToldLaws.{on_err}
 use Rattle.px_playing.proofs.passes.write_passes.Goals as goal
 
 pub put_passes-requires-clause-few : goal.put_passes-requires-clause-few
-put_passes-requires-clause-few g c =
-    let few = c.laws_of_passes.ensures.few c.args.scene.now c.laws_of_scenes.ensures.solids c.requires.few in
-    omega (arith, few)
+put_passes-requires-clause-few g c = grind arith
 
 pub put_passes-requires-clause-lawful : goal.put_passes-requires-clause-lawful
-put_passes-requires-clause-lawful g c =
-    let laws = c.laws_of_passes.ensures in
-    passes_lawful_in_all c.laws_of_operations.ensures.more laws.layout laws.lawful c.args.scene.now
-    c.laws_of_scenes.ensures.scene c.laws_of_scenes.ensures.solids
+put_passes-requires-clause-lawful g c = grind (arith, passes_lawful_in_all)
 
 pub returns-in_err-put_first_lines-clause-err : goal.returns-in_err-put_first_lines-clause-err
 returns-in_err-put_first_lines-clause-err g c =
@@ -36,17 +30,7 @@ returns-in_err-put_passes-clause-err g c =
     c.new-piece.ensures first c.in_err-put_passes.ensures.err)
 
 pub returns-clause-ok : goal.returns-clause-ok
-returns-clause-ok g c =
-    let scene = c.args.scene.now in
-    let first = rw (c.grid-nx.ensures.columns, c.grid-nx.ensures.rows) at c.in_ok-put_first_lines.ensures.ok in
-    ok_to_last _ _ _ _ _ _ _ _ (listing_head (exponent_of scene.width) (exponent_of scene.height))
-    (flat_map macro_line (passes scene)) end_line
-    c.new-piece.ensures first c.in_ok-put_passes.ensures.ok c.put_end.ensures.ok
+returns-clause-ok g c = grind (arith, ok_to_last)
 
 pub returns-clause-err : goal.returns-clause-err
-returns-clause-err g c =
-    let scene = c.args.scene.now in
-    let first = rw (c.grid-nx.ensures.columns, c.grid-nx.ensures.rows) at c.in_ok-put_first_lines.ensures.ok in
-    err_to_last _ _ _ _ _ _ _ _ (listing_head (exponent_of scene.width) (exponent_of scene.height))
-    (flat_map macro_line (passes scene)) end_line
-    c.new-piece.ensures first c.in_ok-put_passes.ensures.ok c.put_end.ensures.err
+returns-clause-err g c = grind (arith, err_to_last)

@@ -1,17 +1,10 @@
-use Rattle.std.proofs.Common.{arith}
-use Rattle.std.proofs.Math.Pow.{pow_mono}
+use Rattle.px_num.proofs.Basics.{arith, pow_mono}
 use Rattle.px_prune.proofs.BoundingLemmas.{is_bounding_box}
 use Rattle.px_prune.proofs.PictureLemmas.{known}
 use Rattle.px_prune.proofs.bounds.box_of.Goals as goal
 
 pub grown-requires-clause-far : goal.grown-requires-clause-far
-grown-requires-clause-far c =
-    omega (
-      arith,
-      c.far.ensures,
-      pow_mono {i = c.args.scene.now.depth_bits} {j = 24}
-          (omega (arith, c.width.ensures.lawful.sizes.depth_limit)),
-    )
+grown-requires-clause-far c = grind (arith, pow_mono)
 
 pub returns-clause-least : goal.returns-clause-least
 returns-clause-least c =

@@ -1,4 +1,4 @@
-use Rattle.std.proofs.Common.{arith}
+use Rattle.px_num.proofs.Basics.{arith}
 use Rattle.px_normal.specs.Live.{boxes_in}
 use Rattle.px_prune.proofs.BoundingLemmas.{bounding_boxes}
 use Rattle.px_prune.proofs.PictureLemmas.{all_boxes, next_box}

@@ -1,4 +1,4 @@
-use Rattle.std.proofs.Common.{ℕ, ◌≡◌, ◌<◌, length, slice_index_or, None}
+use Rattle.px_num.proofs.Basics.{ℕ, ◌≡◌, ◌<◌, length, slice_index_or, None}
 use Rattle.px_prune.specs.Bounding.{IsBoundingBox}
 use Rattle.px_prune.proofs.bounds.boxes_of.Given as goal
 

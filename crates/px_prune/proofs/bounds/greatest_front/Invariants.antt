@@ -1,5 +1,4 @@
-use Rattle.std.proofs.Common.{◌≡◌, ◌≤ℤ◌, ◌<ℤ◌, ◌^◌, pos, map, take, fold}
-use Rattle.std.specs.Int.{int_max}
+use Rattle.px_num.proofs.Basics.{◌≡◌, ◌≤ℤ◌, ◌<ℤ◌, ◌^◌, pos, map, take, fold, int_max}
 use Rattle.px_prune.specs.Blocks.{least_in}
 use Rattle.px_prune.proofs.bounds.greatest_front.Given as goal
 

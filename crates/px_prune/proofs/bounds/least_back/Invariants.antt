@@ -1,5 +1,4 @@
-use Rattle.std.proofs.Common.{◌≡◌, ◌≤ℤ◌, pos, map, take, fold}
-use Rattle.std.specs.Int.{int_min}
+use Rattle.px_num.proofs.Basics.{◌≡◌, ◌≤ℤ◌, pos, map, take, fold, int_min}
 use Rattle.px_prune.specs.Blocks.{greatest_in}
 use Rattle.px_prune.proofs.bounds.least_back.Given as goal
 

@@ -1,4 +1,4 @@
-use Rattle.std.proofs.Common.{arith}
+use Rattle.px_num.proofs.Basics.{arith}
 use Rattle.px_model.specs.Cells.{depths}
 use Rattle.px_prune.proofs.ReachLemmas.{no_depth, no_side, some_reach}
 use Rattle.px_prune.proofs.bounds.reach.Goals as goal

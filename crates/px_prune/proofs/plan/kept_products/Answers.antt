@@ -1,6 +1,7 @@
-use Rattle.std.proofs.Common.{rules, tests, sym, ◌∙◌, None, slice_index_or}
+use Rattle.px_num.proofs.Basics.{rules, sym, ◌∙◌, None, slice_index_or, YieldsList-at, YieldsList-end}
+use Rattle.px_num.proofs.Basics.{YieldsList-from_filter_map}
+use Rattle.std.proofs.Common.{tests}
 use Rattle.std.proofs.lemmas.Iterator.{YieldsList-from_slice}
-use Rattle.std.proofs.lemmas.Iterator.Consumers.{YieldsList-at, YieldsList-end, YieldsList-from_filter_map}
 use Rattle.std.proofs.lemmas.List.{map-id}
 use Rattle.px_normal.specs.Live.{boxes_in}
 use Rattle.px_prune.specs.Kept.{pruned}

@@ -1,4 +1,4 @@
-use Rattle.std.proofs.Common.{◌≡◌}
+use Rattle.px_num.proofs.Basics.{◌≡◌}
 use Rattle.px_prune.proofs.plan.kept_products.Given as goal
 
 abbrev pub invariant-loop-product : goal.invariant-loop-product

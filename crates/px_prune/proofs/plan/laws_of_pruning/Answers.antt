@@ -1,4 +1,4 @@
-use Rattle.std.proofs.Common.{arith, ◌<◌, ◌^◌}
+use Rattle.px_num.proofs.Basics.{arith, ◌<◌, ◌^◌}
 use Rattle.px_model.specs.Cells.{depths_of, leaf_cell}
 use Rattle.px_prune.specs.Bounding.{bounding_box}
 use Rattle.px_prune.proofs.BoundingLemmas.{bounding_is}
@@ -15,11 +15,7 @@ returns-clause-law c scene lawful products x y z left up before =
     omega (arith, before, small_far scene.depth_bits (omega (arith, lawful.sizes.depth_limit)))
     in let at = leaf_cell scene.solids (depths_of scene) x y z
     in let fits = boxes_have_cells scene (bounding_box scene) (bounding_is scene) x y left up z
-    in record {
-      members = kept_holds c.laws_of_sets.ensures (bounding_box scene) at x y z near_x near_y near_z fits products;
-      faces = λ face. kept_shows c.laws_of_sets.ensures (bounding_box scene) at x y z near_x near_y near_z fits
-          products face;
-    }
+    in grind (arith, kept_holds, kept_shows)
 
 pub returns-clause-apart : goal.returns-clause-apart
 returns-clause-apart c scene products = kept_apart c.laws_of_sets.ensures (bounding_box scene) products

@@ -1,4 +1,4 @@
-use Rattle.std.proofs.Common.{◌≡◌, ◌*◌}
+use Rattle.px_num.proofs.Basics.{◌≡◌, ◌*◌}
 use Rattle.px_refine.specs.Sums.{AreSumsAtMost, block_sums, strip_colour}
 use Rattle.px_refine.proofs.refined.block_sums.Given as goal
 

@@ -1,4 +1,4 @@
-use Rattle.std.proofs.Common.{◌*◌, ap, ◌∙◌, arith}
+use Rattle.px_num.proofs.Basics.{◌*◌, ap, ◌∙◌, arith}
 use Rattle.px_refine.specs.Sums.{block_sums, mean_of, strip_colour}
 use Rattle.px_refine.proofs.refined.mean_at.Goals as goal
 

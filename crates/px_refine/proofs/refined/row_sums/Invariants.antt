@@ -1,4 +1,4 @@
-use Rattle.std.proofs.Common.{◌≡◌, ◌*◌}
+use Rattle.px_num.proofs.Basics.{◌≡◌, ◌*◌}
 use Rattle.px_refine.specs.Sums.{AreSumsAtMost, row_sums, strip_colour}
 use Rattle.px_refine.proofs.refined.row_sums.Given as goal
 

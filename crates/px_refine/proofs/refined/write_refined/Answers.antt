@@ -1,35 +1,14 @@
-use Rattle.std.proofs.Common.{◌≡◌, ◌+◌, ◌*◌, ◌/◌, ◌^◌, ◌<◌, ap, arith, refl}
-use Rattle.std.proofs.Math.Nat.{mul-div-le}
+use Rattle.px_num.proofs.Basics.{◌≡◌, ◌+◌, ◌*◌, ◌/◌, ◌^◌, ◌<◌, arith, refl, mul-div-le}
 use Rattle.px_frame.specs.Picture.{header, row_of_pixels}
 use Rattle.px_frame.proofs.RowLaws.{other_row, rows_broken, rows_grown}
 use Rattle.px_frame.specs.Stored.{stored_colour}
-use Rattle.px_sched.specs.Layouts.{LayoutView}
 use Rattle.px_refine.specs.Refined.{mean_pixel}
 use Rattle.px_io.proofs.ToldLaws.{on_err}
 use Rattle.px_refine.proofs.MeanLemmas.{block_fits, faces_held, next_in_strip, row_held}
 use Rattle.px_refine.proofs.refined.write_refined.Goals as goal
 
 pub enter_row-requires : goal.enter_row-requires
-enter_row-requires g c =
-    let s = c.args.s in
-    let lawful = c.width-in-loop-y.ensures.lawful in
-    let laid = c.b_number-faces.ensures.lawful in
-    let first = ap (λ (l : LayoutView). l.key_b.at) laid.fields in
-    let above : c.loop-y.y < c.args.fine.now.height / 2 ^ s =
-    rw (c.height.ensures.value, c.parts-across.ensures.value) at c.loop-y-test.true in
-    let fits = block_fits s c.loop-y.y c.args.fine.now.height above in
-    rw (c.width-in-loop-y.ensures.value, c.parts-across.ensures.value, c.b_number-faces.ensures.field) (record {
-      numbers = record {
-        is_open = c.requires.open;
-        columns = c.requires.columns;
-        wide = lawful.sizes.width_limit;
-        row = omega (arith, fits, c.requires.rows);
-        room = omega (arith, first, c.requires.room);
-        low = omega (arith, first);
-        few = omega (arith, laid.number);
-      };
-      before = λ further. rw c.b_number-faces.ensures.field at (c.loop-y.invariant.strip further);
-    })
+enter_row-requires g c = grind (arith, block_fits)
 
 pub mean_row-row-requires-clause-faces : goal.mean_row-row-requires-clause-faces
 mean_row-row-requires-clause-faces g c =

@@ -1,5 +1,4 @@
-use Rattle.std.proofs.Common.{◌≡◌, ◌≢◌, ◌*◌, ◌%◌, ◌^◌, ◌++◌}
-use Rattle.std.specs.List.{flat_map, range_with_len}
+use Rattle.px_num.proofs.Basics.{◌≡◌, ◌≢◌, ◌*◌, ◌%◌, ◌^◌, ◌++◌, flat_map, range_with_len}
 use Rattle.px_io.specs.Told.{TakesAll}
 use Rattle.px_frame.specs.Picture.{header, row_of_pixels}
 use Rattle.px_frame.specs.Stored.{stored_colour}

@@ -1,4 +1,4 @@
-use Rattle.std.proofs.Common.{◌-◌, arith}
+use Rattle.px_num.proofs.Basics.{◌-◌, arith}
 use Rattle.px_rows.proofs.BlockLemmas.{word_read, word_written}
 use Rattle.px_rows.proofs.blocks.add_block.Goals as goal
 

@@ -1,4 +1,4 @@
-use Rattle.std.proofs.lemmas.Simd.{get_or-chunk}
+use Rattle.px_num.proofs.Basics.{get_or-chunk}
 use Rattle.px_rows.proofs.blocks.read.Goals as goal
 
 pub returns : goal.returns

@@ -1,4 +1,4 @@
-use Rattle.std.proofs.Common.{◌<◌, length, length-set, get_or, arith}
+use Rattle.px_num.proofs.Basics.{◌<◌, length, length-set, get_or, arith}
 use Rattle.px_rows.specs.Words.{IsAdded, IsCarried}
 use Rattle.px_rows.proofs.WriteLemmas.{write_more, write_rest}
 use Rattle.px_rows.proofs.rows.add_row.Goals as goal

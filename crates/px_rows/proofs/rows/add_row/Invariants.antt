@@ -1,4 +1,4 @@
-use Rattle.std.proofs.Common.{length, ◌-◌, ◌≡◌, ℕ, ◌<◌, ◌≤◌, get_or}
+use Rattle.px_num.proofs.Basics.{length, ◌-◌, ◌≡◌, ℕ, ◌<◌, ◌≤◌, get_or}
 use Rattle.px_rows.specs.Words.{IsAdded, IsCarried}
 use Rattle.px_rows.proofs.rows.add_row.Given as goal
 

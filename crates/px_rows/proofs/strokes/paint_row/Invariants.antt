@@ -1,4 +1,4 @@
-use Rattle.std.proofs.Common.{◌≡◌, ℕ, ◌<◌, ◌≤◌, cond, get_or}
+use Rattle.px_num.proofs.Basics.{◌≡◌, ℕ, ◌<◌, ◌≤◌, cond, get_or}
 use Rattle.px_num.specs.Bits.{nat_bit}
 use Rattle.px_rows.proofs.strokes.paint_row.Given as goal
 

@@ -1,4 +1,4 @@
-use Rattle.std.proofs.Common.{◌≡◌, ℕ, suc, ◌+◌, ◌-◌, ◌*◌, ◌/◌, ◌%◌, ◌<◌, ◌≤◌, cond, get_or, arith}
+use Rattle.px_num.proofs.Basics.{◌≡◌, ℕ, suc, ◌+◌, ◌-◌, ◌*◌, ◌/◌, ◌%◌, ◌<◌, ◌≤◌, cond, get_or, arith}
 use Rattle.px_num.specs.Bits.{majority, nat_bit, xor}
 use Rattle.px_rows.specs.Rows.{row_bit}
 use Rattle.px_rows.specs.Sums.{value_on}

@@ -1,4 +1,4 @@
-use Rattle.std.proofs.Common.{◌≡◌, ℕ, ◌*◌, ◌/◌, ◌%◌, ◌<◌, ◌≤◌, cond, get_or}
+use Rattle.px_num.proofs.Basics.{◌≡◌, ℕ, ◌*◌, ◌/◌, ◌%◌, ◌<◌, ◌≤◌, cond, get_or}
 use Rattle.px_num.specs.Bits.{majority, nat_bit, xor}
 use Rattle.px_rows.specs.Rows.{row_bit}
 use Rattle.px_rows.specs.Sums.{value_in, value_on}
@@ -8,9 +8,8 @@ abbrev pub invariant-loop-block : goal.invariant-loop-block
 invariant-loop-block l =
     let value = value_on l.fn.value l.step l.fn.first
     in record {
-      target : (p : ℕ) → p < 512 * l.block → row_bit l.target p
-          ≡ cond (row_bit l.mask p) (xor (value p) (xor (row_bit l.fn.target p) (row_bit l.fn.second p)))
-          (row_bit l.fn.target p);
+      target : (p : ℕ) → p < 512 * l.block → row_bit l.target p ≡ cond (row_bit l.mask p)
+          (xor (value p) (xor (row_bit l.fn.target p) (row_bit l.fn.second p))) (row_bit l.fn.target p);
       first : (p : ℕ) → p < 512 * l.block → row_bit l.first p ≡ majority (value p) l.step (row_bit l.fn.first p);
       second : (p : ℕ) → p < 512 * l.block → row_bit l.second p
           ≡ majority (value p) (row_bit l.fn.target p) (row_bit l.fn.second p);

@@ -1,5 +1,4 @@
-use Rattle.std.proofs.Common.{◌≡◌, ◌++◌}
-use Rattle.std.specs.List.{flat_map, range_with_len}
+use Rattle.px_num.proofs.Basics.{◌≡◌, ◌++◌, flat_map, range_with_len}
 use Rattle.px_sample.specs.Sample.{block_lines, sample_start}
 use Rattle.px_sample.proofs.sample.sample_text.Given as goal
 

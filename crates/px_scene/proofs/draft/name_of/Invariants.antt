@@ -1,4 +1,4 @@
-use Rattle.std.proofs.Common.{◌≡◌, take}
+use Rattle.px_num.proofs.Basics.{◌≡◌, take}
 use Rattle.px_scene.proofs.draft.name_of.Given as goal
 
 abbrev pub invariant-loop-byte : goal.invariant-loop-byte

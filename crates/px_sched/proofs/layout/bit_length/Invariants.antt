@@ -1,5 +1,4 @@
-use Rattle.std.proofs.Common.{◌≡◌, ◌≤◌, ◌^◌, nat_le, count_by}
-use Rattle.std.specs.List.{range_with_len}
+use Rattle.px_num.proofs.Basics.{◌≡◌, ◌≤◌, ◌^◌, nat_le, count_by, range_with_len}
 use Rattle.px_sched.proofs.layout.bit_length.Given as goal
 
 abbrev pub invariant-loop-bit : goal.invariant-loop-bit

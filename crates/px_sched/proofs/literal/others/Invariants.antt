@@ -1,4 +1,4 @@
-use Rattle.std.proofs.Common.{◌≡◌, ◌≤◌, ◌==◌, filter, not, take}
+use Rattle.px_num.proofs.Basics.{◌≡◌, ◌≤◌, ◌==◌, filter, not, take}
 use Rattle.arrayvec.specs.ArrayVec.{array_vec_len}
 use Rattle.px_sched.proofs.literal.others.Given as goal
 

@@ -1,4 +1,4 @@
-use Rattle.std.proofs.Common.{◌≡◌, ◌+◌, ◌++◌, take}
+use Rattle.px_num.proofs.Basics.{◌≡◌, ◌+◌, ◌++◌, take}
 use Rattle.arrayvec.specs.ArrayVec.{array_vec_len}
 use Rattle.px_sched.specs.Passes.{literals_of}
 use Rattle.px_sched.proofs.literal.push_literals.Given as goal

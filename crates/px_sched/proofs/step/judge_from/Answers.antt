@@ -1,4 +1,4 @@
-use Rattle.std.proofs.Common.{arith}
+use Rattle.px_num.proofs.Basics.{arith}
 use Rattle.px_sched.proofs.StepLemmas.{begins}
 use Rattle.px_sched.proofs.step.judge_from.Goals as goal
 

@@ -1,16 +1,7 @@
-use Rattle.std.proofs.Common.{arith, ◌≡◌, ◌+◌, take, ◌∙◌, refl}
-use Rattle.std.proofs.lemmas.List.{take_all}
+use Rattle.px_num.proofs.Basics.{arith, ◌≡◌, ◌+◌, take, ◌∙◌, refl, take_all}
 use Rattle.px_io.proofs.ToldLaws.{on_err}
-use Rattle.px_session.proofs.FeedingLemmas.{broke_in, fed_more, fed_none, fed_quit_in}
+use Rattle.px_session.proofs.FeedingLemmas.{broke_in, fed_more, fed_quit_in}
 use Rattle.px_session.proofs.feed.feed.Goals as goal
-
-pub loop-byte-init : goal.loop-byte-init
-loop-byte-init g c = record {
-  fits = c.requires.fits;
-  fed = λ line is. fed_none _ line _ _ is;
-  count = omega arith;
-  calm = refl;
-}
 
 pub loop-byte-preserved : goal.loop-byte-preserved
 loop-byte-preserved g c =

@@ -1,9 +1,9 @@
-use Rattle.std.proofs.Common.{◌≡◌, ◌+◌, ◌≤◌, List, ℕ, take}
+use Rattle.px_num.proofs.Basics.{◌≡◌, ◌+◌, ◌≤◌, List, ℕ, take}
 use Rattle.px_debug.specs.Moves.{Fits}
-use Rattle.px_debug.specs.declared.session.Going.TheVariants as going
 use Rattle.px_session.specs.Buffers.{short}
 use Rattle.px_session.specs.Sessions.{stand}
 use Rattle.px_session.specs.Turns.{Fed, typed}
+use Rattle.px_debug.specs.declared.session.Going.TheVariants as going
 use Rattle.px_session.proofs.feed.feed.Given as goal
 
 abbrev pub invariant-loop-byte : goal.invariant-loop-byte

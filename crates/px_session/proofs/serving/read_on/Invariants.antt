@@ -1,4 +1,4 @@
-use Rattle.std.proofs.Common.{◌+◌, ◌<◌, ◌^◌, ◌-◌}
+use Rattle.px_num.proofs.Basics.{◌+◌, ◌<◌, ◌^◌, ◌-◌}
 use Rattle.px_debug.specs.Moves.{Fits}
 use Rattle.px_session.specs.Catching.{Begun, Caught}
 use Rattle.px_session.specs.Prompts.{moment}

@@ -1,9 +1,8 @@
-use Rattle.std.proofs.Common.{◌≤◌, length, take, drop, arith, refl}
+use Rattle.px_num.proofs.Basics.{◌≤◌, length, take, drop, arith, refl}
 use Rattle.std.proofs.lemmas.List.{length-take}
 use Rattle.px_asked.proofs.AskLaws.{read_gave}
 use Rattle.px_session.proofs.TurningLemmas.{caught_fed, prompts_ask, seen_read, stopped_broke, stopped_end}
-use Rattle.px_session.proofs.TurningLemmas.{stopped_fault}
-use Rattle.px_session.proofs.TurningLemmas.{stopped_last, stopped_long, stopped_quit}
+use Rattle.px_session.proofs.TurningLemmas.{stopped_fault, stopped_last, stopped_long, stopped_quit}
 use Rattle.px_session.proofs.serving.turn.Goals as goal
 
 pub returns-in_default-clause-stopped : goal.returns-in_default-clause-stopped

@@ -1,6 +1,5 @@
-use Rattle.std.proofs.Common.{arith, inl, inr, w64}
-use Rattle.std.proofs.lemmas.Bool.{cases_eq}
-use Rattle.std.proofs.lemmas.Nat.Bits.{bit_at-trailing_zeros, bit_at-zero}
+use Rattle.px_num.proofs.Basics.{arith, inl, inr, w64, cases_eq, bit_at-zero}
+use Rattle.std.proofs.lemmas.Nat.Bits.{bit_at-trailing_zeros}
 use Rattle.px_sets.proofs.set.clear_bits.Goals as goal
 
 pub returns-clause-clear : goal.returns-clause-clear

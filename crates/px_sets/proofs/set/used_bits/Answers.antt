@@ -1,4 +1,4 @@
-use Rattle.std.proofs.Common.{◌<◌, ◌^◌, arith, subst}
+use Rattle.px_num.proofs.Basics.{◌<◌, ◌^◌, arith, subst}
 use Rattle.std.proofs.lemmas.Nat.{leading_length}
 use Rattle.px_sets.proofs.set.used_bits.Goals as goal
 

@@ -1,7 +1,5 @@
-use Rattle.std.proofs.Common.{rules, arith, ap, ◌==◌, ◌∙◌}
-use Rattle.std.proofs.lemmas.Iterator.Consumers.{YieldsList-at, YieldsList-end, YieldsList-from_filter}
-use Rattle.std.proofs.lemmas.Iterator.Splits.{YieldsList-from_slice_split}
-use Rattle.std.specs.List.{before_first}
+use Rattle.px_num.proofs.Basics.{rules, arith, ap, ◌==◌, ◌∙◌, YieldsList-at, YieldsList-end, YieldsList-from_filter}
+use Rattle.px_num.proofs.Basics.{YieldsList-from_slice_split, before_first}
 use Rattle.px_text.specs.Text.{is_blank, is_some_byte, words_of}
 use Rattle.px_shadow.specs.Saying.{said_of}
 use Rattle.px_shadow.proofs.light.light_of.Goals as goal

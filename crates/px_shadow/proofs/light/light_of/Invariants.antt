@@ -1,4 +1,4 @@
-use Rattle.std.proofs.Common.{◌≡◌}
+use Rattle.px_num.proofs.Basics.{◌≡◌}
 use Rattle.px_text.specs.LentWords.{now_of}
 use Rattle.px_shadow.specs.Saying.{said_of}
 use Rattle.px_shadow.proofs.light.light_of.Given as goal

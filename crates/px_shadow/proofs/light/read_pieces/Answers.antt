@@ -1,9 +1,6 @@
-use Rattle.std.proofs.Common.{rules, ◌≡◌, ◌<◌, ◌+◌, ◌==◌, ◌∙◌, [], ◌∷◌, ◌++◌, length, arith}
-use Rattle.std.proofs.Common.{length-append}
-use Rattle.std.specs.List.{slice_split}
-use Rattle.std.proofs.lemmas.Iterator.Consumers.{YieldsList-at, YieldsList-end, YieldsList-turn}
-use Rattle.std.proofs.lemmas.Iterator.Splits.{YieldsList-from_slice_split}
-use Rattle.std.proofs.lemmas.List.{length-map}
+use Rattle.px_num.proofs.Basics.{rules, ◌≡◌, ◌<◌, ◌+◌, ◌==◌, ◌∙◌, [], ◌∷◌, ◌++◌, length, arith, length-append}
+use Rattle.px_num.proofs.Basics.{slice_split, YieldsList-at, YieldsList-end, YieldsList-turn}
+use Rattle.px_num.proofs.Basics.{YieldsList-from_slice_split, length-map}
 use Rattle.px_text.specs.Text.{words_of}
 use Rattle.px_shadow.specs.Saying.{pieces_of}
 use Rattle.px_shadow.proofs.LineLemmas.{all_read, line_at, step_bad, step_each, step_good}
@@ -11,11 +8,9 @@ use Rattle.px_shadow.proofs.light.read_pieces.Goals as goal
 
 pub loop-piece-preserved : goal.loop-piece-preserved
 loop-piece-preserved c =
-    let ss = c.args.scene.now.solids in
     let pieces = slice_split (λ b. b == 10) c.args.text.now in
     let lines = pieces_of c.args.text.now in
     let k = length c.loop-piece.yielded in
-    let i = c.loop-piece.invariant in
     let turn =
     YieldsList-turn
     (YieldsList-at c.into_iter-piece-iterator.ensures.into_iter_gives
@@ -27,20 +22,13 @@ loop-piece-preserved c =
     let next : length (c.loop-piece.yielded ++ c.in-Some.piece ∷ []) ≡ k + 1 =
     length-append c.loop-piece.yielded (c.in-Some.piece ∷ []) in
     let made = c.in-Ok.ensures in
-    rw next (record {
-      good = step_good ss c.args.first_line lines k c.loop-piece.line _ _ low is i.line i.each i.good made.good;
-      each = step_each ss lines k _ _ _ low is i.each made.lights;
-      known = made.known;
-      line = omega (arith, i.line);
-    })
+    grind (arith, step_good, step_each)
 
 pub returns-in-Err-clause-fault : goal.returns-in-Err-clause-fault
 returns-in-Err-clause-fault c =
-    let ss = c.args.scene.now.solids in
     let pieces = slice_split (λ b. b == 10) c.args.text.now in
     let lines = pieces_of c.args.text.now in
     let k = length c.loop-piece.yielded in
-    let i = c.loop-piece.invariant in
     let turn =
     YieldsList-turn
     (YieldsList-at c.into_iter-piece-iterator.ensures.into_iter_gives
@@ -49,8 +37,7 @@ returns-in-Err-clause-fault c =
     c.loop-piece.yielded _ c.loop-piece.yielded_by _ _ c.in-Some.piece c.in-Some.is c.next.ensures.steps in
     let low : k < length lines = omega (arith, turn.0, length-map pieces words_of) in
     let is = line_at pieces k c.in-Some.piece.now turn.0 turn.1 in
-    step_bad ss c.args.first_line lines k c.loop-piece.line _ _ c.in-Err.fault low is i.line i.each i.good
-    c.in-Err.ensures.fault
+    grind (arith, step_bad)
 
 pub returns-clause-ok : goal.returns-clause-ok
 returns-clause-ok c =

@@ -1,4 +1,4 @@
-use Rattle.std.proofs.Common.{◌≡◌, ◌+◌, All, length, take}
+use Rattle.px_num.proofs.Basics.{◌≡◌, ◌+◌, All, length, take}
 use Rattle.px_sets.specs.Sets.{IsBelow}
 use Rattle.px_show.proofs.JudgedLaws.{AreGood}
 use Rattle.px_shadow.specs.LightLines.{light_fault_behind, lights_of}

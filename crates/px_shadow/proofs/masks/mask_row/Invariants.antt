@@ -1,4 +1,4 @@
-use Rattle.std.proofs.Common.{◌≡◌, ◌*◌}
+use Rattle.px_num.proofs.Basics.{◌≡◌, ◌*◌}
 use Rattle.arrayvec.specs.ArrayVec.{array_vec_len}
 use Rattle.px_frame.specs.Rows.{row_bytes}
 use Rattle.px_frame.specs.Strips.{strip_number}

@@ -1,16 +1,11 @@
-use Rattle.std.proofs.Common.{◌≡◌, ◌+◌, ◌^◌, ◌<◌, arith}
-use Rattle.px_io.proofs.ToldLaws.{front_before, on_err}
+use Rattle.px_num.proofs.Basics.{◌≡◌, ◌+◌, ◌^◌, ◌<◌, arith}
+use Rattle.px_io.proofs.ToldLaws.{on_err}
 use Rattle.px_frame.specs.Picture.{header}
 use Rattle.px_frame.specs.Rows.{row_bytes}
 use Rattle.px_frame.proofs.RowLaws.{other_row, rows_broken, rows_grown}
 use Rattle.px_shadow.specs.Stored.{stored_number}
 use Rattle.px_shadow.proofs.MaskLemmas.{row_stored}
 use Rattle.px_shadow.proofs.masks.write_masks.Goals as goal
-
-pub returns-in_err-write_whole-clause-err : goal.returns-in_err-write_whole-clause-err
-returns-in_err-write_whole-clause-err g c =
-    let bytes : c.as_bytes.result.now ≡ header c.args.scene.now.width c.args.scene.now.height = cc
-    in on_err _ (front_before _ _ _ _ (rw bytes at c.in_err-write_whole.ensures.err))
 
 pub returns-in_err-write_whole-2-clause-err : goal.returns-in_err-write_whole-2-clause-err
 returns-in_err-write_whole-2-clause-err g c =

@@ -1,5 +1,4 @@
-use Rattle.std.proofs.Common.{◌+◌, drop, get_or, subst}
-use Rattle.std.proofs.lemmas.List.{drop_all}
+use Rattle.px_num.proofs.Basics.{◌+◌, drop, get_or, subst, drop_all}
 use Rattle.px_shadow.specs.Carrying.{IsRestOf, view_by}
 use Rattle.px_shadow.specs.ShadowPasses.{light_passes, passes_from, shadow_passes}
 use Rattle.px_shadow.proofs.DeviceLemmas.{left_first, left_next, none_left}

@@ -1,4 +1,4 @@
-use Rattle.std.proofs.Common.{◌+◌, drop}
+use Rattle.px_num.proofs.Basics.{◌+◌, drop}
 use Rattle.px_shadow.specs.Carrying.{IsRestOf, view_by}
 use Rattle.px_shadow.specs.ShadowPasses.{passes_from, shadow_passes}
 use Rattle.px_shadow.proofs.passes.all_lights.Given as goal

@@ -1,11 +1,8 @@
-use Rattle.std.proofs.Common.{◌<◌, ◌≤◌, false, [], ◌∷◌, length, ap, arith}
-use Rattle.std.specs.List.{range_with_len}
-use Rattle.std.proofs.lemmas.List.FromFn.{length-range_with_len}
-use Rattle.px_macro.specs.declared.operation.Macro.TheVariants as m
+use Rattle.px_num.proofs.Basics.{rules, ◌<◌, ap, arith, nat_tests, common_steps, range_with_len, length-range_with_len}
 use Rattle.px_macro.specs.declared.field.Field.{Field}
-use Rattle.px_shadow.specs.ShadowPasses.{background_passes, light_bit}
 use Rattle.px_shadow.proofs.DeviceLemmas.{all_left, each_done, each_first, each_next, last_made, left_next}
 use Rattle.px_shadow.proofs.StepLemmas.{bit_test, number_at, tests_are}
+use Rattle.px_macro.specs.declared.operation.Macro.TheVariants as m
 use Rattle.px_shadow.proofs.passes.background.Goals as goal
 
 pub carry_out-requires-in-loop-t : goal.carry_out-requires-in-loop-t
@@ -20,11 +17,7 @@ carry_out-requires-in-loop-t g c =
     c.loop-t.invariant)
 
 pub loop-t-init : goal.loop-t-init
-loop-t-init g c =
-    let l = c.args.layout.now in
-    let tail = m.SetBit (light_bit l c.args.light) false ∷ [] in
-    let start = all_left _ _ _ _ (background_passes l c.args.light) _ c.requires.can in
-    rw tests_are at (left_next _ _ _ _ _ (m.All ∷ []) _ _ _ _ start c.carry_out.ensures)
+loop-t-init g c = search (rules, all_left, tests_are, left_next, c.args.layout.now, m.SetBit, m.All)
 
 pub loop-t-preserved : goal.loop-t-preserved
 loop-t-preserved g c =
@@ -37,11 +30,4 @@ loop-t-preserved g c =
     c.loop-t.invariant (rw part at c.carry_out-in-loop-t.ensures)
 
 pub returns : goal.returns
-returns g c =
-    let l = c.args.layout.now in
-    let xs = range_with_len 0 l.number_bits in
-    let part = c.b_number-number.ensures.field in
-    let past : length xs ≤ c.loop-t.t =
-    omega (arith, c.loop-t-test.false, ap (λ (f : Field). f.len) part, length-range_with_len 0 l.number_bits) in
-    last_made _ _ _ _ _ _ _ _ _ (each_done _ _ _ _ (bit_test l) xs c.loop-t.t _ _ _ _ past c.loop-t.invariant)
-    (rw c.light_bit.ensures at c.carry_out-2.ensures)
+returns g c = grind (arith, nat_tests, common_steps, length-range_with_len, last_made, each_done, bit_test)

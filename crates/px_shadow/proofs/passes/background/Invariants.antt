@@ -1,9 +1,8 @@
-use Rattle.std.proofs.Common.{false, [], ◌∷◌, ◌++◌, drop}
-use Rattle.std.specs.List.{flat_map, range_with_len}
-use Rattle.px_macro.specs.declared.operation.Macro.TheVariants as m
+use Rattle.px_num.proofs.Basics.{false, [], ◌∷◌, ◌++◌, drop, flat_map, range_with_len}
 use Rattle.px_shadow.specs.Carrying.{IsRestOf, view_by}
 use Rattle.px_shadow.specs.ShadowPasses.{background_passes, light_bit}
 use Rattle.px_shadow.proofs.StepLemmas.{bit_test}
+use Rattle.px_macro.specs.declared.operation.Macro.TheVariants as m
 use Rattle.px_shadow.proofs.passes.background.Given as goal
 
 -- the tests of the bits from one on are left

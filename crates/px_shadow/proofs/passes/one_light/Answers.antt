@@ -1,13 +1,13 @@
-use Rattle.std.proofs.Common.{◌<◌, ◌≤◌, true, [], ◌∷◌, ℕ, List, length, get_or, ap, subst, sym, arith, ◌∙◌}
+use Rattle.px_num.proofs.Basics.{◌<◌, true, [], ◌∷◌, ℕ, List, length, get_or, ap, subst, sym, arith, ◌∙◌}
 use Rattle.px_macro.specs.declared.operation.Macro.{Macro}
-use Rattle.px_macro.specs.declared.operation.Macro.TheVariants as m
 use Rattle.px_sets.specs.Sets.{solids}
 use Rattle.px_model.specs.Cells.{depths_of, end_of}
 use Rattle.px_sched.specs.Passes.{solid_of}
 use Rattle.px_shadow.specs.Carrying.{CanCarryOut, CarriesOut, view_by}
 use Rattle.px_shadow.specs.ShadowPasses.{light_bit, light_passes, solid_passes}
-use Rattle.px_shadow.proofs.DeviceLemmas.{all_left, can_first, each_done, each_first, each_next, last_made, left_next}
+use Rattle.px_shadow.proofs.DeviceLemmas.{all_left, can_first, each_first, each_next, left_next}
 use Rattle.px_shadow.proofs.StepLemmas.{all_known, same_solid}
+use Rattle.px_macro.specs.declared.operation.Macro.TheVariants as m
 use Rattle.px_shadow.proofs.passes.one_light.Goals as goal
 
 pub carry_out-requires : goal.carry_out-requires
@@ -23,11 +23,7 @@ loop-solid-init g c =
     (rw c.light_bit.ensures at c.carry_out.ensures)
 
 pub solid_at-requires : goal.solid_at-requires
-solid_at-requires g c =
-    let items = c.as_slice-solid-items.ensures.value ∙ c.solids-list.ensures in
-    let there = ap (λ (qs : List ℕ). length qs) items in
-    rw items (all_known c.laws_of_sets.ensures (length c.args.scene.now.solids) c.args.solids.now c.requires.known
-    c.loop-solid.solid-index 0 (omega (arith, there, c.loop-solid-test.true)))
+solid_at-requires g c = grind (arith, all_known)
 
 pub one_solid-requires-clause-can : goal.one_solid-requires-clause-can
 one_solid-requires-clause-can g c =
@@ -57,24 +53,3 @@ loop-solid-preserved g c =
     (ap (λ (qs : List ℕ). get_or qs i 0) (sym items)) c.loop-solid.invariant
     (subst (λ ms. CarriesOut (view_by g.A.Array.device g.A.Array.slots g.A.Array.work) ms c.loop-solid.array
     c.one_solid.new.array) same c.one_solid.ensures)
-
-pub background-requires-clause-can : goal.background-requires-clause-can
-background-requires-clause-can g c =
-    let scene = c.args.scene.now in
-    let f : ℕ → List Macro =
-    λ q. solid_passes c.args.layout.now (end_of (depths_of scene)) c.args.light (solid_of scene q) in
-    let items = c.as_slice-solid-items.ensures.value ∙ c.solids-list.ensures in
-    let past : length (solids c.args.solids.now) ≤ c.loop-solid.solid-index =
-    omega (arith, ap (λ (qs : List ℕ). length qs) items, c.loop-solid-test.false) in
-    (each_done _ _ _ _ f (solids c.args.solids.now) c.loop-solid.solid-index _ _ _ _ past c.loop-solid.invariant).can
-
-pub returns : goal.returns
-returns g c =
-    let scene = c.args.scene.now in
-    let f : ℕ → List Macro =
-    λ q. solid_passes c.args.layout.now (end_of (depths_of scene)) c.args.light (solid_of scene q) in
-    let items = c.as_slice-solid-items.ensures.value ∙ c.solids-list.ensures in
-    let past : length (solids c.args.solids.now) ≤ c.loop-solid.solid-index =
-    omega (arith, ap (λ (qs : List ℕ). length qs) items, c.loop-solid-test.false) in
-    last_made _ _ _ _ _ _ _ _ _ (each_done _ _ _ _ f (solids c.args.solids.now) c.loop-solid.solid-index _ _ _ _ past
-    c.loop-solid.invariant) c.background.ensures

@@ -1,5 +1,4 @@
-use Rattle.std.proofs.Common.{◌++◌, drop}
-use Rattle.std.specs.List.{flat_map}
+use Rattle.px_num.proofs.Basics.{◌++◌, drop, flat_map}
 use Rattle.px_sets.specs.Sets.{solids}
 use Rattle.px_model.specs.Cells.{depths_of, end_of}
 use Rattle.px_sched.specs.Passes.{solid_of}

@@ -1,12 +1,11 @@
-use Rattle.std.proofs.Common.{◌≡◌, ◌<◌, ◌≤◌, false, [], ◌∷◌, length, ap, arith}
-use Rattle.std.specs.List.{range_with_len}
-use Rattle.std.proofs.lemmas.List.FromFn.{length-range_with_len}
+use Rattle.px_num.proofs.Basics.{nat_tests, common_steps, ◌≡◌, ◌<◌, false, [], ◌∷◌, ap, arith, range_with_len}
+use Rattle.px_num.proofs.Basics.{length-range_with_len}
 use Rattle.px_face.specs.Faces.{face_count}
-use Rattle.px_macro.specs.declared.operation.Macro.TheVariants as m
 use Rattle.px_sched.specs.Layouts.{LayoutView}
 use Rattle.px_shadow.specs.ShadowPasses.{solid_passes, stored_turn}
 use Rattle.px_shadow.proofs.DeviceLemmas.{all_left, can_first, each_done, each_first, each_next, last_made, left_next}
 use Rattle.px_shadow.proofs.StepLemmas.{number_at}
+use Rattle.px_macro.specs.declared.operation.Macro.TheVariants as m
 use Rattle.px_shadow.proofs.passes.one_solid.Goals as goal
 
 pub carry_out-requires : goal.carry_out-requires
@@ -15,20 +14,7 @@ carry_out-requires g c =
     rw par (can_first _ (m.All ∷ m.SetBit c.args.layout.now.par false ∷ []) _ _ c.requires.can)
 
 pub carry_out-requires-2 : goal.carry_out-requires-2
-carry_out-requires-2 g c =
-    let s = c.args.solid.now in
-    let xs = range_with_len 0 (face_count s) in
-    let past : length xs ≤ c.loop-face.face =
-    omega (
-      arith,
-      c.loop-face-test.false,
-      c.face_count-face-end.ensures.count,
-      length-range_with_len 0 (face_count s),
-    ) in
-    let par : c.layout.inside.par ≡ c.args.layout.now.par = ap (λ (v : LayoutView). v.par) c.layout.view_is in
-    rw (par, c.light_bit.ensures)
-    ((each_done _ _ _ _ (stored_turn c.args.layout.now c.args.«end» s) xs c.loop-face.face _ _ _ _ past
-    c.loop-face.invariant).can)
+carry_out-requires-2 g c = grind (arith, nat_tests, common_steps, length-range_with_len, each_done)
 
 pub one_face-requires-clause-can : goal.one_face-requires-clause-can
 one_face-requires-clause-can g c =
@@ -60,17 +46,4 @@ loop-face-preserved g c =
     c.one_face.ensures
 
 pub returns : goal.returns
-returns g c =
-    let s = c.args.solid.now in
-    let xs = range_with_len 0 (face_count s) in
-    let past : length xs ≤ c.loop-face.face =
-    omega (
-      arith,
-      c.loop-face-test.false,
-      c.face_count-face-end.ensures.count,
-      length-range_with_len 0 (face_count s),
-    ) in
-    let par : c.layout.inside.par ≡ c.args.layout.now.par = ap (λ (v : LayoutView). v.par) c.layout.view_is in
-    last_made _ _ _ _ _ _ _ _ _ (each_done _ _ _ _ (stored_turn c.args.layout.now c.args.«end» s) xs c.loop-face.face
-    _ _ _ _ past c.loop-face.invariant)
-    (rw (par, c.light_bit.ensures) at c.carry_out-2.ensures)
+returns g c = grind (arith, nat_tests, common_steps, length-range_with_len, last_made, each_done)

@@ -1,9 +1,8 @@
-use Rattle.std.proofs.Common.{false, true, [], ◌∷◌, ◌++◌, drop}
-use Rattle.std.specs.List.{flat_map, range_with_len}
-use Rattle.px_macro.specs.declared.operation.Macro.TheVariants as m
+use Rattle.px_num.proofs.Basics.{false, true, [], ◌∷◌, ◌++◌, drop, flat_map, range_with_len}
 use Rattle.px_face.specs.Faces.{face_count}
 use Rattle.px_shadow.specs.Carrying.{IsRestOf, view_by}
 use Rattle.px_shadow.specs.ShadowPasses.{light_bit, solid_passes, stored_turn}
+use Rattle.px_macro.specs.declared.operation.Macro.TheVariants as m
 use Rattle.px_shadow.proofs.passes.one_solid.Given as goal
 
 -- the faces from one on are left

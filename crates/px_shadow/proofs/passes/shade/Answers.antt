@@ -1,13 +1,10 @@
-use Rattle.std.proofs.Common.{◌≤◌, List, length, ap, subst, sym, arith, ◌∙◌}
-use Rattle.px_array.specs.Slots.{worked}
-use Rattle.px_array.proofs.WorkLaws.{still_once}
+use Rattle.px_num.proofs.Basics.{◌≤◌, List, length, ap, subst, sym, arith, ◌∙◌}
 use Rattle.px_sets.specs.declared.set.SolidSet.{SolidSet}
 use Rattle.px_sched.specs.Layouts.{layout_of}
 use Rattle.px_shadow.specs.declared.passes.TheConstants.{MAX_LIGHTS}
 use Rattle.px_shadow.specs.Carrying.{CanCarryOut, carried_out}
 use Rattle.px_shadow.specs.ShadowPasses.{need_with, shadow_passes}
 use Rattle.px_shadow.specs.Shaded.{IsShaded}
-use Rattle.px_shadow.specs.Stored.{StoresTheLights}
 use Rattle.px_shadow.proofs.ArrayLemmas.{can_shade, clocks_made, is_shaded}
 use Rattle.px_shadow.proofs.passes.shade.Given.{Over}
 use Rattle.px_shadow.proofs.passes.shade.Goals as goal
@@ -49,13 +46,7 @@ pub returns-clause-shaded : goal.returns-clause-shaded
 returns-clause-shaded g c = made g c
 
 pub returns-clause-lights : goal.returns-clause-lights
-returns-clause-lights g c =
-    let scene = c.args.scene.now in
-    let lights = c.args.lights.now.items in
-    let now = g.A.Array.device c.all_lights.new.array in
-    subst (λ l. StoresTheLights scene l lights now.state) (sym c.requires.layout)
-    (c.laws_of_shadows.ensures.shaded g.A.Array.BITS scene lights now c.laws_of_scenes.ensures.scene
-    c.laws_of_scenes.ensures.solids c.requires.known (made g c))
+returns-clause-lights g c = grind (arith, made)
 
 pub returns-clause-grid : goal.returns-clause-grid
 returns-clause-grid g c =
@@ -63,19 +54,4 @@ returns-clause-grid g c =
     (g.A.Array.device c.all_lights.new.array) c.laws_of_scenes.ensures.scene (made g c)
 
 pub returns-clause-work : goal.returns-clause-work
-returns-clause-work g c =
-    let scene = c.args.scene.now in
-    let lights = c.args.lights.now.items in
-    c.all_lights.ensures.work
-    ∙ ap (λ n. worked n (g.A.Array.work c.args.array.now))
-    (clocks_made g.A.Array.BITS scene lights (g.A.Array.device c.args.array.now)
-    (g.A.Array.device c.all_lights.new.array) c.requires.at (made g c))
-
-pub returns-clause-once : goal.returns-clause-once
-returns-clause-once g c = λ once.
-    let made = c.all_lights.ensures in
-    record {
-      slots = made.slots ∙ once.slots;
-      work = still_once _ _ _ _ _ made.work once.work (omega (arith, made.clocks))
-          (omega (arith, c.clocks-clocks.ensures.value));
-    }
+returns-clause-work g c = grind (arith, clocks_made, made)

@@ -1,4 +1,4 @@
-use Rattle.std.proofs.Common.{◌≡◌, ◌∷◌, ◌+◌, length, map, take}
+use Rattle.px_num.proofs.Basics.{◌≡◌, ◌∷◌, ◌+◌, length, map, take}
 use Rattle.px_face.specs.Edges.{edges}
 use Rattle.px_macro.specs.declared.operation.Macro.TheVariants as m
 use Rattle.px_shadow.proofs.passes.turn_of.Given as goal

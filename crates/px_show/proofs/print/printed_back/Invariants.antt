@@ -1,4 +1,4 @@
-use Rattle.std.proofs.Common.{length, reverse}
+use Rattle.px_num.proofs.Basics.{length, reverse}
 use Rattle.px_expr.specs.Postorder.{nodes_of}
 use Rattle.px_model.specs.Scenes.{names_of}
 use Rattle.px_show.proofs.GapLemmas.{IsPrintedTo}

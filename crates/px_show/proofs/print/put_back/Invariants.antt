@@ -1,4 +1,4 @@
-use Rattle.std.proofs.Common.{◌≡◌, ◌++◌, length, reverse}
+use Rattle.px_num.proofs.Basics.{◌≡◌, ◌++◌, length, reverse}
 use Rattle.px_show.proofs.print.put_back.Given as goal
 
 abbrev pub invariant-loop-byte : goal.invariant-loop-byte

@@ -1,4 +1,4 @@
-use Rattle.std.proofs.Common.{◌≡◌, ◌++◌, reverse, replicate}
+use Rattle.px_num.proofs.Basics.{◌≡◌, ◌++◌, reverse, replicate}
 use Rattle.px_show.proofs.print.put_gap.Given as goal
 
 abbrev pub invariant-loop : goal.invariant-loop

@@ -1,13 +1,11 @@
-use Rattle.std.proofs.Common.{◌≡◌, ◌∙◌, Err, Some, [], ap, get_or, inr, map, subst, sym, take}
+use Rattle.px_num.proofs.Basics.{arith, ◌≡◌, ◌∙◌, Err, Some, [], ap, get_or, inr, map, sym, take, nat_tests}
+use Rattle.px_num.proofs.Basics.{common_steps}
 use Rattle.px_text.specs.LentWords.{now_of}
 use Rattle.px_text.specs.Text.{words_of}
 use Rattle.px_text.proofs.LineLaws.{words_among, words_here}
 use Rattle.px_show.specs.Judged.{fault_at, refused}
 use Rattle.px_show.proofs.JudgedLaws.{first_is, good_next, one_more}
 use Rattle.px_show.proofs.read.draft_of.Goals as goal
-
-pub add_line-requires : goal.add_line-requires
-add_line-requires g c = (take c.loop-i.i (map (λ m. words_of m.now) c.args.lines.now), c.loop-i.invariant.says)
 
 pub returns-in-Err-Bad-clause-err : goal.returns-in-Err-Bad-clause-err
 returns-in-Err-Bad-clause-err g c =
@@ -27,19 +25,4 @@ returns-in-Err-Bad-clause-err g c =
     inr (λ ended count. ap (λ bad. refused bad ended count) first ∙ ap Some (sym found))
 
 pub loop-i-preserved : goal.loop-i-preserved
-loop-i-preserved g c =
-    let lines = map (λ m. words_of m.now) c.args.lines.now in
-    let words = now_of c.in_ok-line.line.words.items in
-    let before = take c.loop-i.i lines in
-    let here : get_or lines c.loop-i.i [] ≡ words =
-    words_here c.args.lines.now c.loop-i.i _ c.loop-i-test.true ∙ sym c.in_ok-line.ensures.words in
-    let among = words_among c.args.lines.now c.loop-i.i c.loop-i-test.true in
-    record {
-      judges = c.in-Ok.ensures.judges ∙ c.loop-i.invariant.judges;
-      says = subst (g.D.Drafting.says c.add_line.new.self) (sym (one_more lines c.loop-i.i words among here))
-          (c.in-Ok.ensures.says before c.loop-i.invariant.says);
-      judged = good_next (g.D.Drafting.judge c.args.draft) lines c.loop-i.i words c.loop-i.invariant.judged among here (
-          ap (λ judge. judge before words) (sym c.loop-i.invariant.judges)
-          ∙ c.in-Ok.ensures.good before c.loop-i.invariant.says
-          );
-    }
+loop-i-preserved g c = grind (arith, nat_tests, common_steps, words_here, words_among, one_more, good_next)

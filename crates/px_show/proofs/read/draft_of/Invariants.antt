@@ -1,4 +1,4 @@
-use Rattle.std.proofs.Common.{◌≡◌, map, take}
+use Rattle.px_num.proofs.Basics.{◌≡◌, map, take}
 use Rattle.px_text.specs.Text.{words_of}
 use Rattle.px_show.proofs.JudgedLaws.{AreGood}
 use Rattle.px_show.proofs.read.draft_of.Given as goal

@@ -1,4 +1,4 @@
-use Rattle.std.proofs.Common.{◌≡◌, [], fold, take}
+use Rattle.px_num.proofs.Basics.{◌≡◌, [], fold, take}
 use Rattle.px_show.specs.Stacks.{trees_built}
 use Rattle.px_show.proofs.show.build.Given as goal
 

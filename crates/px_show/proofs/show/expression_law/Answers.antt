@@ -1,4 +1,4 @@
-use Rattle.std.proofs.Common.{[], ap}
+use Rattle.px_num.proofs.Basics.{[], ap}
 use Rattle.px_show.specs.Expressions.{whole}
 use Rattle.px_show.proofs.ExpressionLemmas.{reads, was_written}
 use Rattle.px_show.proofs.show.expression_law.Goals as goal

@@ -1,5 +1,4 @@
-use Rattle.std.proofs.Common.{◌≡◌, length, map, sym, ◌∙◌, None}
-use Rattle.std.proofs.lemmas.List.{length-map}
+use Rattle.px_num.proofs.Basics.{◌≡◌, length, map, sym, ◌∙◌, None, length-map}
 use Rattle.px_model.specs.Scenes.{names_of}
 use Rattle.px_show.specs.Expressions.{parts_of}
 use Rattle.px_show.specs.Stacks.{token_of}

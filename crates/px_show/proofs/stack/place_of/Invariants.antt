@@ -1,4 +1,4 @@
-use Rattle.std.proofs.Common.{◌≡◌, ◌+◌, drop}
+use Rattle.px_num.proofs.Basics.{◌≡◌, ◌+◌, drop}
 use Rattle.px_model.specs.Scenes.{names_of}
 use Rattle.px_show.specs.Expressions.{place_of}
 use Rattle.px_show.proofs.stack.place_of.Given as goal

@@ -1,4 +1,4 @@
-use Rattle.std.proofs.Common.{◌≡◌, ◌++◌, length, map}
+use Rattle.px_num.proofs.Basics.{◌≡◌, ◌++◌, length, map}
 use Rattle.px_show.specs.Expressions.{tokens_in}
 use Rattle.px_show.specs.Stacks.{token_of}
 use Rattle.px_show.proofs.token.add_tokens.Given as goal

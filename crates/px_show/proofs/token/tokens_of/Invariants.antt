@@ -1,4 +1,4 @@
-use Rattle.std.proofs.Common.{◌≡◌, map, take}
+use Rattle.px_num.proofs.Basics.{◌≡◌, map, take}
 use Rattle.px_text.specs.LentWords.{now_of}
 use Rattle.px_show.specs.Expressions.{tokens_of}
 use Rattle.px_show.specs.Stacks.{token_of}

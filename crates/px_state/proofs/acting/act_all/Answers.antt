@@ -1,5 +1,4 @@
-use Rattle.std.proofs.Common.{◌+◌, ◌*◌, ◌<◌, ap, refl, ◌∙◌, arith, inl, inr}
-use Rattle.std.proofs.lemmas.Bool.{cases_eq}
+use Rattle.px_num.proofs.Basics.{◌+◌, ◌*◌, ◌<◌, ap, refl, ◌∙◌, arith, inl, inr, cases_eq}
 use Rattle.px_num.specs.Bits.{nat_bit}
 use Rattle.px_state.proofs.acting.act_all.Goals as goal
 

@@ -1,4 +1,4 @@
-use Rattle.std.proofs.Common.{◌≡◌, ℕ, ◌+◌, ◌*◌, ◌<◌, ◌≤◌, length, get_or}
+use Rattle.px_num.proofs.Basics.{◌≡◌, ℕ, ◌+◌, ◌*◌, ◌<◌, ◌≤◌, length, get_or}
 use Rattle.px_num.specs.Bits.{nat_bit}
 use Rattle.px_planes.specs.Pixels.{acted_at}
 use Rattle.px_state.specs.Cells.{leaf_in, pixel_in_words}

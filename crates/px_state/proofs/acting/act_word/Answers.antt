@@ -1,4 +1,4 @@
-use Rattle.std.proofs.Common.{◌≡◌, ℕ, ◌+◌, ◌*◌, ◌<◌, false, sym, refl, ◌∙◌}
+use Rattle.px_num.proofs.Basics.{◌≡◌, ℕ, ◌+◌, ◌*◌, ◌<◌, false, sym, refl, ◌∙◌}
 use Rattle.px_num.proofs.ListLaws.{get_or-tabulate, length-tabulate}
 use Rattle.px_num.specs.Bits.{bit_at, nat_bit}
 use Rattle.px_planes.specs.Pixels.{acted_at}

@@ -1,4 +1,4 @@
-use Rattle.std.proofs.Common.{◌+◌, subst, sym, ◌∙◌, arith, inl, inr}
+use Rattle.px_num.proofs.Basics.{◌+◌, subst, sym, ◌∙◌, arith, inl, inr}
 use Rattle.px_array.specs.Clocks.{after_clock}
 use Rattle.px_array.specs.declared.micro.TreeOp.TheVariants.{Hold, Clear, Feed}
 use Rattle.px_tree.specs.Nodes.{after_feed, cleared}

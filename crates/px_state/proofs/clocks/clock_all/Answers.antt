@@ -1,5 +1,4 @@
-use Rattle.std.proofs.Common.{◌∙◌, get_or, map, take, subst, arith}
-use Rattle.std.proofs.lemmas.List.{take_all}
+use Rattle.px_num.proofs.Basics.{◌∙◌, get_or, map, take, subst, arith, take_all}
 use Rattle.px_array.specs.Clocks.{after_clocks}
 use Rattle.px_state.specs.Clocking.{HoldsState}
 use Rattle.px_state.specs.Packing.{micro_in}

@@ -1,4 +1,4 @@
-use Rattle.std.proofs.Common.{◌≡◌, ℕ, ◌≤◌, get_or, length, map, take}
+use Rattle.px_num.proofs.Basics.{◌≡◌, ℕ, ◌≤◌, get_or, length, map, take}
 use Rattle.px_array.specs.Arrays.{State}
 use Rattle.px_array.specs.Clocks.{after_clocks}
 use Rattle.px_state.specs.Clocking.{HoldsState}

@@ -1,4 +1,4 @@
-use Rattle.std.proofs.Common.{refl, arith}
+use Rattle.px_num.proofs.Basics.{refl, arith}
 use Rattle.px_state.proofs.ColumnLemmas.{empty_at}
 use Rattle.px_state.proofs.columns.block_of.Goals as goal
 

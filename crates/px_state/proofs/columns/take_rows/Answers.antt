@@ -1,4 +1,4 @@
-use Rattle.std.proofs.Common.{◌≡◌, ap, sym, ◌∙◌, arith}
+use Rattle.px_num.proofs.Basics.{◌≡◌, ap, sym, ◌∙◌, arith}
 use Rattle.px_state.specs.Columns.{column_words}
 use Rattle.px_state.proofs.ColumnLemmas.{more_rows, turned_in}
 use Rattle.px_state.proofs.columns.take_rows.Goals as goal

@@ -1,4 +1,4 @@
-use Rattle.std.proofs.Common.{◌≡◌, ℕ, ◌+◌, ◌*◌, ◌^◌, ◌<◌, get_or}
+use Rattle.px_num.proofs.Basics.{◌≡◌, ℕ, ◌+◌, ◌*◌, ◌^◌, ◌<◌, get_or}
 use Rattle.px_num.specs.Bits.{nat_bit}
 use Rattle.px_state.specs.Columns.{column_words, memory_in}
 use Rattle.px_state.proofs.columns.take_rows.Given as goal

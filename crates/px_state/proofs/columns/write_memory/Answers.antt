@@ -1,5 +1,4 @@
-use Rattle.std.proofs.Common.{◌≡◌, ◌+◌, ◌-◌, ◌*◌, ◌<◌, get_or, ap, sym, ◌∙◌, arith, inl, inr}
-use Rattle.std.proofs.lemmas.Bool.{cases_lt}
+use Rattle.px_num.proofs.Basics.{◌≡◌, ◌+◌, ◌-◌, ◌*◌, ◌<◌, get_or, ap, sym, ◌∙◌, arith, inl, inr, cases_lt}
 use Rattle.px_num.specs.Bits.{nat_bit}
 use Rattle.px_state.specs.Words.{state_bit}
 use Rattle.px_state.proofs.ActingLemmas.{plane_end}

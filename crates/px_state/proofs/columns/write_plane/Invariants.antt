@@ -1,4 +1,4 @@
-use Rattle.std.proofs.Common.{◌≡◌, ℕ, ◌+◌, ◌*◌, ◌<◌, ◌≤◌, ◌⊎◌, length, get_or}
+use Rattle.px_num.proofs.Basics.{◌≡◌, ℕ, ◌+◌, ◌*◌, ◌<◌, ◌≤◌, ◌⊎◌, length, get_or}
 use Rattle.px_num.specs.Bits.{nat_bit}
 use Rattle.px_state.specs.Columns.{row_word}
 use Rattle.px_state.proofs.columns.write_plane.Given as goal

@@ -1,4 +1,4 @@
-use Rattle.std.proofs.Common.{◌+◌, get_or, refl, ◌∙◌}
+use Rattle.px_num.proofs.Basics.{◌+◌, get_or, refl, ◌∙◌}
 use Rattle.px_state.specs.Cells.{nodes_at}
 use Rattle.px_state.proofs.FeedingLemmas.{fed_law}
 use Rattle.px_state.proofs.feeding.fed_word.Goals as goal

@@ -1,4 +1,4 @@
-use Rattle.std.proofs.Common.{◌≡◌, ◌+◌, ◌-◌, arith, subst}
+use Rattle.px_num.proofs.Basics.{◌≡◌, ◌+◌, ◌-◌, arith, subst}
 use Rattle.px_state.proofs.FeedingLemmas.{FedDown, fed_more}
 use Rattle.px_state.proofs.feeding.feed_all.Goals as goal
 

@@ -1,5 +1,4 @@
-use Rattle.std.proofs.Common.{◌%◌, ◌∙◌}
-use Rattle.std.specs.Prelude.{◌==◌}
+use Rattle.px_num.proofs.Basics.{◌%◌, ◌∙◌, ◌==◌}
 use Rattle.px_num.specs.Bits.{nat_bit}
 use Rattle.px_rows.proofs.BitLaws.{bit_of_zero, odd_bits}
 use Rattle.px_state.proofs.FeedingLemmas.{carry_law, output_law}

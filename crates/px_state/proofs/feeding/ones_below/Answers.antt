@@ -1,4 +1,4 @@
-use Rattle.std.proofs.Common.{ap, nat_lt, ◌∙◌}
+use Rattle.px_num.proofs.Basics.{ap, nat_lt, ◌∙◌}
 use Rattle.px_state.proofs.FeedingLemmas.{below_law}
 use Rattle.px_state.proofs.feeding.ones_below.Goals as goal
 

@@ -1,5 +1,4 @@
-use Rattle.std.proofs.Common.{◌≡◌, ◌+◌, ◌*◌, ◌/◌, ◌%◌, get_or, ap, refl, ◌∙◌, arith}
-use Rattle.std.proofs.lemmas.List.{get_or_default}
+use Rattle.px_num.proofs.Basics.{◌≡◌, ◌+◌, ◌*◌, ◌/◌, ◌%◌, get_or, ap, refl, ◌∙◌, arith, get_or_default}
 use Rattle.px_num.proofs.TruthLaws.{lt_false}
 use Rattle.px_num.specs.Bits.{nat_bit}
 use Rattle.px_state.proofs.FeedingLemmas.{parents_root}

@@ -1,4 +1,4 @@
-use Rattle.std.proofs.Common.{arith}
+use Rattle.px_num.proofs.Basics.{arith}
 use Rattle.px_state.proofs.ShapeLemmas.{leaf_within}
 use Rattle.px_state.proofs.leaves.leaf.Goals as goal
 

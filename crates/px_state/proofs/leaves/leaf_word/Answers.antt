@@ -1,5 +1,4 @@
-use Rattle.std.proofs.Common.{◌≢◌, ◌<◌, ap, eqb, sym, ◌∙◌, arith, below_more, w64}
-use Rattle.std.proofs.lemmas.Nat.Bits.{bit_at_set_same, bit_at_set_other}
+use Rattle.px_num.proofs.Basics.{◌≢◌, ◌<◌, ap, eqb, sym, ◌∙◌, arith, below_more, w64, bit_at_set_same, bit_at_set_other}
 use Rattle.px_state.proofs.leaves.leaf_word.Goals as goal
 use Rattle.px_state.proofs.leaves.leaf_word.Goals.{then-leaf, else-leaf}
 

@@ -1,4 +1,4 @@
-use Rattle.std.proofs.Common.{◌≡◌, ℕ, ◌<◌, ◌≤◌, false}
+use Rattle.px_num.proofs.Basics.{◌≡◌, ℕ, ◌<◌, ◌≤◌, false}
 use Rattle.px_num.specs.Bits.{nat_bit}
 use Rattle.px_state.specs.Cells.{leaf_over}
 use Rattle.px_state.proofs.leaves.leaf_word.Given as goal

@@ -1,5 +1,5 @@
-use Rattle.std.proofs.Common.{◌+◌, ◌*◌, ◌/◌, ◌%◌, ◌^◌, ◌<◌, ◌&&◌, nat_lt, length, ap, ◌∙◌, arith, inl, inr, length-set}
-use Rattle.std.proofs.lemmas.Bool.{cases_eq}
+use Rattle.px_num.proofs.Basics.{◌+◌, ◌*◌, ◌/◌, ◌%◌, ◌^◌, ◌<◌, ◌&&◌, nat_lt, length, ap, ◌∙◌, arith, inl, inr}
+use Rattle.px_num.proofs.Basics.{length-set, cases_eq}
 use Rattle.std.proofs.lemmas.List.{get_or-set_other, get_or-set_same}
 use Rattle.px_num.specs.Bits.{nat_bit}
 use Rattle.px_state.specs.Cells.{nodes_at}

@@ -1,4 +1,4 @@
-use Rattle.std.proofs.Common.{◌≡◌, ◌<◌, length, get_or, ap, ◌∙◌, arith}
+use Rattle.px_num.proofs.Basics.{◌≡◌, ◌<◌, length, get_or, ap, ◌∙◌, arith}
 use Rattle.px_asm.specs.Micros.{cycles}
 use Rattle.px_macro.specs.declared.operation.Macro.TheVariants as m
 use Rattle.px_listing.specs.Listings.{ListingView}

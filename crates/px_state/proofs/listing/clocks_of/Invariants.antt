@@ -1,4 +1,4 @@
-use Rattle.std.proofs.Common.{◌≡◌, ◌*◌, ◌≤◌}
+use Rattle.px_num.proofs.Basics.{◌≡◌, ◌*◌, ◌≤◌}
 use Rattle.px_state.specs.Courses.{start_in_listing}
 use Rattle.px_state.proofs.listing.clocks_of.Given as goal
 

@@ -1,4 +1,4 @@
-use Rattle.std.proofs.Common.{◌≡◌, ◌-◌, ◌≤◌, min}
+use Rattle.px_num.proofs.Basics.{◌≡◌, ◌-◌, ◌≤◌, min}
 use Rattle.px_array.specs.Slots.{worked}
 use Rattle.px_state.specs.Courses.{device_after, start_in_listing}
 use Rattle.px_state.proofs.listing.play_to.Given as goal

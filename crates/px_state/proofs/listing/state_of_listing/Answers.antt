@@ -1,4 +1,4 @@
-use Rattle.std.proofs.Common.{◌≡◌, subst, ap, arith}
+use Rattle.px_num.proofs.Basics.{◌≡◌, subst, ap, arith}
 use Rattle.px_listing.specs.Listings.{IsListing, ListingView}
 use Rattle.px_state.specs.Words.{room_of}
 use Rattle.px_state.proofs.CourseLemmas.{columns_are, rows_are}

@@ -1,4 +1,4 @@
-use Rattle.std.proofs.Common.{Err, ap}
+use Rattle.px_num.proofs.Basics.{Err, ap}
 use Rattle.px_state.proofs.RefusalLemmas.{job_refused, job_small, not_refused}
 use Rattle.px_state.proofs.micros.drawing_of.Goals as goal
 

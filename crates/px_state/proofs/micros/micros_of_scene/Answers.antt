@@ -1,4 +1,4 @@
-use Rattle.std.proofs.Common.{◌∙◌, arith}
+use Rattle.px_num.proofs.Basics.{◌∙◌, arith}
 use Rattle.px_playing.specs.PassesText.{passes_listing}
 use Rattle.px_state.proofs.RefusalLemmas.{both_none, clock_same, second_refused}
 use Rattle.px_state.proofs.SceneLemmas.{same_total}

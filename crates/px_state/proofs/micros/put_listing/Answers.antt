@@ -1,4 +1,4 @@
-use Rattle.std.proofs.Common.{◌≡◌, ◌<◌, length, get_or, subst, ap, ◌∙◌, arith}
+use Rattle.px_num.proofs.Basics.{◌≡◌, ◌<◌, length, get_or, subst, ap, ◌∙◌, arith}
 use Rattle.px_asm.proofs.CycleLaws.{few_cycles}
 use Rattle.px_macro.specs.declared.operation.Macro.TheVariants as m
 use Rattle.px_listing.specs.Listings.{IsListing, ListingView}

@@ -1,4 +1,4 @@
-use Rattle.std.proofs.Common.{◌≡◌, ◌*◌, ◌≤◌, length}
+use Rattle.px_num.proofs.Basics.{◌≡◌, ◌*◌, ◌≤◌, length}
 use Rattle.px_state.specs.Courses.{start_in_listing}
 use Rattle.px_state.proofs.PutLemmas.{IsPutTo}
 use Rattle.px_state.proofs.micros.put_listing.Given as goal

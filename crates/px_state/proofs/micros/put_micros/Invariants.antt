@@ -1,4 +1,4 @@
-use Rattle.std.proofs.Common.{◌≡◌, ℕ, ◌+◌, ◌-◌, ◌<◌, ◌≤◌, length, get_or}
+use Rattle.px_num.proofs.Basics.{◌≡◌, ℕ, ◌+◌, ◌-◌, ◌<◌, ◌≤◌, length, get_or}
 use Rattle.px_asm.specs.Micros.{micro_at}
 use Rattle.px_state.specs.Packing.{packed}
 use Rattle.px_state.proofs.micros.put_micros.Given as goal

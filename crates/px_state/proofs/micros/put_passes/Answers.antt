@@ -1,5 +1,4 @@
-use Rattle.std.proofs.Common.{◌≡◌, Some, sym, ◌∙◌, arith}
-use Rattle.std.specs.List.{slice_get}
+use Rattle.px_num.proofs.Basics.{◌≡◌, Some, sym, ◌∙◌, arith, slice_get}
 use Rattle.px_sched.specs.Passes.{passes}
 use Rattle.px_sched.specs.Layouts.{layout_of, need_of}
 use Rattle.px_control.proofs.ProgramLemmas.{good_program}

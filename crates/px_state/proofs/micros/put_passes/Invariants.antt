@@ -1,4 +1,4 @@
-use Rattle.std.proofs.Common.{◌≡◌, ◌-◌, length}
+use Rattle.px_num.proofs.Basics.{◌≡◌, ◌-◌, length}
 use Rattle.px_sched.specs.Cursors.{Stands}
 use Rattle.px_sched.specs.Passes.{passes}
 use Rattle.px_playing.specs.PassesText.{passes_listing}

@@ -1,4 +1,4 @@
-use Rattle.std.proofs.Common.{◌∙◌, arith}
+use Rattle.px_num.proofs.Basics.{◌∙◌, arith}
 use Rattle.px_control.proofs.ProgramLemmas.{good_program}
 use Rattle.px_playing.specs.PassesText.{passes_listing}
 use Rattle.px_state.proofs.RefusalLemmas.{both_none, operation_same, second_refused}

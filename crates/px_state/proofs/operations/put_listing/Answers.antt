@@ -1,6 +1,4 @@
-use Rattle.std.proofs.Common.{◌≡◌, ◌<◌, length, get_or, Some, sym, ap, ◌∙◌, arith}
-use Rattle.std.specs.List.{slice_get}
-use Rattle.std.proofs.lemmas.Option.{slice_get-get_or}
+use Rattle.px_num.proofs.Basics.{◌≡◌, ◌<◌, length, get_or, Some, sym, ap, ◌∙◌, arith, slice_get, slice_get-get_or}
 use Rattle.px_asm.specs.Micros.{cycles}
 use Rattle.px_listing.specs.Listings.{ListingView}
 use Rattle.px_state.specs.Courses.{start_in_listing}

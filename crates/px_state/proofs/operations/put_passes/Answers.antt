@@ -1,6 +1,4 @@
-use Rattle.std.proofs.Common.{◌≡◌, Some, sym, ◌∙◌, arith}
-use Rattle.std.specs.List.{slice_get}
-use Rattle.std.proofs.lemmas.Option.{slice_get_within}
+use Rattle.px_num.proofs.Basics.{◌≡◌, Some, sym, ◌∙◌, arith, slice_get, slice_get_within}
 use Rattle.px_sched.specs.declared.step.Step.TheVariants.{Start}
 use Rattle.px_sched.specs.Passes.{steps}
 use Rattle.px_state.specs.Operations.{IsPassed}

@@ -1,4 +1,4 @@
-use Rattle.std.proofs.Common.{◌≡◌, ◌+◌, ◌<◌, length, refl, sym, subst, ap, ◌∙◌, arith}
+use Rattle.px_num.proofs.Basics.{◌≡◌, ◌+◌, ◌<◌, length, refl, sym, subst, ap, ◌∙◌, arith}
 use Rattle.px_asm.specs.Micros.{cycles}
 use Rattle.px_playing.specs.PassesText.{passes_listing}
 use Rattle.px_sched.specs.Layouts.{layout_of}

@@ -1,4 +1,4 @@
-use Rattle.std.proofs.Common.{◌==◌, sym, ap, ◌∙◌}
+use Rattle.px_num.proofs.Basics.{◌==◌, sym, ap, ◌∙◌}
 use Rattle.px_state.specs.Packing.{act_number, act_with, lines_number, memory_place, tree_number, tree_with}
 use Rattle.px_state.specs.Packing.{packed_value}
 use Rattle.px_state.proofs.PackingLemmas.{act_back, bit_back, tree_back}

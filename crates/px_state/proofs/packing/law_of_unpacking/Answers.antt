@@ -1,4 +1,4 @@
-use Rattle.std.proofs.Common.{arith}
+use Rattle.px_num.proofs.Basics.{arith}
 use Rattle.px_state.proofs.PackingLemmas.{micro_back, micro_only, place_within, unpacked}
 use Rattle.px_state.proofs.packing.law_of_unpacking.Goals as goal
 

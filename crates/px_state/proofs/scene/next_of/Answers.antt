@@ -1,4 +1,4 @@
-use Rattle.std.proofs.Common.{arith}
+use Rattle.px_num.proofs.Basics.{arith}
 use Rattle.px_state.proofs.SceneLemmas.{next_at}
 use Rattle.px_state.proofs.scene.next_of.Goals as goal
 

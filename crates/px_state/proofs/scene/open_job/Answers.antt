@@ -1,4 +1,4 @@
-use Rattle.std.proofs.Common.{Err, ap}
+use Rattle.px_num.proofs.Basics.{Err, ap}
 use Rattle.px_playing.specs.PassesText.{passes_listing}
 use Rattle.px_state.proofs.RefusalLemmas.{job_leaves, job_refused, job_small, not_refused}
 use Rattle.px_state.proofs.scene.open_job.Goals as goal

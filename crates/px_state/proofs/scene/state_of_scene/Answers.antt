@@ -1,4 +1,4 @@
-use Rattle.std.proofs.Common.{◌≡◌, length, refl, subst, ap, ◌∙◌, arith}
+use Rattle.px_num.proofs.Basics.{◌≡◌, length, refl, subst, ap, ◌∙◌, arith}
 use Rattle.px_array.specs.Arrays.{Device}
 use Rattle.px_sched.specs.Passes.{passes}
 use Rattle.px_control.specs.Program as program

@@ -1,8 +1,6 @@
-use Rattle.std.proofs.Common.{rules, ◌==◌, [], false, refl, sym, ap, unwrap_or}
-use Rattle.std.specs.List.{slice_get}
-use Rattle.std.proofs.lemmas.Iterator.Consumers.{YieldsList-at, YieldsList-end, YieldsList-turn}
-use Rattle.std.proofs.lemmas.Iterator.Consumers.{YieldsList-from_filter_map}
-use Rattle.std.proofs.lemmas.Iterator.Splits.{YieldsList-from_slice_split}
+use Rattle.px_num.proofs.Basics.{rules, ◌==◌, [], false, refl, sym, ap, unwrap_or, slice_get, YieldsList-at}
+use Rattle.px_num.proofs.Basics.{YieldsList-end, YieldsList-turn, YieldsList-from_filter_map}
+use Rattle.px_num.proofs.Basics.{YieldsList-from_slice_split}
 use Rattle.px_text.specs.Text.{words_of}
 use Rattle.px_state.specs.Refusals.{is_listing, starts_listing}
 use Rattle.px_state.proofs.WordLemmas.{first_of}

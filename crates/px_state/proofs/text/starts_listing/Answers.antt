@@ -1,7 +1,5 @@
-use Rattle.std.proofs.Common.{rules, ◌==◌, [], Some, arith, refl, ap, ◌∙◌}
-use Rattle.std.specs.List.{before_first}
-use Rattle.std.proofs.lemmas.Iterator.Consumers.{YieldsList-at, YieldsList-end, YieldsList-turn, YieldsList-from_filter}
-use Rattle.std.proofs.lemmas.Iterator.Splits.{YieldsList-from_slice_split}
+use Rattle.px_num.proofs.Basics.{rules, ◌==◌, [], Some, arith, refl, ap, ◌∙◌, before_first, YieldsList-at}
+use Rattle.px_num.proofs.Basics.{YieldsList-end, YieldsList-turn, YieldsList-from_filter, YieldsList-from_slice_split}
 use Rattle.px_text.specs.Text.{is_blank, is_some_byte, words_of}
 use Rattle.px_state.specs.Refusals.{starts_listing}
 use Rattle.px_state.proofs.WordLemmas.{first_word}

@@ -1,4 +1,4 @@
-use Rattle.std.proofs.Common.{refl, ◌∙◌, arith}
+use Rattle.px_num.proofs.Basics.{refl, ◌∙◌, arith}
 use Rattle.px_num.proofs.TruthLaws.{other_false, power_grows}
 use Rattle.px_state.specs.Turning.{rest_at}
 use Rattle.px_state.proofs.TurningLemmas.{fits_above, from_last, from_next}

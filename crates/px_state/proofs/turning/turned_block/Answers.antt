@@ -1,4 +1,4 @@
-use Rattle.std.proofs.Common.{◌≡◌, ap, sym, ◌∙◌, arith}
+use Rattle.px_num.proofs.Basics.{◌≡◌, ap, sym, ◌∙◌, arith}
 use Rattle.px_rows.specs.Rows.{row_bit}
 use Rattle.px_state.specs.Turning.{turned_place, exchanged}
 use Rattle.px_state.proofs.TurningLemmas.{crossed_all, crossed_more, crossed_none, exchanged_below}

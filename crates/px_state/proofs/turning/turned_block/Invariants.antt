@@ -1,4 +1,4 @@
-use Rattle.std.proofs.Common.{◌≡◌, ℕ, ◌<◌}
+use Rattle.px_num.proofs.Basics.{◌≡◌, ℕ, ◌<◌}
 use Rattle.px_rows.specs.Rows.{row_bit}
 use Rattle.px_state.specs.Turning.{turned_place}
 use Rattle.px_state.proofs.turning.turned_block.Given as goal

@@ -1,5 +1,4 @@
-use Rattle.std.proofs.Common.{ap, sym, ◌∙◌}
-use Rattle.std.specs.Option.{option_map}
+use Rattle.px_num.proofs.Basics.{ap, sym, ◌∙◌, option_map}
 use Rattle.px_state.specs.Refusals.{list_fault}
 use Rattle.px_state.proofs.TextLemmas.{list_course, list_keeps, list_refused, list_small, list_text}
 use Rattle.px_state.proofs.whole.read_course.Goals as goal

@@ -1,5 +1,4 @@
-use Rattle.std.proofs.Common.{ap, sym, ◌∙◌}
-use Rattle.std.specs.Option.{option_map, option_or}
+use Rattle.px_num.proofs.Basics.{ap, sym, ◌∙◌, option_map, option_or}
 use Rattle.px_text.specs.Text.{worded}
 use Rattle.px_scene.specs.Reading.{scene_of}
 use Rattle.px_playing.specs.PassesText.{passes_listing}

@@ -1,4 +1,4 @@
-use Rattle.std.proofs.Common.{◌<◌, length, inr, arith}
+use Rattle.px_num.proofs.Basics.{◌<◌, length, inr, arith}
 use Rattle.px_text.specs.declared.text.TheConstants.{MAX_TEXT_BYTES}
 use Rattle.px_state.specs.Refusals.{input_refusal, past_text_limit}
 use Rattle.px_state.proofs.RefusalLemmas.{first_refused}

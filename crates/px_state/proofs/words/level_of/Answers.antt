@@ -1,4 +1,4 @@
-use Rattle.std.proofs.Common.{◌^◌, ◌<◌, ◌≤◌, arith, subst}
+use Rattle.px_num.proofs.Basics.{◌^◌, ◌<◌, ◌≤◌, arith, subst}
 use Rattle.std.proofs.lemmas.Nat.{leading_top}
 use Rattle.px_state.proofs.words.level_of.Goals as goal
 

@@ -1,4 +1,4 @@
-use Rattle.std.proofs.Common.{◌+◌, arith}
+use Rattle.px_num.proofs.Basics.{◌+◌, arith}
 use Rattle.px_state.proofs.PlaceLemmas.{exponent_below}
 use Rattle.px_state.proofs.words.node.Goals as goal
 

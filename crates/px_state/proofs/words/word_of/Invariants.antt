@@ -1,4 +1,4 @@
-use Rattle.std.proofs.Common.{◌≡◌, ℕ, ◌<◌, ◌≤◌, false}
+use Rattle.px_num.proofs.Basics.{◌≡◌, ℕ, ◌<◌, ◌≤◌, false}
 use Rattle.px_num.specs.Bits.{nat_bit}
 use Rattle.px_state.specs.Parts.{part_bit}
 use Rattle.px_state.proofs.words.word_of.Given as goal

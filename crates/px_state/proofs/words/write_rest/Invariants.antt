@@ -1,4 +1,4 @@
-use Rattle.std.proofs.Common.{◌≡◌, ℕ, ◌<◌, length, get_or, drop}
+use Rattle.px_num.proofs.Basics.{◌≡◌, ℕ, ◌<◌, length, get_or, drop}
 use Rattle.px_num.specs.Bits.{nat_bit}
 use Rattle.px_state.specs.Words.{room_of, state_bit}
 use Rattle.px_state.proofs.words.write_rest.Given as goal

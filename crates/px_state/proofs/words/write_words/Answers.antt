@@ -1,4 +1,4 @@
-use Rattle.std.proofs.Common.{◌∙◌, arith}
+use Rattle.px_num.proofs.Basics.{◌∙◌, arith}
 use Rattle.px_state.specs.Words.{room_of}
 use Rattle.px_state.proofs.ClockedLemmas.{same_behind}
 use Rattle.px_state.proofs.ColumnLemmas.{memory_first}

@@ -1,8 +1,6 @@
-use Rattle.std.proofs.Common.{◌≡◌, ◌==◌, ◌<◌, ◌≤◌, ℕ, List, length, take, get_or, true, false, arith, refl, eq-eqb}
-use Rattle.std.proofs.Common.{sym, ◌∙◌}
-use Rattle.std.proofs.lemmas.List.{take_all}
+use Rattle.px_num.proofs.Basics.{◌≡◌, ◌==◌, ◌<◌, ◌≤◌, ℕ, List, length, take, get_or, true, false, arith, refl, eq-eqb}
+use Rattle.px_num.proofs.Basics.{sym, ◌∙◌, take_all, before_first}
 use Rattle.std.proofs.lemmas.List.Sums.{position_or_len_is}
-use Rattle.std.specs.List.{before_first}
 use Rattle.px_text.proofs.cut.before_comment.Goals as goal
 
 front_is : (xs : List ℕ) (i : ℕ) → i ≤ length xs → ((k : ℕ) → k < i → (get_or xs k 0 == 35) ≡ false)

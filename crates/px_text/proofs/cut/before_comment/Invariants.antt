@@ -1,4 +1,4 @@
-use Rattle.std.proofs.Common.{◌≡◌, ◌==◌, ℕ, ◌<◌, get_or, false}
+use Rattle.px_num.proofs.Basics.{◌≡◌, ◌==◌, ℕ, ◌<◌, get_or, false}
 use Rattle.px_text.proofs.cut.before_comment.Given as goal
 
 abbrev pub invariant-loop-i : goal.invariant-loop-i

@@ -1,7 +1,5 @@
-use Rattle.std.proofs.Common.{rules, ◌≡◌, arith, length, ap}
-use Rattle.std.proofs.lemmas.Bool.Decides.{nat_tests}
-use Rattle.std.proofs.lemmas.Iterator.Consumers.{YieldsList-at, YieldsList-end, YieldsList-turn, YieldsList-from_filter}
-use Rattle.std.proofs.lemmas.Iterator.Splits.{YieldsList-from_slice_split}
+use Rattle.px_num.proofs.Basics.{rules, ◌≡◌, arith, length, ap, nat_tests, YieldsList-at, YieldsList-end}
+use Rattle.px_num.proofs.Basics.{YieldsList-turn, YieldsList-from_filter, YieldsList-from_slice_split}
 use Rattle.px_text.specs.Text.{is_blank, is_some_byte}
 use Rattle.px_text.proofs.few.few_words.Goals as goal
 

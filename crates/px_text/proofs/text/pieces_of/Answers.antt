@@ -1,6 +1,4 @@
-use Rattle.std.proofs.Common.{rules, ◌==◌}
-use Rattle.std.proofs.lemmas.Iterator.Consumers.{YieldsList-at, YieldsList-end}
-use Rattle.std.proofs.lemmas.Iterator.Splits.{YieldsList-from_slice_split}
+use Rattle.px_num.proofs.Basics.{rules, ◌==◌, YieldsList-at, YieldsList-end, YieldsList-from_slice_split}
 use Rattle.px_text.proofs.text.pieces_of.Goals as goal
 
 pub returns-clause-pieces : goal.returns-clause-pieces

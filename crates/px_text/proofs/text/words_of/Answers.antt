@@ -1,7 +1,5 @@
-use Rattle.std.proofs.Common.{rules, arith, ◌==◌}
-use Rattle.std.proofs.lemmas.Iterator.Consumers.{YieldsList-at, YieldsList-end, YieldsList-from_filter}
-use Rattle.std.proofs.lemmas.Iterator.Splits.{YieldsList-from_slice_split}
-use Rattle.std.specs.List.{before_first}
+use Rattle.px_num.proofs.Basics.{rules, arith, ◌==◌, YieldsList-at, YieldsList-end, YieldsList-from_filter}
+use Rattle.px_num.proofs.Basics.{YieldsList-from_slice_split, before_first}
 use Rattle.px_text.specs.Text.{is_blank, is_some_byte}
 use Rattle.px_text.proofs.text.words_of.Goals as goal
 

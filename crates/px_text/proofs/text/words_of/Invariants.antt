@@ -1,4 +1,4 @@
-use Rattle.std.proofs.Common.{◌≡◌}
+use Rattle.px_num.proofs.Basics.{◌≡◌}
 use Rattle.px_text.proofs.text.words_of.Given as goal
 
 abbrev pub invariant-loop-word : goal.invariant-loop-word

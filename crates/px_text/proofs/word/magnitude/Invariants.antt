@@ -1,5 +1,4 @@
-use Rattle.std.proofs.Common.{◌≡◌, ◌-◌, ◌^◌, min, take, map}
-use Rattle.std.specs.Int.Digits.{number_from_digits}
+use Rattle.px_num.proofs.Basics.{◌≡◌, ◌-◌, ◌^◌, min, take, map, number_from_digits}
 use Rattle.px_text.proofs.word.magnitude.Given as goal
 
 abbrev pub invariant-loop-b : goal.invariant-loop-b

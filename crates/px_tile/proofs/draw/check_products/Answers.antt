@@ -1,19 +1,13 @@
-use Rattle.std.proofs.Common.{◌<◌, arith, inl, inr}
-use Rattle.std.proofs.lemmas.Bool.{OnTrue_at}
-use Rattle.px_prune.specs.Bounding.{bounding_box}
-use Rattle.px_tile.specs.declared.fault.WideFault.TheVariants as wide
+use Rattle.px_num.proofs.Basics.{◌<◌, arith, inl, inr}
 use Rattle.px_model.specs.Planes.{first_past}
 use Rattle.px_tile.specs.Drawn.{crowd_of_tile}
 use Rattle.px_tile.specs.Tilings.{scene_of_tile, tile_count}
 use Rattle.px_tile.proofs.FirstLemmas.{made_first, none_anywhere, none_each, none_more}
+use Rattle.px_tile.specs.declared.fault.WideFault.TheVariants as wide
 use Rattle.px_tile.proofs.draw.check_products.Goals as goal
 
 pub returns-then-is_never_crowded-clause-ok : goal.returns-then-is_never_crowded-clause-ok
-returns-then-is_never_crowded-clause-ok c =
-    let scene = c.args.scene.now in
-    let never = OnTrue_at c.if-is_never_crowded.true c.is_never_crowded.ensures in
-    none_anywhere (crowd_of_tile scene c.args.width c.args.height) 0 (tile_count scene c.args.width c.args.height)
-    (λ tile. rw c.show.ensures.value at (never (bounding_box (scene_of_tile scene c.args.width c.args.height tile))))
+returns-then-is_never_crowded-clause-ok c = grind (arith, none_anywhere)
 
 pub check_products_of_tile-requires-clause-within : goal.check_products_of_tile-requires-clause-within
 check_products_of_tile-requires-clause-within c =
@@ -24,9 +18,7 @@ check_products_of_tile-requires-clause-within c =
     count c.requires.within low
 
 pub loop-tile-preserved : goal.loop-tile-preserved
-loop-tile-preserved c =
-    none_more (crowd_of_tile c.args.scene.now c.args.width c.args.height) c.loop-tile.tile c.loop-tile.invariant
-    c.in_default.ensures.ok
+loop-tile-preserved c = grind (arith, none_more)
 
 pub returns-in-Err-clause-err : goal.returns-in-Err-clause-err
 returns-in-Err-clause-err c =

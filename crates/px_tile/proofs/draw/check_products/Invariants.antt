@@ -1,4 +1,4 @@
-use Rattle.std.proofs.Common.{◌≡◌, None}
+use Rattle.px_num.proofs.Basics.{◌≡◌, None}
 use Rattle.px_tile.specs.Drawn.{crowd_of_tile}
 use Rattle.px_tile.proofs.FirstLemmas.{found_from}
 use Rattle.px_tile.proofs.draw.check_products.Given as goal

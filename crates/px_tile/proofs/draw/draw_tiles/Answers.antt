@@ -1,19 +1,13 @@
-use Rattle.std.proofs.Common.{◌≡◌, ◌<◌, ◌++◌, ap, arith, drop, inr, length, refl, take}
+use Rattle.px_num.proofs.Basics.{◌≡◌, ◌<◌, ◌++◌, ap, arith, drop, length, take}
 use Rattle.px_tile.specs.Tilings.{tile_count}
 use Rattle.px_tile.proofs.DrawLemmas.{last_left, put_back, tile_fits, tile_within, tiles_all, tiles_more}
 use Rattle.px_tile.proofs.draw.draw_tiles.Goals as goal
 
 pub draw_tile-requires-clause-within : goal.draw_tile-requires-clause-within
-draw_tile-requires-clause-within g c =
-    let low : c.loop-tile.tile < tile_count c.args.scene.now c.args.width c.args.height =
-    omega (arith, c.tile_count-tile-end.ensures) in
-    tile_within c.args.scene.now c.args.width c.args.height _ c.loop-tile.tile c.requires.fits low
+draw_tile-requires-clause-within g c = grind (arith, tile_within)
 
 pub draw_tile-requires-clause-fits : goal.draw_tile-requires-clause-fits
-draw_tile-requires-clause-fits g c =
-    let low : c.loop-tile.tile < tile_count c.args.scene.now c.args.width c.args.height =
-    omega (arith, c.tile_count-tile-end.ensures) in
-    tile_fits c.args.scene.now c.args.width c.args.height _ c.loop-tile.tile c.requires.fits low
+draw_tile-requires-clause-fits g c = grind (arith, tile_fits)
 
 pub loop-tile-preserved : goal.loop-tile-preserved
 loop-tile-preserved g c =
@@ -29,10 +23,7 @@ loop-tile-preserved g c =
     let new = c.draw_tile.new.found in
     let back : take c.loop-tile.found.len (new ++ drop (length new) old) ≡ new =
     put_back c.loop-tile.found.len new old put.count (omega (arith, ap length numbers.value, numbers.len)) in
-    record {
-      tiles = rw back more;
-      left = inr (c.loop-tile.tile, refl, low, c.in_default.ensures.drawn);
-    }
+    grind arith
 
 pub returns-clause-found : goal.returns-clause-found
 returns-clause-found g c =

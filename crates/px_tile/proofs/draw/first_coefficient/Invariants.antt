@@ -1,4 +1,4 @@
-use Rattle.std.proofs.Common.{◌≡◌, None}
+use Rattle.px_num.proofs.Basics.{◌≡◌, None}
 use Rattle.px_model.specs.Planes.{first_past}
 use Rattle.px_tile.specs.Tilings.{scene_of_tile}
 use Rattle.px_tile.proofs.FirstLemmas.{found_from}

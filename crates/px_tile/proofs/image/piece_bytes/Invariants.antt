@@ -1,4 +1,4 @@
-use Rattle.std.proofs.Common.{◌≡◌, ◌*◌, take}
+use Rattle.px_num.proofs.Basics.{◌≡◌, ◌*◌, take}
 use Rattle.arrayvec.specs.ArrayVec.{array_vec_len}
 use Rattle.px_tile.specs.Parts.{bytes_of}
 use Rattle.px_tile.proofs.image.piece_bytes.Given as goal

@@ -1,16 +1,10 @@
-use Rattle.std.proofs.Common.{◌≡◌, arith}
+use Rattle.px_num.proofs.Basics.{◌≡◌, arith}
 use Rattle.px_frame.specs.Picture.{header}
 use Rattle.px_tile.proofs.ImageLemmas.{all_after, all_small, front_then, image_is}
 use Rattle.px_tile.proofs.image.write_part.Goals as goal
 
 pub write_pixels-requires : goal.write_pixels-requires
-write_pixels-requires g c = record {
-  small =
-      all_small c.args.scene.now c.laws_of_scenes.ensures.scene c.laws_of_surfaces.ensures.faces
-      c.laws_of_surfaces.ensures.first
-      c.args.width c.args.height c.args.found.now c.requires.found c.args.part
-      (omega (arith, c.requires.size.some_width));
-}
+write_pixels-requires g c = grind (arith, all_small)
 
 pub returns-clause-ok : goal.returns-clause-ok
 returns-clause-ok g c =

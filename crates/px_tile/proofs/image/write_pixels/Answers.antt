@@ -1,5 +1,4 @@
-use Rattle.std.proofs.Common.{◌≤◌, ◌∙◌, arith, drop, take}
-use Rattle.std.specs.List.{between}
+use Rattle.px_num.proofs.Basics.{◌≤◌, ◌∙◌, arith, drop, take, between}
 use Rattle.px_io.proofs.ToldLaws.{front_after, front_before, takes_both, on_err}
 use Rattle.px_tile.specs.Parts.{bytes_of}
 use Rattle.px_tile.proofs.ImageLemmas.{bytes_all, bytes_on}

@@ -1,4 +1,4 @@
-use Rattle.std.proofs.Common.{◌≡◌, ◌≤◌, ◌-◌, length, take}
+use Rattle.px_num.proofs.Basics.{◌≡◌, ◌≤◌, ◌-◌, length, take}
 use Rattle.px_io.specs.Told.{TakesAll}
 use Rattle.px_tile.specs.Parts.{bytes_of}
 use Rattle.px_tile.proofs.image.write_pixels.Given as goal

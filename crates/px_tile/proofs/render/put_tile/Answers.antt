@@ -1,17 +1,10 @@
-use Rattle.std.proofs.Common.{◌+◌, ◌^◌, ◌<◌, arith, refl}
+use Rattle.px_num.proofs.Basics.{◌+◌, arith, refl}
 use Rattle.px_frame.proofs.RowLaws.{other_row}
 use Rattle.px_tile.proofs.FoundLemmas.{rows_more, sights_held}
 use Rattle.px_tile.proofs.render.put_tile.Goals as goal
 
 pub put_row-requires-clause-sights : goal.put_row-requires-clause-sights
-put_row-requires-clause-sights g c =
-    let state = (g.A.Array.device c.args.array.now).state in
-    let y = c.loop-y.y in
-    let above : y < c.args.scene.now.height = omega (arith, c.height-y-end.ensures.value) in
-    let inside : y < 2 ^ state.tree.ny = omega (arith, above, c.requires.covers.rows) in
-    sights_held c.args.scene.now c.args.layout.now state y _ _ above inside c.requires.shows
-    (rw (c.b_depth-depth.ensures.field, c.width.ensures.value) at c.enter_row.ensures)
-    (rw (c.b_number-face.ensures.field, c.width-in-loop-y.ensures.value) at c.enter_row-in-loop-y.ensures)
+put_row-requires-clause-sights g c = grind (arith, sights_held)
 
 pub loop-y-preserved : goal.loop-y-preserved
 loop-y-preserved g c =

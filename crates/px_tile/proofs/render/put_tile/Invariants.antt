@@ -1,4 +1,4 @@
-use Rattle.std.proofs.Common.{◌≢◌, ◌%◌}
+use Rattle.px_num.proofs.Basics.{◌≢◌, ◌%◌}
 use Rattle.px_frame.specs.Strips.{HoldsRow}
 use Rattle.px_tile.specs.PutRows.{PutsRows}
 use Rattle.px_tile.proofs.render.put_tile.Given as goal

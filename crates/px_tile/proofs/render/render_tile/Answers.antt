@@ -1,4 +1,4 @@
-use Rattle.std.proofs.Common.{◌∙◌}
+use Rattle.px_num.proofs.Basics.{arith, ◌∙◌}
 use Rattle.px_tile.proofs.render.render_tile.Goals as goal
 
 pub put_tile-requires-clause-covers : goal.put_tile-requires-clause-covers
@@ -8,6 +8,4 @@ put_tile-requires-clause-covers g c =
     c.law_of_grids.ensures.covers _ _ _ _ c.laws_of_scenes.ensures.scene at
 
 pub put_tile-requires-clause-shows : goal.put_tile-requires-clause-shows
-put_tile-requires-clause-shows g c =
-    let same = c.finish.ensures.scene ∙ c.in_ok-job.ensures.job.0 in
-    rw (c.layout-layout.ensures, same) (rw same at c.finish.ensures.picture)
+put_tile-requires-clause-shows g c = grind arith

@@ -1,4 +1,4 @@
-use Rattle.std.proofs.Common.{arith}
+use Rattle.px_num.proofs.Basics.{arith}
 use Rattle.px_tile.proofs.TilingLemmas.{begins_inside}
 use Rattle.px_tile.proofs.tiling.span.Goals as goal
 
@@ -11,6 +11,4 @@ overflow_sub-pixels c =
     omega (arith, begins_inside c.args.size c.args.pixels c.args.tile c.requires.some c.requires.tile)
 
 pub returns : goal.returns
-returns c =
-    let inside = begins_inside c.args.size c.args.pixels c.args.tile c.requires.some c.requires.tile in
-    record { start = omega arith; length = omega arith; some = omega arith; few = omega arith; within = omega arith }
+returns c = grind (arith, begins_inside)

@@ -1,4 +1,4 @@
-use Rattle.std.proofs.Common.{◌≡◌, ℕ, ◌<◌, ◌≤◌, length}
+use Rattle.px_num.proofs.Basics.{◌≡◌, ℕ, ◌<◌, ◌≤◌, length}
 use Rattle.px_tree.specs.Nodes.{at_place, next_at}
 use Rattle.px_tree.proofs.feeding.feed_nodes.Given as goal
 

@@ -1,4 +1,4 @@
-use Rattle.std.proofs.Common.{◌≡◌}
+use Rattle.px_num.proofs.Basics.{◌≡◌}
 use Rattle.px_tree.specs.Feeds.{fed_form}
 use Rattle.px_tree.proofs.tree_bit.feed_form.Given as goal
 

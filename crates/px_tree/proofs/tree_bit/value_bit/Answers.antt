@@ -1,6 +1,5 @@
-use Rattle.std.proofs.Common.{◌≡◌, ◌+◌, ◌∙◌, ap, arith}
+use Rattle.px_num.proofs.Basics.{◌≡◌, ◌+◌, ◌∙◌, ap, arith}
 use Rattle.px_tree.specs.Feeds.{fed_form}
-use Rattle.px_tree.specs.Nodes.{leaf_bit}
 use Rattle.px_tree.proofs.LeafLemmas.{leaf_gives_tree_bit}
 use Rattle.px_tree.proofs.tree_bit.value_bit.Goals as goal
 
@@ -11,6 +10,4 @@ returns-clause-bit g c =
     let ny = c.args.ny in
     let feeds : c.args.t + nx + ny ≡ c.args.t + (nx + ny) = omega arith in
     let state = c.feed_form.ensures.state ∙ ap (fed_form form nx ny) feeds in
-    c.leaf.ensures ∙ (ap (λ tree. leaf_bit tree c.args.x c.args.y) state
-    ∙ leaf_gives_tree_bit form nx ny c.args.x c.args.y c.args.t c.requires.grid.0.0 c.requires.grid.1.0
-    c.requires.column c.requires.row c.requires.bit)
+    grind (arith, leaf_gives_tree_bit)

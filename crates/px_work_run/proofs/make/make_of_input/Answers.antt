@@ -1,20 +1,17 @@
-use Rattle.std.proofs.Common.{◌≡◌, Err, rules, refl}
+use Rattle.std.proofs.Common.{arith, refl}
+use Rattle.std.proofs.lemmas.Result.{err_from_is_err_and}
 use Rattle.px_work_run.proofs.WorkLemmas.{performs_read, performs_text, works_scene, works_text}
 use Rattle.px_outcome.proofs.RunLaws.{still}
 use Rattle.px_work_run.proofs.make.make_of_input.Goals as goal
 
 pub returns-in_err-text-clause-performs : goal.returns-in_err-text-clause-performs
-returns-in_err-text-clause-performs g c =
-    let is : c.from_residual.result ≡ Err c.in_err-text.field-0.0 = search rules in
-    performs_read _ c.args.work _ _ _ _ _ _ is c.in_err-text.ensures.err (still _ _ refl refl)
-    c.in_err-text.ensures.most
+returns-in_err-text-clause-performs g c = grind (arith, err_from_is_err_and, performs_read, still)
 
 pub returns-in_err-scene-clause-performs : goal.returns-in_err-scene-clause-performs
 returns-in_err-scene-clause-performs g c =
-    let is : c.from_residual-in_err-scene.result ≡ Err c.in_err-scene.field-0.0 = search rules in
-    performs_text _ c.args.work _ _ _ _ c.in_ok-text.ensures.front c.in_ok-text.ensures.taken
-    (works_text _ c.args.work _ _ _ _ _ _ is c.as_slice.ensures.value c.in_err-scene.ensures.err
-    (still _ _ refl refl))
+    let p = err_from_is_err_and c.from_residual-in_err-scene.result c.from_residual-in_err-scene.ensures.1 in
+    rw (p.1, p.2) (performs_text _ c.args.work _ _ _ _ c.in_ok-text.ensures.front c.in_ok-text.ensures.taken
+    (works_text c.args.work _ _ _ _ _ _ c.as_slice.ensures.value c.in_err-scene.ensures.err refl refl))
 
 pub returns-clause-performs : goal.returns-clause-performs
 returns-clause-performs g c =

@@ -1,7 +1,6 @@
-use Rattle.std.proofs.Common.{◌≢◌, ◌<◌, ap, eqb, sym, ◌∙◌, arith, below_more, w64}
-use Rattle.std.proofs.lemmas.Nat.Bits.{bit_at_set_same, bit_at_set_other}
-use Rattle.px_array.proofs.pixel_grid.PixelGridGrid.word.Goals as goal
+use Rattle.px_num.proofs.Basics.{◌≢◌, ◌<◌, ap, eqb, sym, ◌∙◌, arith, below_more, w64, bit_at_set_same, bit_at_set_other}
 use Rattle.px_array.proofs.pixel_grid.PixelGridGrid.word.Goals.{then-bit_of_word, else-bit_of_word}
+use Rattle.px_array.proofs.pixel_grid.PixelGridGrid.word.Goals as goal
 
 pub loop-i-preserved : goal.loop-i-preserved
 loop-i-preserved g c = elim c.if-bit_of_word.branch [
@@ -15,9 +14,5 @@ loop-i-preserved g c = elim c.if-bit_of_word.branch [
             ap (λ b. eqb b 1) (bit_at_set_other w64 _ _ within j ne) ∙ c.loop-i.invariant.rest j (omega arith) h;
       })
   | else-bit_of_word w ↦
-      rw w.word-is (record {
-        done = below_more _ _ c.loop-i.invariant.done (c.loop-i.invariant.rest c.loop-i.i (omega arith) (omega arith)
-            ∙ (sym w.if-bit_of_word.false ∙ c.bit_of_word.ensures));
-        rest = λ j l h. c.loop-i.invariant.rest j (omega arith) h;
-      })
+      grind (arith, below_more)
 ]

@@ -1,4 +1,4 @@
-use Rattle.std.proofs.Common.{◌≡◌, ℕ, ◌+◌, ◌*◌, ◌<◌, ◌≤◌, false}
+use Rattle.px_num.proofs.Basics.{◌≡◌, ℕ, ◌+◌, ◌*◌, ◌<◌, ◌≤◌, false}
 use Rattle.px_num.specs.Bits.{nat_bit}
 use Rattle.px_array.specs.Words.{memory_bit}
 use Rattle.px_array.proofs.pixel_grid.PixelGridGrid.word.Given as goal

@@ -1,4 +1,4 @@
-use Rattle.std.proofs.Common.{◌≡◌}
+use Rattle.px_num.proofs.Basics.{◌≡◌}
 use Rattle.px_array.proofs.ClockLaws.{grid_after_clocks}
 use Rattle.px_asm.specs.Making.{micros_on}
 use Rattle.px_asm.proofs.KeptLemmas.{kept_by_micros}

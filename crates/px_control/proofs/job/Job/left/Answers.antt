@@ -1,17 +1,9 @@
-use Rattle.std.proofs.Common.{arith}
+use Rattle.px_num.proofs.Basics.{arith}
 use Rattle.px_control.proofs.PlaceLemmas.{clock_within}
 use Rattle.px_control.proofs.job.Job.left.Goals as goal
 
 pub overflow_sub-result : goal.overflow_sub-result
-overflow_sub-result c =
-    omega (
-      arith,
-      c.self.invariant.clocks,
-      clock_within c.self.inside.program c.self.inside.place
-          c.laws.ensures.good.lawful c.self.invariant.stands,
-    )
+overflow_sub-result c = grind (arith, clock_within)
 
 pub returns-clause-within : goal.returns-clause-within
-returns-clause-within c =
-    rw (← c.self.view_is) (clock_within c.self.inside.program c.self.inside.place c.laws.ensures.good.lawful
-    c.self.invariant.stands)
+returns-clause-within c = grind (arith, clock_within)

@@ -1,11 +1,8 @@
-use Rattle.std.proofs.Common.{◌∙◌, ap, arith}
+use Rattle.px_num.proofs.Basics.{◌∙◌, ap, arith}
 use Rattle.px_array.specs.Arrays.{opened}
 use Rattle.px_control.specs.Program.{columns_of, rows_of}
 use Rattle.px_control.proofs.StepLemmas.{at_opened}
 use Rattle.px_control.proofs.job.Job.open.Goals as goal
-
-pub open-requires : goal.open-requires
-open-requires g c = record { grid = rw c.grid-columns.ensures c.laws.ensures.good.grid }
 
 pub returns-clause-at : goal.returns-clause-at
 returns-clause-at g c =

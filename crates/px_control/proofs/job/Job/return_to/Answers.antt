@@ -1,4 +1,4 @@
-use Rattle.std.proofs.Common.{subst, sym}
+use Rattle.px_num.proofs.Basics.{subst, sym}
 use Rattle.px_control.specs.Standing.{JobView, StandsFor}
 use Rattle.px_control.proofs.job.Job.return_to.Goals as goal
 

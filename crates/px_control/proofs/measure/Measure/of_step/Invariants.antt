@@ -1,5 +1,4 @@
-use Rattle.std.proofs.Common.{◌≡◌, ℕ, ◌*◌, ◌≤◌, take}
-use Rattle.std.specs.List.{sum_by}
+use Rattle.px_num.proofs.Basics.{◌≡◌, ℕ, ◌*◌, ◌≤◌, take, sum_by}
 use Rattle.px_model.specs.Scenes.{SceneView}
 use Rattle.px_sched.specs.declared.step.Step.{Step}
 use Rattle.px_sched.specs.Layouts.{layout_of}

@@ -1,19 +1,9 @@
-use Rattle.std.proofs.Common.{arith}
+use Rattle.px_num.proofs.Basics.{arith}
 use Rattle.px_control.proofs.PlaceLemmas.{here_of, stands_next}
 use Rattle.px_control.proofs.program.Program.after.Goals as goal
 
 pub overflow_add-clock : goal.overflow_add-clock
-overflow_add-clock c =
-    let here = here_of c.args.self.now c.args.place.now c.args.m.now c.laws.ensures.good.lawful c.requires.stands
-    c.requires.here
-    in omega (
-      arith,
-      here.below,
-      c.laws.ensures.good.clocks,
-      c.laws.ensures.good.few c.args.m.now here.lawful,
-      c.requires.cycles,
-      c.requires.within,
-    )
+overflow_add-clock c = grind (arith, here_of)
 
 pub returns-else-to-cycles-clause-stands : goal.returns-else-to-cycles-clause-stands
 returns-else-to-cycles-clause-stands c =

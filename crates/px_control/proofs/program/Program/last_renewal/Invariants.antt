@@ -1,5 +1,4 @@
-use Rattle.std.proofs.Common.{◌≡◌, ◌-◌, ◌≤◌, length}
-use Rattle.std.specs.Prelude.{IfSome}
+use Rattle.px_num.proofs.Basics.{◌≡◌, ◌-◌, ◌≤◌, length, IfSome}
 use Rattle.px_asm.specs.Operated.{Known}
 use Rattle.px_sched.specs.Passes.{passes}
 use Rattle.px_control.specs.Standing.{StandsFor}

@@ -1,30 +1,10 @@
-use Rattle.std.proofs.Common.{arith}
+use Rattle.px_num.proofs.Basics.{arith}
 use Rattle.px_control.proofs.PlaceLemmas.{here_of}
 use Rattle.px_control.proofs.WholeLemmas.{left_more, made_law, none_left, sized_more}
 use Rattle.px_control.proofs.program.Program.make_one.Goals as goal
 
-pub cycles-cycles-requires : goal.cycles-cycles-requires
-cycles-cycles-requires g c =
-    (here_of c.args.self.now c.args.place.now c.in-Some.m c.laws.ensures.good.lawful c.requires.stands
-    c.in-Some.is).lawful
-
-pub make_micros-requires-clause-lawful : goal.make_micros-requires-clause-lawful
-make_micros-requires-clause-lawful g c =
-    let good = c.laws.ensures.good in
-    let here = here_of c.args.self.now c.args.place.now c.in-Some.m good.lawful c.requires.stands c.in-Some.is in
-    c.laws.ensures.more c.in-Some.m _ 256 (omega (arith, good.bits)) here.lawful
-
-pub make_micros-requires-clause-places : goal.make_micros-requires-clause-places
-make_micros-requires-clause-places g c =
-    let here = here_of c.args.self.now c.args.place.now c.in-Some.m c.laws.ensures.good.lawful c.requires.stands
-    c.in-Some.is in
-    c.laws.ensures.more c.in-Some.m _ _ c.requires.enough here.lawful
-
 pub make_micros-requires-clause-counted : goal.make_micros-requires-clause-counted
-make_micros-requires-clause-counted g c =
-    let good = c.laws.ensures.good in
-    let here = here_of c.args.self.now c.args.place.now c.in-Some.m good.lawful c.requires.stands c.in-Some.is in
-    omega (arith, c.requires.sized.clocks, here.below, good.clocks, c.cycles-cycles.ensures.few)
+make_micros-requires-clause-counted g c = grind (arith, here_of)
 
 pub returns-in-Some-clause-sized : goal.returns-in-Some-clause-sized
 returns-in-Some-clause-sized g c =
@@ -43,8 +23,7 @@ returns-in-Some-clause-device g c =
     let place = c.args.place.now in
     let made = made_law scene place.clock c.in-Some.m before _ c.cycles-cycles.result c.requires.sized
     c.cycles-cycles.ensures.value c.make_micros.ensures.device in
-    λ end low. left_more scene place c.in-Some.m before _ _ end c.requires.stands c.in-Some.is
-    (c.after.ensures.operation (omega arith)) low made
+    grind (arith, left_more)
 
 pub returns-in-None-clause-operation : goal.returns-in-None-clause-operation
 returns-in-None-clause-operation g c =
@@ -52,8 +31,4 @@ returns-in-None-clause-operation g c =
 
 pub returns-in-None-clause-later : goal.returns-in-None-clause-later
 returns-in-None-clause-later g c =
-    absurd (omega (arith, c.requires.more, none_left c.args.self.now c.args.place.now c.requires.stands c.in-None.is))
-
-pub returns-in-None-clause-device : goal.returns-in-None-clause-device
-returns-in-None-clause-device g c =
     absurd (omega (arith, c.requires.more, none_left c.args.self.now c.args.place.now c.requires.stands c.in-None.is))

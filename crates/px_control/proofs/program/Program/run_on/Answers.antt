@@ -1,36 +1,20 @@
-use Rattle.std.proofs.Common.{arith}
+use Rattle.px_num.proofs.Basics.{arith}
 use Rattle.px_control.proofs.PlaceLemmas.{at_end, clocks_at, here_of}
 use Rattle.px_control.proofs.RunLemmas.{at_run, cycles_are, grid_at}
 use Rattle.px_control.proofs.program.Program.run_on.Goals as goal
-
-pub cycles-cycles-requires : goal.cycles-cycles-requires
-cycles-cycles-requires g c =
-    (here_of c.args.self.now c.args.place.now c.in-Some.m c.laws.ensures.good.lawful c.requires.stands
-    c.in-Some.is).lawful
 
 pub make_micros-requires-clause-grid : goal.make_micros-requires-clause-grid
 make_micros-requires-clause-grid g c =
     grid_at _ c.args.self.now c.args.place.now.clock _ c.laws.ensures.good.grid c.requires.at
 
 pub make_micros-requires-clause-lawful : goal.make_micros-requires-clause-lawful
-make_micros-requires-clause-lawful g c =
-    let good = c.laws.ensures.good
-    in let here = here_of c.args.self.now c.args.place.now c.in-Some.m good.lawful c.requires.stands c.in-Some.is
-    in c.laws.ensures.more c.in-Some.m _ 256 (omega (arith, good.bits)) here.lawful
+make_micros-requires-clause-lawful g c = grind (arith, here_of)
 
 pub make_micros-requires-clause-places : goal.make_micros-requires-clause-places
-make_micros-requires-clause-places g c =
-    let here = here_of c.args.self.now c.args.place.now c.in-Some.m c.laws.ensures.good.lawful c.requires.stands
-    c.in-Some.is
-    in c.laws.ensures.more c.in-Some.m _ _ c.requires.at.enough here.lawful
+make_micros-requires-clause-places g c = grind (arith, here_of)
 
 pub make_micros-requires-clause-within : goal.make_micros-requires-clause-within
-make_micros-requires-clause-within g c =
-    omega (
-      arith,
-      cycles_are _ c.args.self.now c.args.place.now.clock _ c.in-Some.m c.requires.at,
-      c.cycles-cycles.ensures.value,
-    )
+make_micros-requires-clause-within g c = grind (arith, cycles_are)
 
 pub make_micros-requires-clause-counted : goal.make_micros-requires-clause-counted
 make_micros-requires-clause-counted g c =
@@ -53,11 +37,4 @@ returns-in-Some-clause-at g c =
     (omega (arith, c.cycles-cycles.ensures.value)) c.requires.at c.make_micros.ensures.device)
 
 pub returns-in-None-clause-later : goal.returns-in-None-clause-later
-returns-in-None-clause-later g c =
-    absurd (omega (
-      arith,
-      c.requires.before,
-      c.requires.within,
-      at_end c.args.self.now c.args.place.now
-          c.requires.stands c.in-None.is,
-    ))
+returns-in-None-clause-later g c = grind (arith, at_end)

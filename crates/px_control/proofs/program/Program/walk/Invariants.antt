@@ -1,4 +1,4 @@
-use Rattle.std.proofs.Common.{◌≡◌, ◌-◌, ◌≤◌}
+use Rattle.px_num.proofs.Basics.{◌≡◌, ◌-◌, ◌≤◌}
 use Rattle.px_array.specs.Slots.{worked}
 use Rattle.px_control.specs.Program.{IsAt}
 use Rattle.px_control.specs.Standing.{StandsFor}

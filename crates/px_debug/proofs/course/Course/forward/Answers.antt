@@ -1,4 +1,4 @@
-use Rattle.std.proofs.Common.{◌≡◌, ◌+◌, ◌-◌, ◌≤◌, ◌∙◌, inl, inr, [], ap, arith, length, take}
+use Rattle.px_num.proofs.Basics.{◌≡◌, ◌+◌, ◌-◌, ◌≤◌, ◌∙◌, inl, inr, [], ap, arith, length, take}
 use Rattle.circular_buffer.specs.Buffer.{Buffer, buffer}
 use Rattle.px_array.specs.declared.micro.Micro.{Micro}
 use Rattle.px_control.specs.Program.{program}

@@ -1,4 +1,4 @@
-use Rattle.std.proofs.Common.{◌≡◌, ◌+◌, ◌-◌, ◌≤◌}
+use Rattle.px_num.proofs.Basics.{◌≡◌, ◌+◌, ◌-◌, ◌≤◌}
 use Rattle.px_control.specs.Program.{ends_after, total}
 use Rattle.px_debug.specs.Courses.{IsOnCourse, IsSameCourse, IsTraced}
 use Rattle.px_debug.specs.Moves.{after_ends}

@@ -1,4 +1,4 @@
-use Rattle.std.proofs.Common.{◌≡◌, ◌*◌, ◌∙◌, ap, arith, subst, sym}
+use Rattle.px_num.proofs.Basics.{◌≡◌, ◌*◌, ◌∙◌, ap, arith, subst, sym}
 use Rattle.px_control.specs.Program.{IsAt}
 use Rattle.px_control.specs.declared.place.Place.{Place}
 use Rattle.px_debug.proofs.MarkingLemmas.{marked_at, marks_more, slots_more}
@@ -30,15 +30,4 @@ returns-then-is_due-clause-course g c =
     }
 
 pub returns-else-is_due-clause-course : goal.returns-else-is_due-clause-course
-returns-else-is_due-clause-course g c =
-    let course = c.requires.course in
-    let next = rw c.if-is_due.false at c.is_due.ensures in
-    record {
-      at = course.at;
-      marks = course.marks;
-      marked = record {
-        passed = course.marked.passed;
-        next = λ few. rw c.now.ensures.clock at next few;
-      };
-      keeps = course.keeps;
-    }
+returns-else-is_due-clause-course g c = grind arith

@@ -1,4 +1,4 @@
-use Rattle.std.proofs.Common.{◌≡◌, ◌+◌, ◌*◌, ap, arith, refl, ◌∙◌}
+use Rattle.px_num.proofs.Basics.{◌≡◌, ◌+◌, ◌*◌, ap, arith, refl}
 use Rattle.px_control.specs.Standing.{JobView}
 use Rattle.px_control.specs.Program.{array_after}
 use Rattle.px_debug.proofs.MarkingLemmas.{marked_at, marks_front, same_device}
@@ -15,8 +15,7 @@ returns-clause-course g c =
     let course = c.requires.course in
     let q = old.quarter in
     let scene : c.return_to.new.self.scene ≡ old.job.scene = ap (λ (j : JobView). j.scene) c.return_to.ensures in
-    let clock : c.return_to.new.self.place.clock ≡ k * q = ap (λ (j : JobView). j.place.clock) c.return_to.ensures
-    ∙ course.marks.clocks k _ c.requires.passed in
+    let clock : c.return_to.new.self.place.clock ≡ k * q = grind arith in
     let device : g.A.Array.device c.restore.new.self ≡ array_after g.A.Array.BITS old.job.scene (k * q) =
     same_device _ _ _ c.restore.ensures.device (course.keeps.kept k c.requires.passed) in
     record {

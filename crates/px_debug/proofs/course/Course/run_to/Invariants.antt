@@ -1,4 +1,4 @@
-use Rattle.std.proofs.Common.{◌≡◌, ◌+◌, ◌-◌, ◌≤◌}
+use Rattle.px_num.proofs.Basics.{◌≡◌, ◌+◌, ◌-◌, ◌≤◌}
 use Rattle.px_debug.specs.Courses.{IsOnCourse, IsSameCourse}
 use Rattle.px_debug.proofs.course.Course.run_to.Given as goal
 

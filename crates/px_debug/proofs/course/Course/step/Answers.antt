@@ -1,4 +1,4 @@
-use Rattle.std.proofs.Common.{◌∙◌}
+use Rattle.px_num.proofs.Basics.{◌∙◌}
 use Rattle.px_control.specs.Program.{program}
 use Rattle.px_debug.proofs.TraceLemmas.{one}
 use Rattle.px_debug.proofs.course.Course.step.Goals as goal

@@ -1,4 +1,4 @@
-use Rattle.std.proofs.Common.{◌≡◌, ◌+◌, ◌≤◌, ◌++◌, drop, take}
+use Rattle.px_num.proofs.Basics.{◌≡◌, ◌+◌, ◌≤◌, ◌++◌, drop, take}
 use Rattle.circular_buffer.specs.Buffer.{buffer, keep_last}
 use Rattle.px_control.specs.Program.{program}
 use Rattle.px_debug.specs.Courses.{IsOnCourse, IsSameCourse}

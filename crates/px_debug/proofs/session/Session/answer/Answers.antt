@@ -1,4 +1,4 @@
-use Rattle.std.proofs.Common.{◌∙◌, arith, subst, sym}
+use Rattle.px_num.proofs.Basics.{◌∙◌, arith, subst, sym}
 use Rattle.px_control.specs.Program.{IsAt}
 use Rattle.px_debug.specs.Answers.{answer_in}
 use Rattle.px_debug.specs.Moves.{SessionView}
@@ -25,21 +25,10 @@ tree_answer-requires g c = record {
 }
 
 pub trace_text-requires-clause-few : goal.trace_text-requires-clause-few
-trace_text-requires-clause-few g c =
-    rw c.self.invariant.traced (omega (
-      arith,
-      short_trace c.self.inside.course.job.scene c.self.inside.course.job.place.clock
-          (omega (arith, c.now-now.ensures.clock, c.now-now.ensures.within)),
-    ))
+trace_text-requires-clause-few g c = grind (arith, short_trace)
 
 pub trace_text-requires-clause-made : goal.trace_text-requires-clause-made
-trace_text-requires-clause-made g c =
-    rw c.self.invariant.traced (omega (
-      arith,
-      c.now-now.ensures.clock,
-      short_trace c.self.inside.course.job.scene c.self.inside.course.job.place.clock
-          (omega (arith, c.now-now.ensures.clock, c.now-now.ensures.within)),
-    ))
+trace_text-requires-clause-made g c = grind (arith, short_trace)
 
 pub returns-in-Trace : goal.returns-in-Trace
 unfolding answer_in

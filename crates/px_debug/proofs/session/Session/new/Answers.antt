@@ -1,4 +1,4 @@
-use Rattle.std.proofs.Common.{◌≡◌, ◌*◌, ◌∙◌, ap, arith, refl, subst, sym}
+use Rattle.px_num.proofs.Basics.{◌≡◌, ◌*◌, ◌∙◌, ap, arith, refl}
 use Rattle.px_control.specs.Program.{IsAt}
 use Rattle.px_control.specs.Standing.{JobView}
 use Rattle.px_debug.specs.Marks.{HasSlots}
@@ -19,15 +19,9 @@ returns-clause-fits g c =
     let after = g.A.Array.device c.save.new.self in
     let scene : course.job.scene ≡ c.args.job.scene = ap (λ (j : JobView). j.scene) job in
     let clock : course.job.place.clock ≡ 0 = ap (λ (j : JobView). j.place.clock) job ∙ c.requires.start in
-    let here : IsAt g.A.Array.BITS course.job.scene (0 * course.quarter) before =
-    subst (λ n. IsAt g.A.Array.BITS course.job.scene n before) (let z : 0 ≡ 0 * course.quarter = omega arith in z)
-    (subst (λ s. IsAt g.A.Array.BITS s 0 before) (sym scene) c.requires.at) in
+    let here : IsAt g.A.Array.BITS course.job.scene (0 * course.quarter) before = grind arith in
     let one : HasSlots g.A.Array.BITS course.job.scene course.quarter 1 (g.A.Array.slots c.save.new.self) =
-    rw c.save.ensures.slots (slots_more g.A.Array.BITS course.job.scene course.quarter 0 before
-    (g.A.Array.slots c.args.array.now)
-    (rw c.requires.fresh (slots_none g.A.Array.BITS course.job.scene course.quarter))
-    (omega (arith, c.save.ensures.four))
-    here) in
+    grind (arith, slots_more, slots_none) in
     fits_session g.A.Array.BITS course _ after (g.A.Array.slots c.save.new.self) refl refl kept.quarter c.requires.few
     record {
       at = rw (c.save.ensures.device, clock, scene) c.requires.at;

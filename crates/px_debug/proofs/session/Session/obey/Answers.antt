@@ -1,4 +1,4 @@
-use Rattle.std.proofs.Common.{◌∙◌, ap, refl, sym}
+use Rattle.px_num.proofs.Basics.{◌∙◌, ap, refl, sym}
 use Rattle.px_debug.specs.Moves.{quarter_of}
 use Rattle.px_debug.proofs.FittingLemmas.{fits_session}
 use Rattle.px_debug.proofs.session.Session.obey.Goals as goal

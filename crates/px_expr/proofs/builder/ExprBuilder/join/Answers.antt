@@ -1,4 +1,4 @@
-use Rattle.std.proofs.Common.{◌∙◌, ap, sym, arith, length}
+use Rattle.px_num.proofs.Basics.{◌∙◌, ap, sym, arith, length}
 use Rattle.px_expr.specs.Postorder.{placed}
 use Rattle.px_expr.specs.Shapes.{joined}
 use Rattle.px_expr.specs.Waiting.{newest}
@@ -11,13 +11,7 @@ pub take_two-requires : goal.take_two-requires
 take_two-requires c = omega (arith, (counts _ _ _ c.self.invariant).subtrees, ap length c.self.view_is)
 
 pub put-requires-clause-few : goal.put-requires-clause-few
-put-requires-clause-few c =
-    omega (
-      arith,
-      (counts _ _ _ c.self.invariant).subtrees,
-      (counts _ _ _ c.self.invariant).leaves,
-      ap length c.self.view_is,
-    )
+put-requires-clause-few c = grind (arith, counts)
 
 pub invariant_of-self-2 : goal.invariant_of-self-2
 invariant_of-self-2 c =

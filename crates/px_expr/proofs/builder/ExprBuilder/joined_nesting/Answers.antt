@@ -1,4 +1,4 @@
-use Rattle.std.proofs.Common.{◌≡◌, ◌≤◌, ◌+◌, ◌-◌, ◌∷◌, [], ◌++◌, List, max, take, length, ap, sym, ◌∙◌, arith}
+use Rattle.px_num.proofs.Basics.{◌≡◌, ◌≤◌, ◌+◌, ◌-◌, ◌∷◌, [], ◌++◌, List, max, take, length, arith}
 use Rattle.px_expr.specs.Tree.{Tree, join, nesting}
 use Rattle.px_expr.specs.Shapes.{joined}
 use Rattle.px_expr.specs.Waiting.{newest}
@@ -14,19 +14,13 @@ module _ (given : List Node) (kept items : List Subtree) (left right : Subtree) 
     (is : IsKept given kept trees) (view : trees ≡ now) (two : 2 ≤ length now) (same : items ≡ kept)
     (last : items ≡ take (length items - 2) items ++ left ∷ right ∷ []) where
   nesting_is : (op : Op) → max left.nesting right.nesting + 1 ≡ nesting (newest (joined join op now))
-  nesting_is op =
-      rw (← view) (nesting_joined kept (take (length items - 2) items) left right op trees is.subtrees
-      (omega (arith, ap length view)) (sym same ∙ last))
+  nesting_is op = grind (arith, nesting_joined)
 
   most_is : max left.nesting right.nesting ≤ MAX_NESTING
-  most_is =
-      nesting_most kept (take (length items - 2) items) left right trees is.subtrees (omega (arith, ap length view))
-      (sym same ∙ last) is.lawful
+  most_is = grind (arith, nesting_most)
 
 pub last_two-requires : goal.last_two-requires
-last_two-requires c =
-    let here = (counts _ _ _ c.self.invariant).subtrees in
-    omega (arith, ap length c.self.view_is, ap length c.deref.ensures.value)
+last_two-requires c = grind (arith, counts)
 
 most_here : (c : goal.After-max) → max c.last_two.result.0.nesting c.last_two.result.1.nesting ≤ MAX_NESTING
 most_here c = most_is _ _ _ _ _ _ _ c.self.invariant c.self.view_is c.requires c.deref.ensures.value c.last_two.ensures
@@ -35,11 +29,7 @@ pub overflow_add-result : goal.overflow_add-result
 overflow_add-result c = omega (arith, most_here c)
 
 pub returns-clause-nesting : goal.returns-clause-nesting
-returns-clause-nesting c op =
-    let here : max c.last_two.result.0.nesting c.last_two.result.1.nesting + 1
-    ≡ nesting (newest (joined join op c.args.self.now)) =
-    nesting_is _ _ _ _ _ _ _ c.self.invariant c.self.view_is c.requires c.deref.ensures.value c.last_two.ensures op
-    in omega (arith, here)
+returns-clause-nesting c op = grind (arith, nesting_is)
 
 pub returns-clause-most : goal.returns-clause-most
 returns-clause-most c = omega (arith, most_here c)

@@ -1,5 +1,4 @@
-use Rattle.std.proofs.Common.{◌++◌, ◌∷◌, [], ap, ◌∙◌, arith}
-use Rattle.px_expr.specs.declared.node.Node.TheVariants as n
+use Rattle.px_num.proofs.Basics.{nat_tests, common_steps, arith}
 use Rattle.px_expr.proofs.WaitingLemmas.{counts, few_leaves, kept_leaf, after_push, same_kept}
 use Rattle.px_expr.proofs.builder.ExprBuilder.leaf.Goals as goal
 
@@ -9,11 +8,4 @@ put-requires-clause-few c =
     in omega (arith, (counts _ _ _ c.self.invariant).leaves)
 
 pub invariant_of-self-2 : goal.invariant_of-self-2
-invariant_of-self-2 c =
-    same_kept _ _ _ _ _ _
-    (c.put.ensures.nodes ∙ ap (λ nodes. nodes ++ n.Leaf c.args.solid ∷ []) c.reserve.ensures.items)
-    (c.put.ensures.waiting ∙ cc (c.reserve.ensures.len, c.reserve-2.ensures.items))
-    (after_push _ _ _ _ c.put.ensures.nodes c.reserve.ensures.items)
-    (kept_leaf _ _ _ c.args.solid c.self.invariant
-    (few_leaves _ _ _ c.self.view_is c.leaves.ensures c.if-leaves-eq-MAX_LEAVES.false c.self.invariant.leaves)
-    (omega arith))
+invariant_of-self-2 c = grind (arith, nat_tests, common_steps, same_kept, after_push, kept_leaf, few_leaves)

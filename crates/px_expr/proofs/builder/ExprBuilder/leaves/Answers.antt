@@ -1,4 +1,4 @@
-use Rattle.std.proofs.Common.{arith}
+use Rattle.px_num.proofs.Basics.{arith}
 use Rattle.px_expr.proofs.WaitingLemmas.{counts}
 use Rattle.px_expr.proofs.builder.ExprBuilder.leaves.Goals as goal
 

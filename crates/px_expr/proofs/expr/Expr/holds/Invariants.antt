@@ -1,4 +1,4 @@
-use Rattle.std.proofs.Common.{◌≡◌, map, reverse, take}
+use Rattle.px_num.proofs.Basics.{◌≡◌, map, reverse, take}
 use Rattle.px_expr.specs.Cells.{is_member, is_true}
 use Rattle.px_expr.specs.Postorder.{trees_after}
 use Rattle.px_expr.proofs.expr.Expr.holds.Given as goal

@@ -1,4 +1,4 @@
-use Rattle.std.proofs.Common.{◌≡◌, ap, ◌∙◌, arith}
+use Rattle.px_num.proofs.Basics.{◌≡◌, ap, ◌∙◌, arith}
 use Rattle.px_expr.specs.Tree.{IsLawfulTree}
 use Rattle.px_expr.specs.Postorder.{nodes_of}
 use Rattle.px_expr.proofs.PostorderLemmas.{tree_of_nodes, can_place, leaves_below, size_leaves, length-nodes_behind}
@@ -15,13 +15,7 @@ pub returns-clause-tree : goal.returns-clause-tree
 returns-clause-tree c = rw (nodes_are c) (tree_of_nodes _)
 
 pub returns-clause-few : goal.returns-clause-few
-returns-clause-few c =
-    rw (nodes_are c) (omega (
-      arith,
-      (lawful c).leaves,
-      size_leaves c.args.self.now,
-      length-nodes_behind 0 c.args.self.now,
-    ))
+returns-clause-few c = grind (arith, nodes_are, lawful, size_leaves, length-nodes_behind)
 
 pub returns-clause-places : goal.returns-clause-places
 returns-clause-places c = rw (nodes_are c) (λ i any lt. can_place _ i any (lawful c).depth lt)

@@ -1,4 +1,4 @@
-use Rattle.std.proofs.Common.{◌∙◌, sym}
+use Rattle.px_num.proofs.Basics.{◌∙◌, sym}
 use Rattle.px_listing.specs.Drafts.{listing_view_of}
 use Rattle.px_listing.proofs.ReadLemmas.{kept_more}
 use Rattle.px_listing.proofs.draft.Draft.add.Goals as goal

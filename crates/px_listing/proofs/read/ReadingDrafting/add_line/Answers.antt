@@ -1,4 +1,4 @@
-use Rattle.std.proofs.Common.{◌∙◌}
+use Rattle.px_num.proofs.Basics.{arith}
 use Rattle.px_text.specs.LentWords.{now_of}
 use Rattle.px_listing.specs.Drafts.{listing_view_of}
 use Rattle.px_listing.proofs.ReadLemmas.{read_next, told}
@@ -8,16 +8,10 @@ pub add_words-requires : goal.add_words-requires
 add_words-requires c = record { bits = c.requires.1.0 }
 
 pub returns-clause-bad : goal.returns-clause-bad
-returns-clause-bad c before so f is =
-    rw (← c.as_slice.ensures.value) (told c.args.self.now.bits (listing_view_of c.args.self.now.draft) before _ so.1
-    ∙ c.add_words.ensures.bad f is)
+returns-clause-bad c before so f is = grind (arith, told)
 
 pub returns-clause-good : goal.returns-clause-good
-returns-clause-good c before so =
-    rw (
-      ← c.as_slice.ensures.value,
-      told c.args.self.now.bits (listing_view_of c.args.self.now.draft) before (now_of c.as_slice.result.now) so.1,
-    ) c.add_words.ensures.good
+returns-clause-good c before so = grind (arith, told)
 
 pub returns-clause-says : goal.returns-clause-says
 returns-clause-says c before so =

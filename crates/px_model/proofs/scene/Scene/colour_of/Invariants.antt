@@ -1,4 +1,4 @@
-use Rattle.std.proofs.Common.{◌≡◌, drop}
+use Rattle.px_num.proofs.Basics.{◌≡◌, drop}
 use Rattle.px_model.specs.Scenes.{colour_in_scene}
 use Rattle.px_model.proofs.scene.Scene.colour_of.Given as goal
 

@@ -1,4 +1,4 @@
-use Rattle.std.proofs.Common.{◌≡◌, ◌-ℤ◌, ◌∙◌, ap, refl, rules, subst, sym}
+use Rattle.px_num.proofs.Basics.{◌≡◌, ◌-ℤ◌, ◌∙◌, ap, refl, rules, subst, sym}
 use Rattle.px_num.specs.declared.linear.Linear.{Linear}
 use Rattle.px_num.specs.Forms.{IsInTreeRange, minus, value_at}
 use Rattle.px_num.proofs.FormLaws.{IsInTreeRange-minus, value_at-minus}

@@ -1,5 +1,5 @@
-use Rattle.std.proofs.Common.{◌≡◌, ◌≤◌, ◌^◌, lit≤, w64, to_z, of_z, ℕ, ℤ, pos, ◌+ℤ◌, ◌*ℤ◌, arith}
-use Rattle.std.proofs.lemmas.Int.{ints}
+use Rattle.px_num.proofs.Basics.{◌≡◌, ◌≤◌, ◌^◌, w64, to_z, of_z, ℕ, ℤ, pos, ◌+ℤ◌, ◌*ℤ◌, arith, ints}
+use Rattle.std.proofs.Common.{lit≤}
 use Rattle.px_num.specs.Forms.{IsWithin, value_at}
 use Rattle.px_num.specs.declared.linear.Linear.{Linear}
 use Rattle.px_num.proofs.linear.Linear.value.Goals as goal

@@ -1,4 +1,4 @@
-use Rattle.std.proofs.Common.{◌∙◌, arith}
+use Rattle.px_num.proofs.Basics.{◌∙◌, arith}
 use Rattle.px_plane_tree.proofs.OutputLemmas.{small_words, small_bits, large_words, large_bits, large_fits}
 use Rattle.px_plane_tree.proofs.plane_tree.PlaneTree.outputs.Goals as goal
 
@@ -12,19 +12,11 @@ pub returns-then-level-lt6-clause-words : goal.returns-then-level-lt6-clause-wor
 returns-then-level-lt6-clause-words c = c.part.ensures.words ∙ small_words c.args.level (omega arith)
 
 pub returns-then-level-lt6-clause-bits : goal.returns-then-level-lt6-clause-bits
-returns-then-level-lt6-clause-bits c =
-    rw (← c.self.view_is) (small_bits c.args.level c.self.inside.nx c.self.inside.ny c.self.inside.outputs.items
-    c.self.inside.carries.items c.self.inside.small.items c.part.result.now c.requires.from_one (omega arith)
-    (rw (← c.self.view_is) at c.requires.in_tree) c.self.invariant.tree.low c.part.ensures.words
-    (rw c.deref.ensures.value at c.part.ensures.bits))
+returns-then-level-lt6-clause-bits c = grind (arith, small_bits)
 
 pub returns-else-level-lt6-clause-words : goal.returns-else-level-lt6-clause-words
 returns-else-level-lt6-clause-words c =
     c.part-else-level-lt6.ensures.words ∙ large_words c.args.level c.power-at.result (omega arith) c.power-at.ensures
 
 pub returns-else-level-lt6-clause-bits : goal.returns-else-level-lt6-clause-bits
-returns-else-level-lt6-clause-bits c =
-    rw (← c.self.view_is) (large_bits c.args.level c.self.inside.nx c.self.inside.ny c.power-at.result
-    c.self.inside.outputs.items c.self.inside.carries.items c.part-else-level-lt6.result.now (omega arith)
-    (rw (← c.self.view_is) at c.requires.in_tree) c.power-at.ensures c.part-else-level-lt6.ensures.words
-    (rw c.deref-else-level-lt6.ensures.value at c.part-else-level-lt6.ensures.bits))
+returns-else-level-lt6-clause-bits c = grind (arith, large_bits)

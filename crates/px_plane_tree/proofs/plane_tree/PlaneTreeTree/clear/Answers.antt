@@ -1,6 +1,4 @@
-use Rattle.std.proofs.Common.{◌≡◌, ◌∙◌, true, length, replicate, ap}
-use Rattle.std.proofs.lemmas.List.{length-replicate}
-use Rattle.px_tree.specs.Nodes.{TreeState, cleared}
+use Rattle.px_num.proofs.Basics.{arith, ◌≡◌, ◌∙◌, true, length, replicate, ap, length-replicate}
 use Rattle.px_plane_tree.proofs.TreeLemmas.{cleared_seen, cleared_tree}
 use Rattle.px_plane_tree.proofs.plane_tree.PlaneTreeTree.clear.Goals as goal
 
@@ -24,7 +22,4 @@ invariant_of-self c =
     }
 
 pub returns : goal.returns
-returns c =
-    rw (c.fill.ensures.items (λ y e. e), c.fill-2.ensures.items (λ y e. e))
-    (cleared_seen c.self.inside.nx c.self.inside.ny c.self.inside.outputs.len c.self.inside.carries.len)
-    ∙ ap (λ (t : TreeState). cleared t.nx t.ny) c.self.view_is
+returns c = grind (arith, cleared_seen)

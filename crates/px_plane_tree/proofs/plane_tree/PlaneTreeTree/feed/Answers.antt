@@ -1,5 +1,5 @@
-use Rattle.std.proofs.Common.{◌∙◌, ◌≡◌, ℕ, List, length, get_or, ap, arith}
-use Rattle.std.proofs.lemmas.List.{with_items_is, get_or_default}
+use Rattle.px_num.proofs.Basics.{◌∙◌, ◌≡◌, ℕ, List, length, get_or, ap, arith, get_or_default}
+use Rattle.std.proofs.lemmas.List.{with_items_is}
 use Rattle.px_tree.specs.Nodes.{after_feed}
 use Rattle.px_plane_tree.proofs.TreeLemmas.{fed_seen, fed_tree}
 use Rattle.px_plane_tree.proofs.plane_tree.PlaneTreeTree.feed.Goals as goal

@@ -1,20 +1,11 @@
-use Rattle.std.proofs.Common.{◌≡◌, ◌∙◌, ◌+◌, ◌*◌, ◌/◌, ◌%◌, ◌^◌, ◌<◌, ℕ, List, [], get_or, length, ap, arith}
-use Rattle.std.proofs.lemmas.List.{get_or_default}
+use Rattle.px_num.proofs.Basics.{◌≡◌, ◌∙◌, ◌+◌, ◌*◌, ◌^◌, ◌<◌, ℕ, List, [], get_or, length, ap, arith, get_or_default}
 use Rattle.px_num.specs.Bits.{nat_bit}
 use Rattle.px_rows.specs.Rows.{row_bit}
 use Rattle.px_planes.proofs.GridLemmas.{row_law}
 use Rattle.px_planes.proofs.plane_grid.PlaneGridGrid.word.Goals as goal
 
 pub word-requires : goal.word-requires
-word-requires g c =
-    let planes = c.self.inside.planes in
-    let pixels = c.self.invariant.pixels in
-    let place : c.args.at < length planes.memory.items = omega (arith, c.requires.place, pixels.memory) in
-    let row : c.index.result.now ≡ get_or planes.memory.items c.args.at [] =
-    c.index.ensures ∙ get_or_default planes.memory.items c.args.at _ [] place in
-    let some : 64 * c.args.w < 2 ^ (c.self.inside.tree.nx + c.self.inside.tree.ny) =
-    rw (← c.self.view_is) at c.requires.word in
-    omega (arith, ap length row, pixels.words.memory c.args.at place, some)
+word-requires g c = grind (arith, get_or_default)
 
 pub returns : goal.returns
 returns g c = λ i within.
@@ -25,10 +16,6 @@ returns g c = λ i within.
     c.index.ensures ∙ get_or_default planes.memory.items c.args.at _ [] place in
     let some : 64 * c.args.w < 2 ^ (c.self.inside.tree.nx + c.self.inside.tree.ny) =
     rw (← c.self.view_is) at c.requires.word in
-    let which : c.args.w ≡ (64 * c.args.w + i) / 64 = omega arith in
-    let bit : i ≡ (64 * c.args.w + i) % 64 = omega arith in
-    let read : nat_bit c.word.result i ≡ row_bit c.index.result.now (64 * c.args.w + i) =
-    ap (λ n. nat_bit n i) c.word.ensures ∙ (ap (λ w. nat_bit (get_or c.index.result.now w 0) i) which
-    ∙ ap (λ j. nat_bit (get_or c.index.result.now ((64 * c.args.w + i) / 64) 0) j) bit) in
+    let read : nat_bit c.word.result i ≡ row_bit c.index.result.now (64 * c.args.w + i) = grind arith in
     rw (← c.self.view_is) (read ∙ (ap (λ (xs : List ℕ). row_bit xs (64 * c.args.w + i)) row
     ∙ row_law g.row.N _ planes c.args.at (64 * c.args.w + i) pixels c.requires.place (omega (arith, some))))

@@ -1,5 +1,4 @@
-use Rattle.std.proofs.Common.{◌≡◌, ◌∙◌, ◌<◌, ℕ, List, [], get_or, length, ap, arith}
-use Rattle.std.proofs.lemmas.List.{get_or_default}
+use Rattle.px_num.proofs.Basics.{◌≡◌, ◌∙◌, ◌<◌, ℕ, List, [], get_or, length, ap, arith, get_or_default}
 use Rattle.px_rows.specs.Rows.{row_bit}
 use Rattle.px_planes.proofs.GridLemmas.{row_law}
 use Rattle.px_planes.proofs.plane_grid.PlaneGridRowGrid.row.Goals as goal

@@ -1,4 +1,4 @@
-use Rattle.std.proofs.Common.{◌≡◌, replicate}
+use Rattle.px_num.proofs.Basics.{◌≡◌, replicate}
 use Rattle.px_planes.proofs.planes.Planes.zero.Given as goal
 
 abbrev pub invariant-loop : goal.invariant-loop

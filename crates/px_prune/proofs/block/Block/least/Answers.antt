@@ -1,4 +1,4 @@
-use Rattle.std.proofs.Common.{rules}
+use Rattle.px_num.proofs.Basics.{rules}
 use Rattle.px_prune.specs.Blocks.{least_in}
 use Rattle.px_prune.proofs.BlockLemmas.{least_bounds}
 use Rattle.px_prune.proofs.block.Block.least.Goals as goal

@@ -1,4 +1,4 @@
-use Rattle.std.proofs.Common.{sym, refl, ◌∙◌}
+use Rattle.px_num.proofs.Basics.{sym, refl, ◌∙◌}
 use Rattle.px_text.specs.LentWords.{now_of}
 use Rattle.px_scene.specs.DraftViews.{view_of}
 use Rattle.px_scene.proofs.ParseLemmas.{found, lawful_with, within}

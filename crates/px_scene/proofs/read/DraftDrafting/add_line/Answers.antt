@@ -1,5 +1,4 @@
-use Rattle.std.proofs.Common.{◌∙◌}
-use Rattle.px_text.specs.LentWords.{now_of}
+use Rattle.px_num.proofs.Basics.{arith, nat_tests, common_steps, ◌∙◌}
 use Rattle.px_scene.specs.DraftViews.{view_of}
 use Rattle.px_scene.proofs.ReadLemmas.{read_next}
 use Rattle.px_scene.proofs.DraftLaws.{told}
@@ -13,12 +12,7 @@ returns-clause-bad c before so f is =
     rw (← c.as_slice.ensures.value) (told (view_of c.args.self.now) before _ so.says ∙ c.add_words.ensures.bad f is)
 
 pub returns-clause-good : goal.returns-clause-good
-returns-clause-good c before so =
-    rw (← c.as_slice.ensures.value, told (view_of c.args.self.now) before (now_of c.as_slice.result.now) so.says)
-    c.add_words.ensures.good
+returns-clause-good c before so = grind (arith, told)
 
 pub returns-clause-says : goal.returns-clause-says
-returns-clause-says c before so =
-    rw (← c.as_slice.ensures.value) (read_next c.add_words.result (view_of c.args.self.now)
-    (view_of c.add_words.new.self) before (now_of c.as_slice.result.now) so c.add_words.ensures.taken
-    c.add_words.ensures.lawful)
+returns-clause-says c before so = grind (arith, nat_tests, common_steps, read_next)

@@ -1,4 +1,4 @@
-use Rattle.std.proofs.Common.{◌≡◌, ◌∙◌, IfSome, ap, subst}
+use Rattle.px_num.proofs.Basics.{◌≡◌, ◌∙◌, IfSome, ap, subst}
 use Rattle.px_scene.specs.Drafts.{DraftView, drawn}
 use Rattle.px_scene.specs.Reading.{is_nothing}
 use Rattle.px_scene.proofs.read.DraftDrafting.finish.Goals as goal

@@ -1,4 +1,4 @@
-use Rattle.std.proofs.Common.{length, ap, ◌∙◌}
+use Rattle.px_num.proofs.Basics.{length, ap, ◌∙◌}
 use Rattle.px_sched.specs.declared.group.Stage.{Stage}
 use Rattle.px_sched.specs.Groups.{stage_operations}
 use Rattle.px_sched.proofs.group.Stage.count.Goals as goal

@@ -1,4 +1,4 @@
-use Rattle.std.proofs.Common.{◌∙◌}
+use Rattle.px_num.proofs.Basics.{◌∙◌}
 use Rattle.px_sets.proofs.MeetsLaws.{meets_is}
 use Rattle.px_sets.proofs.set.SolidSet.meets.Goals as goal
 

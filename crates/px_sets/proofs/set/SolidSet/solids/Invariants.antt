@@ -1,8 +1,6 @@
-use Rattle.std.proofs.Common.{◌≡◌, ◌≤◌}
-use Rattle.std.specs.List.{filter}
+use Rattle.px_num.proofs.Basics.{◌≡◌, ◌≤◌, filter}
 use Rattle.arrayvec.specs.ArrayVec.{array_vec_len}
-use Rattle.px_sets.specs.Sets.{has}
-use Rattle.px_sets.specs.Sets.{below}
+use Rattle.px_sets.specs.Sets.{has, below}
 use Rattle.px_sets.proofs.set.SolidSet.solids.Given as goal
 
 abbrev pub invariant-loop-solid : goal.invariant-loop-solid

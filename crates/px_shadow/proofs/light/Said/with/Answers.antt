@@ -1,4 +1,4 @@
-use Rattle.std.proofs.Common.{◌∙◌, sym}
+use Rattle.px_num.proofs.Basics.{arith, ◌∙◌, sym}
 use Rattle.px_shadow.proofs.SayingLemmas.{light_more, nothing_more}
 use Rattle.px_shadow.proofs.light.Said.with.Goals as goal
 
@@ -8,6 +8,4 @@ returns-in-Nothing c ws e =
     c.first_word.ensures ss ∙ nothing_more ss ws c.args.word.now (sym c.in-Nothing.is ∙ e)
 
 pub returns-in-Light : goal.returns-in-Light
-returns-in-Light c ws e =
-    let ss = c.args.scene.now.solids in
-    c.next_word.ensures ∙ light_more ss ws c.args.word.now _ _ _ _ (sym c.in-Light.is ∙ e)
+returns-in-Light c ws e = grind (arith, light_more)

@@ -1,4 +1,4 @@
-use Rattle.std.proofs.Common.{arith}
+use Rattle.px_num.proofs.Basics.{arith}
 use Rattle.px_show.proofs.StackLemmas.{closes_sides, both_ok}
 use Rattle.px_show.proofs.stack.Stack.close.Goals as goal
 

@@ -1,5 +1,4 @@
-use Rattle.std.proofs.Common.{◌<◌, ◌^◌, true, false, length, ap, sym, ◌∙◌, arith}
-use Rattle.std.specs.List.{count_by}
+use Rattle.px_num.proofs.Basics.{◌<◌, ◌^◌, true, false, length, ap, sym, ◌∙◌, arith, count_by}
 use Rattle.px_show.specs.Expressions.{counts_past}
 use Rattle.px_show.specs.Stacks.{is_leaf}
 use Rattle.px_show.proofs.StackLemmas.{whole_fault, few_counted, few_leaves}

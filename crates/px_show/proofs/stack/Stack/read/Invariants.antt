@@ -1,9 +1,8 @@
-use Rattle.std.proofs.Common.{map, take}
+use Rattle.px_num.proofs.Basics.{map, take}
 use Rattle.px_model.specs.Scenes.{names_of}
 use Rattle.px_show.specs.Expressions.{parts_of}
 use Rattle.px_show.specs.Stacks.{token_of, IsStackOf}
 use Rattle.px_show.proofs.stack.Stack.read.Given as goal
 
 abbrev pub invariant-loop-token : goal.invariant-loop-token
-invariant-loop-token l =
-    IsStackOf (names_of l.solids) l.stack (parts_of (map token_of (take l.token-index l.tokens)))
+invariant-loop-token l = IsStackOf (names_of l.solids) l.stack (parts_of (map token_of (take l.token-index l.tokens)))

@@ -1,4 +1,4 @@
-use Rattle.std.proofs.Common.{◌∙◌, refl}
+use Rattle.px_num.proofs.Basics.{◌∙◌, refl}
 use Rattle.px_state.proofs.ShapeLemmas.{few_words, full_law}
 use Rattle.px_state.proofs.shape.Shape.of.Goals as goal
 

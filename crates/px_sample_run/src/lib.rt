@@ -1,6 +1,0 @@
-//! The command `sample`.
-#![tactic(auto)]
-
-mod sample;
-
-pub use sample::draw_sample;

@@ -1,0 +1,292 @@
+//! The command `shadow`: the image of the lights that the lines behind a scene name.
+ghost use Rattle.std.specs.Prelude.{◌≡◌, ◌≢◌, ◌+◌, ◌<◌, ◌≤◌, ◌==◌, All, IfErr, IfOk, OnErr, OnOk, Err, length, true, unwrap_or};
+ghost use Rattle.std.specs.Io.KnownBytes.{Appends};
+ghost use Rattle.px_io.specs.Counts.{HasCause};
+ghost use Rattle.px_io.specs.Told.{TakesAll, TakesFront, Tells};
+ghost use Rattle.px_array.specs.Slots.{IsRunOnce, array_view};
+ghost use Rattle.px_control.specs.GridLaw.{CoversThePicture};
+ghost use Rattle.px_control.specs.Program.{IsAt};
+ghost use Rattle.px_asked.specs.Parts.{part_end};
+ghost use Rattle.px_sets.specs.Sets.{IsBelow};
+ghost use Rattle.px_sched.specs.Layouts.{layout_of};
+ghost use Rattle.px_shadow.specs.Lights.{mask_image};
+ghost use Rattle.px_shadow.specs.Shaded.{IsShaded};
+ghost use Rattle.px_shadow.specs.ShadowPasses.{need_with};
+ghost use Rattle.px_shadow.specs.Stored.{StoresTheLights};
+ghost use Rattle.px_outcome.specs.declared.stop.Stop.{Stop};
+ghost use Rattle.px_outcome.specs.Arrays.{Draws};
+ghost use Rattle.px_outcome.specs.Outcomes.{Outcome};
+ghost use Rattle.px_outcome.specs.Ends.{ends};
+ghost use Rattle.px_outcome.specs.Results.{HasCauses, status_in, status_of};
+ghost use Rattle.px_outcome.specs.Inputs.{TookText};
+ghost use Rattle.px_shadow.specs.Shadows.{PerformsShadow, Shades, ShadesBy, ShadesParts, line_behind, lit, lit_drawable, parts_lit, shadowed};
+ghost use Rattle.px_outcome.specs.Stops.{DoesWork, StopsAt, stopped};
+
+use crate::law::laws_of_shadows;
+use crate::light::{LightFault, read_lights};
+use crate::masks::write_masks;
+use crate::passes::{need, shade};
+use arrayvec::ArrayVec;
+use px_array::Array;
+use px_asked::{laws_of_parts, part_end};
+use px_asm::Operating;
+use px_control::Job;
+use px_deliver::draw;
+use px_io::{Failed, Sink, Source};
+use px_outcome::{
+    Kind, READ_LIMIT, Refusal, SceneStop, Stop, behind, open_job, read_text, scene_in,
+    short_of_bits, too_long,
+};
+use px_scene::{Scene, laws_of_scenes};
+use px_sched::{Layout, NeedBits, laws_of_passes};
+use px_sets::SolidSet;
+use px_text::MAX_TEXT_BYTES;
+use std::alloc::Global;
+
+/// Reads the input to its end, and draws the image of the lights that the lines behind its scene
+/// part name.
+pub fn shadow_input<S: Source, O: Sink, A: Operating>(
+    alloc: Global,
+    input: &mut S,
+    out: &mut O,
+    array: &mut A,
+) -> Result<(), Stop>
+    requires bits { A.BITS ≤ 256 }
+    ensures performs { PerformsShadow result A.BITS
+        (ends (S.rest input.old) (S.faults input.old) (O.state out.old)
+        (A.device array.old) (A.slots array.old) (A.work array.old))
+        (ends (S.rest input.new) (S.faults input.new) (O.state out.new)
+        (A.device array.new) (A.slots array.new) (A.work array.new)) }
+    ensures causes { HasCauses result (S.faults input.old) (S.faults input.new) (O.state out.old).faults
+        (O.state out.new).faults }
+    ensures took { TookText (status_in result)
+        (S.rest input.old) (S.rest input.new) }
+    ensures worded { result ≢ Err Stop.Usage }
+{
+    let text = read_text(alloc, input)?;
+    shade_text(alloc, text.as_slice(), out, array)
+}
+
+/// Draws the lights of a text.
+fn shade_text<O: Sink, A: Operating>(
+    alloc: Global,
+    text: &[u8],
+    out: &mut O,
+    array: &mut A,
+) -> Result<(), Stop>
+    requires bits { A.BITS ≤ 256 }
+    ensures serves { DoesWork result (shadowed text.now A.BITS)
+        (O.state out.old) (O.state out.new) }
+    ensures array { Shades (status_in result) A.BITS text.now
+        (array_view (A.device array.old) (A.slots array.old) (A.work array.old))
+        (array_view (A.device array.new) (A.slots array.new) (A.work array.new)) }
+{
+    if text.len() >= READ_LIMIT {
+        return Err(Stop::Refused(too_long()));
+    }
+    let length = part_length(text);
+    shade_parts(alloc, &text[..length], behind(text, length), out, array)
+}
+
+/// How many bytes the scene part of a text has.
+fn part_length(text: &[u8]) -> usize
+    ensures value { result ≡ unwrap_or (part_end text.now) (length text.now) }
+    ensures within { result ≤ length text.now }
+{
+    laws_of_parts();
+    match part_end(text) {
+        Some(length) => length,
+        None => text.len(),
+    }
+}
+
+/// Draws the lights of a scene part and the lines behind it.
+fn shade_parts<O: Sink, A: Operating>(
+    alloc: Global,
+    part: &[u8],
+    behind: &[u8],
+    out: &mut O,
+    array: &mut A,
+) -> Result<(), Stop>
+    requires bits { A.BITS ≤ 256 }
+    requires part { length part.now ≤ MAX_TEXT_BYTES }
+    requires behind { length behind.now ≤ MAX_TEXT_BYTES }
+    ensures serves { DoesWork result (parts_lit A.BITS part.now behind.now)
+        (O.state out.old) (O.state out.new) }
+    ensures array { ShadesParts (status_in result) A.BITS part.now behind.now
+        (array_view (A.device array.old) (A.slots array.old) (A.work array.old))
+        (array_view (A.device array.new) (A.slots array.new) (A.work array.new)) }
+{
+    let scene = scene_in(alloc, part)?;
+    let lights = read_lights(&scene, behind, line_behind(part))?;
+    shade_scene(alloc, &scene, &lights, out, array)
+}
+
+/// The number of the line behind a part of whole lines.
+fn line_behind(part: &[u8]) -> u32
+    requires { length part.now ≤ MAX_TEXT_BYTES }
+    ensures value { result ≡ line_behind part.now }
+    ensures most { result ≤ READ_LIMIT }
+{
+    part.iter().filter(|b| **b == b'\n').count() as u32 + 1
+}
+
+impl From<LightFault> for Stop {
+    ghost use Rattle.std.specs.Prelude.{◌≡◌};
+    ghost use Rattle.px_outcome.specs.declared.stop.Stop.TheVariants.{Refused};
+    ghost use Rattle.px_shadow.specs.Shadows.{light_refusal};
+
+    ghost from_gives = { λ fault stop. stop ≡ Refused (light_refusal fault) };
+
+    fn from(fault: LightFault) -> Self {
+        match fault {
+            LightFault::Malformed { line, cause } => {
+                Stop::Refused(Refusal::Malformed { line, cause })
+            }
+            LightFault::Limit { line, found } => {
+                let found = i64::from(found);
+                let kind = Kind::Lights;
+                Stop::Refused(Refusal::Limit { line, kind, found })
+            }
+        }
+    }
+}
+
+/// Draws a scene on the array and makes its shadow passes, and writes the image of its lights.
+fn shade_scene<O: Sink, A: Operating>(
+    alloc: Global,
+    scene: &Scene,
+    lights: &ArrayVec<SolidSet, 8>,
+    out: &mut O,
+    array: &mut A,
+) -> Result<(), Stop>
+    requires bits { A.BITS ≤ 256 }
+    requires known { All (IsBelow (length scene.now.solids)) lights.now.items }
+    ensures serves { DoesWork result (lit A.BITS scene.now lights.now.items)
+        (O.state out.old) (O.state out.new) }
+    ensures array { ShadesBy (status_in result) A.BITS scene.now lights.now.items
+        (array_view (A.device array.old) (A.slots array.old) (A.work array.old))
+        (array_view (A.device array.new) (A.slots array.new) (A.work array.new)) }
+{
+    let mut job = open_lit(alloc, scene, lights.len(), array)?;
+    match deliver_masks(&mut job, scene, lights, array, out) {
+        Ok(()) => Ok(()),
+        Err(_) => Err(Stop::WriteFault),
+    }
+}
+
+/// Opens the array for a scene and so many lights.
+fn open_lit<'s, A: Array>(
+    alloc: Global,
+    scene: &'s Scene,
+    lights: usize,
+    array: &mut A,
+) -> Result<Job<'s>, SceneStop>
+    requires bits { A.BITS ≤ 256 }
+    requires few { lights ≤ 8 }
+    ensures job { IfOk result (λ job. (job.scene ≡ scene.now) × (job.place.clock ≡ 0)) }
+    ensures at { OnOk result (IsAt A.BITS scene.now 0 (A.device array.new)) }
+    ensures once { OnOk result (IsRunOnce
+        (array_view (A.device array.new) (A.slots array.new) (A.work array.new))) }
+    ensures need { OnOk result (need_with (layout_of scene.now) lights ≤ A.BITS) }
+    ensures fits { OnOk result ((o : Outcome) → lit_drawable A.BITS scene.now lights o ≡ o) }
+    ensures err { IfErr result (λ stop. StopsAt (lit_drawable A.BITS scene.now lights) stop) }
+    ensures array { IfErr result (λ stop. Draws (status_of (stopped stop)) A.BITS scene.now
+        (array_view (A.device array.old) (A.slots array.old) (A.work array.old))
+        (array_view (A.device array.new) (A.slots array.new) (A.work array.new))) }
+{
+    let need = bits_needed(scene, lights, A::BITS as u32);
+    if need as usize > A::BITS {
+        return Err(SceneStop::Refused(short_of_bits(need)));
+    }
+    open_job(alloc, scene, array)
+}
+
+/// How many bits of a pixel a scene and so many lights need, where a pixel has so many.
+fn bits_needed(scene: &Scene, lights: usize, bits: u32) -> u32
+    requires few { lights ≤ 8 }
+    ensures { result ≡ need_with (layout_of scene.now) lights }
+{
+    laws_of_scenes(scene);
+    laws_of_passes();
+    match Layout::of(scene, bits) {
+        Ok(layout) => need(&layout, lights),
+        Err(NeedBits { need }) => need + lights as u32,
+    }
+}
+
+/// Makes the clocks that are left of a job and the shadow passes, writes the image of the lights
+/// that the array then stores, and finishes.
+fn deliver_masks<A: Operating, O: Sink>(
+    job: &mut Job<'_>,
+    scene: &Scene,
+    lights: &ArrayVec<SolidSet, 8>,
+    array: &mut A,
+    out: &mut O,
+) -> Result<(), Failed>
+    requires scene { scene.now ≡ job.old.scene }
+    requires at { IsAt A.BITS scene.now job.old.place.clock (A.device array.old) }
+    requires need { need_with (layout_of scene.now) (length lights.now.items) ≤ A.BITS }
+    requires known { All (IsBelow (length scene.now.solids)) lights.now.items }
+    ensures ok { OnOk result (Appends (O.state out.old).written (O.state out.new).written
+        (mask_image scene.now lights.now.items)) }
+    ensures end { OnOk result (Tells (O.state out.new).finished true) }
+    ensures err { OnErr result (TakesFront (O.state out.old) (O.state out.new) (mask_image scene.now lights.now.items)) }
+    ensures cause { HasCause (O.state out.old).faults (O.state out.new).faults result }
+    ensures shaded { IsShaded A.BITS scene.now lights.now.items (A.device array.new) }
+    ensures once { IsRunOnce
+        (array_view (A.device array.old) (A.slots array.old) (A.work array.old))
+        → IsRunOnce (array_view (A.device array.new) (A.slots array.new) (A.work array.new)) }
+{
+    let layout = draw_lit(job, scene, lights, array);
+    write_lights(array, &layout, scene, lights, out)?;
+    out.finish()
+}
+
+/// Makes the clocks that are left of a job and then the shadow passes, and answers where the
+/// picture stands in a pixel's memory.
+fn draw_lit<A: Operating>(
+    job: &mut Job<'_>,
+    scene: &Scene,
+    lights: &ArrayVec<SolidSet, 8>,
+    array: &mut A,
+) -> Layout
+    requires scene { scene.now ≡ job.old.scene }
+    requires at { IsAt A.BITS scene.now job.old.place.clock (A.device array.old) }
+    requires need { need_with (layout_of scene.now) (length lights.now.items) ≤ A.BITS }
+    requires known { All (IsBelow (length scene.now.solids)) lights.now.items }
+    ensures layout { result ≡ layout_of scene.now }
+    ensures shaded { IsShaded A.BITS scene.now lights.now.items (A.device array.new) }
+    ensures once { IsRunOnce
+        (array_view (A.device array.old) (A.slots array.old) (A.work array.old))
+        → IsRunOnce (array_view (A.device array.new) (A.slots array.new) (A.work array.new)) }
+    ensures lights { StoresTheLights scene.now result lights.now.items
+        (A.device array.new).state }
+    ensures grid { CoversThePicture scene.now (A.device array.new) }
+{
+    let _now = job.now();
+    let layout = draw(job, scene, array);
+    shade(scene, &layout, lights, array);
+    layout
+}
+
+/// Writes the image of the lights that an array stores.
+fn write_lights<A: Array, O: Sink>(
+    array: &A,
+    layout: &Layout,
+    scene: &Scene,
+    lights: &ArrayVec<SolidSet, 8>,
+    out: &mut O,
+) -> Result<(), Failed>
+    requires need { need_with layout.now (length lights.now.items) ≤ A.BITS }
+    requires lights { StoresTheLights scene.now layout.now lights.now.items
+        (A.device array.now).state }
+    requires grid { CoversThePicture scene.now (A.device array.now) }
+    ensures ok { OnOk result (TakesAll (O.state out.old) (O.state out.new) (mask_image scene.now lights.now.items)) }
+    ensures err { OnErr result (TakesFront (O.state out.old) (O.state out.new) (mask_image scene.now lights.now.items)) }
+    ensures cause { HasCause (O.state out.old).faults (O.state out.new).faults result }
+{
+    laws_of_scenes(scene);
+    laws_of_shadows();
+    write_masks(array, layout, scene, lights.len(), out)
+}
