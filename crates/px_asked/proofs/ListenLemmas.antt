@@ -1,26 +1,17 @@
 -- Listening on.
-use Rattle.px_num.proofs.Basics.{arith, ◌≡◌, ℕ, ◌-◌, List, [], ◌∷◌, ◌++◌, Option, None, append-nil, append_assoc, take}
+use Rattle.px_num.proofs.Basics.{arith, ◌≡◌, ℕ, ◌-◌, List, ◌++◌, Option, None, append-nil, take}
 use Rattle.px_num.proofs.Basics.{Consumes}
 use Rattle.px_io.proofs.ToldLaws.{consumes_both}
-use Rattle.px_asked.specs.Asks.{Ask, Notes, all_given}
-use Rattle.px_asked.proofs.AskLaws.{asked_both, given-append}
+use Rattle.px_asked.specs.Asks.{Ask, Notes}
+use Rattle.px_asked.proofs.AskLaws.{asked_both, each_both, given-append}
 use Rattle.px_asked.specs.Hearings.{HearingBegun, Heard, Waits}
-use Rattle.px_asked.specs.Listenings.{ListenedTo, Listens, Silent}
+use Rattle.px_asked.specs.Listenings.{ListenedTo, Listens}
 use Rattle.px_asked.specs.Parts.{part_end}
-
-silent_more : (n : ℕ) (w : Option (List ℕ)) (text : List ℕ) (xs : List Ask) (a : Ask) → Silent n w text xs
-    → a.told ≡ w → part_end (take (n - 1) (text ++ all_given xs)) ≡ None → Silent n w text (xs ++ a ∷ [])
-silent_more n w text [] a silent told none = (told, rw (append-nil text) at none, tt)
-silent_more n w text (x ∷ xs) a silent told none = (
-  silent.0,
-  silent.1,
-  silent_more n w (text ++ x.bytes) xs a silent.2 told (rw (append_assoc text x.bytes (all_given xs)) none),
-)
 
 -- one ask more
 listens_more : (n : ℕ) (a b c : Option (List Ask)) (w : Option (List ℕ)) (xs ys : List ℕ) → Listens n a b w xs
     → part_end (take (n - 1) xs) ≡ None → Notes b c w ys → Listens n a c w (xs ++ ys)
-listens_more n a b c w xs ys listens none noted = grind (arith, asked_both, given-append, append-nil, silent_more)
+listens_more n a b c w xs ys listens none noted = grind (arith, asked_both, given-append, append-nil, each_both)
 
 pub heard_more : (b : HearingBegun) (asks more : Option (List Ask)) (rest left w : Option (List ℕ)) (xs ys : List ℕ)
     → Waits b asks rest w xs → Notes asks more w ys → Consumes rest left ys → Heard b more left w (xs ++ ys)

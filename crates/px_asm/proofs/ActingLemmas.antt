@@ -1,8 +1,6 @@
 -- One pixel under a list of acts, each with the bit of the tree that it sees then.
 use Rattle.px_num.proofs.Basics.{◌≡◌, ℕ, zero, suc, ◌+◌, ◌<◌, Bool, refl, ap, ◌∙◌, arith}
-use Rattle.px_pixel.specs.Acts.{after_act}
-use Rattle.px_pixel.specs.Pixels.{PixelState}
-use Rattle.px_pixel.specs.declared.act.Act.{Act}
+use Rattle.px_asm.proofs.Words.{Act, after_act, PixelState}
 use Rattle.px_pixel.specs.declared.act.Act.TheVariants.{Nop}
 
 -- a pixel after n acts

@@ -1,21 +1,10 @@
 -- Two runs of the same micros from states of which some parts are known to be the same.
 use Rattle.px_num.proofs.Basics.{◌≡◌, ℕ, zero, suc, ◌+◌, ◌-◌, ◌*◌, ◌/◌, ◌%◌, ◌^◌, ◌<◌, ◌≤◌, ◌==◌, Bool, true, false}
 use Rattle.px_num.proofs.Basics.{if◌then◌else◌, List, [], ◌∷◌, All, refl, sym, subst, ap, ◌∙◌, arith, nat_tests}
-use Rattle.std.proofs.lemmas.List.{ext_get_or}
-use Rattle.px_pixel.specs.Acts.{after_act}
-use Rattle.px_pixel.specs.Pixels.{PixelState}
-use Rattle.px_pixel.specs.declared.act.Act.{Act}
-use Rattle.px_tree.specs.Nodes.{TreeState}
-use Rattle.px_macro.specs.Macros.{IsLawful}
-use Rattle.px_macro.specs.declared.operation.Macro.{Macro}
-use Rattle.px_array.specs.Arrays.{HasGrid, State, no_pixel, pixel_at}
-use Rattle.px_array.specs.Clocks.{after_clock, after_clocks, after_tree_op}
-use Rattle.px_array.specs.declared.micro.Micro.{Micro}
-use Rattle.px_array.specs.declared.micro.TreeOp.{TreeOp}
-use Rattle.px_array.specs.declared.micro.TreeOp.TheVariants.{Hold, Clear, Feed}
-use Rattle.px_array.proofs.ClockLaws.{grid_after_clock, pixel_at-after_clock, after_clocks-append}
-use Rattle.px_asm.specs.Micros.{act_at, all_micros, cycles, micro_at, micros, tree_at}
-use Rattle.px_asm.specs.Operated.{Known, all_known, all_renewed, renewed}
+use Rattle.px_asm.proofs.Words.{Act, act_at, after_act, after_clock, after_clocks, after_clocks-append, after_tree_op}
+use Rattle.px_asm.proofs.Words.{all_known, all_micros, all_renewed, Clear, cycles, ext_get_or, Feed, grid_after_clock}
+use Rattle.px_asm.proofs.Words.{HasGrid, Hold, IsLawful, Known, Macro, Micro, micro_at, micros, no_pixel, pixel_at}
+use Rattle.px_asm.proofs.Words.{pixel_at-after_clock, PixelState, renewed, State, tree_at, TreeOp, TreeState}
 use Rattle.px_asm.proofs.StepLemmas.{run_is_steps, steps}
 use Rattle.px_pixel.specs.declared.act.Act.TheVariants as act
 use Rattle.px_macro.specs.declared.operation.Macro.TheVariants as m

@@ -1,17 +1,9 @@
 -- What is left of one pixel by acts that compare two numbers, bit by bit.
 use Rattle.px_num.proofs.Basics.{◌≡◌, ℕ, zero, suc, ◌+◌, ◌-◌, ◌*◌, ◌%◌, ◌^◌, ◌<◌, ◌≤◌, ℤ, pos, Bool, true, false}
 use Rattle.px_num.proofs.Basics.{nat_le, nat_lt, refl, ap, ◌∙◌, arith, beq, mod-eq_of_lt, nat_tests}
-use Rattle.px_num.proofs.AdderLaws.{carry_is_overflow, flipped, flipped_bit, modulo-flipped, number}
-use Rattle.px_num.proofs.BitLaws.{modulo_below}
-use Rattle.px_num.specs.Bits.{carry_from, modulo}
-use Rattle.px_pixel.specs.Acts.{kept}
-use Rattle.px_pixel.specs.Pixels.{PixelState}
-use Rattle.px_macro.specs.FieldLaws.{BitsOfNumber, NumberIsBelow}
-use Rattle.px_macro.specs.Fields.{number_in}
-use Rattle.px_macro.specs.Macros.{keep}
-use Rattle.px_macro.specs.declared.field.Field.{Field}
-use Rattle.px_asm.specs.Micros.{less_act}
-use Rattle.px_asm.specs.Microprograms.{bits_of}
+use Rattle.px_asm.proofs.Words.{bits_of, BitsOfNumber, carry_from, carry_is_overflow, Field, flipped, flipped_bit}
+use Rattle.px_asm.proofs.Words.{keep, kept, less_act, modulo, modulo-flipped, modulo_below, number, number_in}
+use Rattle.px_asm.proofs.Words.{NumberIsBelow, PixelState}
 use Rattle.px_asm.proofs.ActingLemmas.{after_acts}
 use Rattle.px_asm.proofs.StoringLemmas.{two_more}
 use Rattle.px_pixel.specs.declared.act.Act.TheVariants as act

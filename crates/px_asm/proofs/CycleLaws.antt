@@ -1,9 +1,6 @@
--- The clocks of an operation are few.
+-- The clocks of an operation are some, and few.
 use Rattle.px_num.proofs.Basics.{ℕ, ◌≤◌, arith}
-use Rattle.px_asm.specs.Micros.{cycles}
-use Rattle.px_macro.specs.Macros.{IsLawful}
-use Rattle.px_macro.specs.declared.operation.Macro.{Macro}
-use Rattle.px_tree.specs.Nodes.{IsGrid}
+use Rattle.px_asm.proofs.Words.{cycles, IsGrid, IsLawful, Macro}
 use Rattle.px_macro.specs.declared.operation.Macro.TheVariants as m
 
 -- no operation takes more than 82 clocks
@@ -16,3 +13,8 @@ few_cycles (m.LoadConst f c) nx ny grid lawful = omega (arith, lawful.0.to_forty
 few_cycles (m.Copy f g) nx ny grid lawful = omega (arith, lawful.0.fields.0.to_forty)
 few_cycles (m.KeepLess f g) nx ny grid lawful = omega (arith, lawful.fields.0.to_forty)
 few_cycles op nx ny grid lawful = omega arith
+
+pub some_cycles : (op : Macro) (bits nx ny : ℕ) → IsLawful op bits → 1 ≤ cycles op nx ny
+some_cycles (m.LoadConst f c) bits nx ny lawful = omega (arith, lawful.0.from_one)
+some_cycles (m.Copy f g) bits nx ny lawful = omega (arith, lawful.0.fields.0.from_one)
+some_cycles op bits nx ny lawful = omega arith

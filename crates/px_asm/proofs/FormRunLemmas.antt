@@ -1,19 +1,9 @@
 -- What the acts of the operations on a form leave of one pixel, to which the tree brings the bits of its value.
 use Rattle.px_num.proofs.Basics.{◌≡◌, ℕ, zero, suc, ◌+◌, ◌<◌, ◌≤◌, ◌==◌, ℤ, pos, ◌+ℤ◌, Bool, true, false, not, length}
 use Rattle.px_num.proofs.Basics.{if◌then◌else◌, nat_le, refl, ap, ◌∙◌, arith, beq, is_negative, nat_tests, ints}
-use Rattle.px_num.proofs.AdderLaws.{flipped_bit, sum_bit}
-use Rattle.px_num.proofs.BitLaws.{modulo_bit}
-use Rattle.px_num.specs.Bits.{bit_at, bit_of, carry_from, modulo, nat_bit}
-use Rattle.px_num.proofs.TruthLaws.{beq_true, itself_true}
-use Rattle.px_pixel.specs.Acts.{after_act}
-use Rattle.px_pixel.specs.Pixels.{PixelState}
-use Rattle.px_pixel.specs.declared.act.Act.{Act}
-use Rattle.px_macro.specs.FieldLaws.{BitsOfNumber, NumberIsBelow}
-use Rattle.px_macro.specs.Fields.{number_in, with_number}
-use Rattle.px_macro.specs.Macros.{keep, with_field}
-use Rattle.px_macro.specs.declared.field.Field.{Field}
-use Rattle.px_asm.specs.Micros.{act_at}
-use Rattle.px_asm.specs.Microprograms.{bits_of}
+use Rattle.px_asm.proofs.Words.{Act, act_at, after_act, beq_true, bit_at, bit_of, bits_of, BitsOfNumber, carry_from}
+use Rattle.px_asm.proofs.Words.{Field, flipped_bit, itself_true, keep, modulo, modulo_bit, nat_bit, number_in}
+use Rattle.px_asm.proofs.Words.{NumberIsBelow, PixelState, sum_bit, with_field, with_number}
 use Rattle.px_asm.proofs.ActingLemmas.{after_acts, after_acts-parts, after_acts-same, after_nops}
 use Rattle.px_asm.proofs.ComparingLemmas.{HasCompared, kept_by_carry}
 use Rattle.px_asm.proofs.StoringLemmas.{put_by_stores, same_bits}

@@ -1,18 +1,9 @@
 -- What the micros of an operation do not begin anew they leave as it was.
 use Rattle.px_num.proofs.Basics.{arith, ◌≡◌, ℕ, zero, suc, ◌+◌, ◌%◌, ◌/◌, ◌^◌, ◌<◌, ◌==◌, Bool, true, false}
 use Rattle.px_num.proofs.Basics.{if◌then◌else◌, refl, sym, ap, ◌∙◌}
-use Rattle.px_pixel.specs.Acts.{after_act}
-use Rattle.px_pixel.specs.Pixels.{PixelState}
-use Rattle.px_pixel.specs.declared.act.Act.{Act}
-use Rattle.px_array.specs.Arrays.{HasGrid, State, pixel_at}
-use Rattle.px_array.specs.Clocks.{after_clocks, after_tree_op}
-use Rattle.px_array.specs.declared.micro.Micro.{Micro}
-use Rattle.px_array.specs.declared.micro.TreeOp.{TreeOp}
-use Rattle.px_array.specs.declared.micro.TreeOp.TheVariants.{Hold}
-use Rattle.px_array.proofs.ClockLaws.{pixel_at-after_clock}
-use Rattle.px_macro.specs.declared.operation.Macro.{Macro}
-use Rattle.px_asm.specs.Micros.{act_at, cycles, micro_at, micros}
-use Rattle.px_asm.specs.Operated.{LeavesTheRest, none_known, renewed}
+use Rattle.px_asm.proofs.Words.{Act, act_at, after_act, after_clocks, after_tree_op, cycles, HasGrid, Hold}
+use Rattle.px_asm.proofs.Words.{LeavesTheRest, Macro, Micro, micro_at, micros, none_known, pixel_at}
+use Rattle.px_asm.proofs.Words.{pixel_at-after_clock, PixelState, renewed, State, TreeOp}
 use Rattle.px_asm.proofs.StepLemmas.{grid_after_steps, run_is_steps, steps}
 use Rattle.px_pixel.specs.declared.act.Act.TheVariants as act
 use Rattle.px_macro.specs.declared.operation.Macro.TheVariants as m

@@ -1,24 +1,15 @@
 -- The microprogram law, operation by operation.
 use Rattle.px_num.proofs.Basics.{◌≡◌, ℕ, suc, ◌+◌, ◌*◌, ◌^◌, ◌<◌, ◌==◌, Bool, length, refl, sym, ap, ◌∙◌, arith}
 use Rattle.px_num.proofs.Basics.{is_negative}
-use Rattle.px_num.specs.Bits.{bit_of, nat_bit}
-use Rattle.px_num.specs.Forms.{IsInTreeRange, value_at}
-use Rattle.px_num.specs.declared.linear.Linear.{Linear}
-use Rattle.px_tree.specs.Nodes.{IsGrid, leaf_output}
-use Rattle.px_tree.specs.TreeBit.{LeafGivesSign, LeafGivesValue}
-use Rattle.px_macro.specs.FieldLaws.{BitsOfNumber, NumberIsBelow}
-use Rattle.px_macro.specs.declared.field.Field.{Field}
-use Rattle.px_macro.specs.declared.operation.Macro.TheVariants.{KeepSign, LoadLinear, KeepAtMost, AddLinear, LoadConst}
-use Rattle.px_macro.specs.declared.operation.Macro.TheVariants.{Copy, KeepLess}
-use Rattle.px_array.specs.Arrays.{HasGrid, State, pixel_of}
-use Rattle.px_asm.specs.Micros.{micro_at, tree_at}
-use Rattle.px_asm.specs.Microprograms.{LeaveTheMeaning, bits_of}
+use Rattle.px_asm.proofs.Words.{AddLinear, bit_of, bits_of, BitsOfNumber, Copy, Field, HasGrid, index_below, IsGrid}
+use Rattle.px_asm.proofs.Words.{IsInTreeRange, KeepAtMost, KeepLess, KeepSign, leaf_output, LeafGivesSign}
+use Rattle.px_asm.proofs.Words.{LeafGivesValue, LeaveTheMeaning, Linear, LoadConst, LoadLinear, micro_at, nat_bit}
+use Rattle.px_asm.proofs.Words.{NumberIsBelow, pixel_of, State, tree_at, value_at}
 use Rattle.px_asm.proofs.ActingLemmas.{after_acts-same}
 use Rattle.px_asm.proofs.FormRunLemmas.{at_most_act, kept_by_sign, kept_if_at_most, not_last, put_by_add, put_by_load}
 use Rattle.px_asm.proofs.ComparingLemmas.{kept_if_less}
 use Rattle.px_asm.proofs.PlaceLemmas.{act_of_choice}
 use Rattle.px_asm.proofs.StoringLemmas.{put_by_copy, put_by_stores}
-use Rattle.px_tree.proofs.PlaceLaws.{index_below}
 use Rattle.px_asm.proofs.StepLemmas.{leaf_while_fed, pixel_after_run, steps}
 
 memory_size : (bits nx ny : ℕ) (s : State) → HasGrid bits nx ny s → (x y : ℕ) → x < 2 ^ nx → y < 2 ^ ny

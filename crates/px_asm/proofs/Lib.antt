@@ -10,7 +10,7 @@ pub mod OperatedLemmas
 pub mod OperationsLemmas
 pub mod PlaceLemmas
 pub mod ProgramLemmas
-pub mod RenewalLemmas
 pub mod StepLemmas
 pub mod StoringLemmas
+pub mod Words
 pub mod WrittenLemmas

@@ -1,13 +1,8 @@
 -- The clocks of an operation, one after another.
 use Rattle.px_num.proofs.Basics.{◌≡◌, ℕ, ◌+◌, ◌<◌, ◌≤◌, ◌∷◌, List, length, get_or, ap, arith, between, drop-cons}
 use Rattle.px_num.proofs.Basics.{between_from_start, between_is, get_or-take, take_all}
-use Rattle.std.proofs.lemmas.List.{length-take}
-use Rattle.px_array.specs.Arrays.{Device}
-use Rattle.px_array.specs.Clocks.{all_clocked, after_clocks, clocked}
-use Rattle.px_array.specs.declared.micro.Micro.{Micro}
-use Rattle.px_asm.specs.Micros.{cycles, micro_at, micros}
-use Rattle.px_macro.specs.declared.operation.Macro.{Macro}
-use Rattle.px_num.proofs.ListLaws.{get_or-tabulate, length-tabulate}
+use Rattle.px_asm.proofs.Words.{after_clocks, all_clocked, clocked, cycles, Device, get_or-tabulate, length-tabulate}
+use Rattle.px_asm.proofs.Words.{length-take, Macro, Micro, micro_at, micros}
 
 between_step : (ms : List Micro) (i j : ℕ) (d : Micro) → i < j → j ≤ length ms → between i j ms ≡ get_or ms i d
     ∷ between (i + 1) j ms

@@ -1,13 +1,9 @@
 -- Arrays on which operations were made at once, beside those on which their micros were made.
 use Rattle.px_num.proofs.Basics.{◌≡◌, ℕ, ◌+◌, ◌*◌, ◌/◌, ◌%◌, ◌^◌, ◌<◌, ◌&&◌, not, Bool, true, false, refl, ap, ◌∙◌}
 use Rattle.px_num.proofs.Basics.{arith, one-le-pow, pow-add}
-use Rattle.px_macro.specs.Macros.{PixelBits}
-use Rattle.px_array.specs.Arrays.{State, pixel_at, pixel_of}
-use Rattle.px_array.proofs.ClockLaws.{grid_after_clocks}
-use Rattle.px_asm.specs.Micros.{micros}
-use Rattle.px_asm.specs.Microprograms.{LeaveTheMeaning}
-use Rattle.px_asm.specs.Operated.{Agree, AgreeIn, BecomeTheSame, BecomeTheSameAgain, Known, StayInAgreement, StayKnown}
-use Rattle.px_asm.specs.Operated.{none_known}
+use Rattle.px_asm.proofs.Words.{Agree, AgreeIn, BecomeTheSame, BecomeTheSameAgain, grid_after_clocks, Known}
+use Rattle.px_asm.proofs.Words.{LeaveTheMeaning, micros, none_known, pixel_at, pixel_of, PixelBits, State}
+use Rattle.px_asm.proofs.Words.{StayInAgreement, StayKnown}
 use Rattle.px_asm.proofs.AlikeLemmas.{Alike, all_micros_alike, same_state}
 use Rattle.px_asm.proofs.KeptLemmas.{kept_by_micros}
 

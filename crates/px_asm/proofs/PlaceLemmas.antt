@@ -1,16 +1,9 @@
 -- The places that micros name.
 use Rattle.px_num.proofs.Basics.{◌≡◌, ℕ, ◌+◌, ◌-◌, ◌<◌, ◌==◌, Bool, true, false, if◌then◌else◌, nat_lt, refl, arith}
 use Rattle.px_num.proofs.Basics.{nat_tests}
-use Rattle.px_num.proofs.ListLaws.{get_or-tabulate, length-tabulate}
-use Rattle.px_pixel.specs.Acts.{HasPlace}
-use Rattle.px_pixel.specs.declared.act.Act.{Act}
-use Rattle.px_macro.specs.Macros.{IsLawful}
-use Rattle.px_macro.specs.declared.operation.Macro.{Macro}
-use Rattle.px_macro.specs.declared.operation.Macro.TheVariants.{KeepSign, LoadLinear, KeepAtMost, AddLinear, LoadConst}
-use Rattle.px_macro.specs.declared.operation.Macro.TheVariants.{Copy, KeepLess}
-use Rattle.px_array.specs.declared.micro.Micro.{Micro}
-use Rattle.px_asm.specs.Micros.{act_at, cycles, micro_at}
-use Rattle.px_asm.specs.Microprograms.{HaveTheirPlaces}
+use Rattle.px_asm.proofs.Words.{Act, act_at, AddLinear, Copy, cycles, get_or-tabulate, HasPlace, HaveTheirPlaces}
+use Rattle.px_asm.proofs.Words.{IsLawful, KeepAtMost, KeepLess, KeepSign, length-tabulate, LoadConst, LoadLinear}
+use Rattle.px_asm.proofs.Words.{Macro, Micro, micro_at}
 use Rattle.px_pixel.specs.declared.act.Act.TheVariants as act
 
 chosen : (bits : ℕ) (b : Bool) (p q : Act) → (b ≡ true → HasPlace bits p) → (b ≡ false → HasPlace bits q)

@@ -1,20 +1,11 @@
 -- A run of an array, seen from one of its pixels.
 use Rattle.px_num.proofs.Basics.{◌≡◌, ℕ, zero, suc, ◌+◌, ◌-◌, ◌*◌, ◌^◌, ◌<◌, ◌≤◌, map, refl, sym, ap, ◌∙◌, arith}
 use Rattle.px_num.proofs.Basics.{range_with_len}
-use Rattle.px_num.specs.Bits.{bit_of}
-use Rattle.px_num.specs.Forms.{value_at}
+use Rattle.px_asm.proofs.Words.{after_clock, after_clocks, bit_of, grid_after_clock, HasGrid, index_below, IsGrid}
+use Rattle.px_asm.proofs.Words.{leaf_output, LeafGivesValue, Linear, Micro, pixel_at, pixel_at-after_clock, pixel_of}
+use Rattle.px_asm.proofs.Words.{State, suc_not_zero, tree_at, TreeState, value_at}
 use Rattle.px_num.specs.Lists.{tabulate}
-use Rattle.px_num.specs.declared.linear.Linear.{Linear}
-use Rattle.px_num.proofs.TruthLaws.{suc_not_zero}
 use Rattle.px_tree.specs.Feeds.{fed_form}
-use Rattle.px_tree.specs.Nodes.{IsGrid, TreeState, leaf_output}
-use Rattle.px_tree.specs.TreeBit.{LeafGivesValue}
-use Rattle.px_tree.proofs.PlaceLaws.{index_below}
-use Rattle.px_array.specs.Arrays.{HasGrid, State, pixel_at, pixel_of}
-use Rattle.px_array.proofs.ClockLaws.{grid_after_clock, pixel_at-after_clock}
-use Rattle.px_array.specs.Clocks.{after_clock, after_clocks}
-use Rattle.px_array.specs.declared.micro.Micro.{Micro}
-use Rattle.px_asm.specs.Micros.{tree_at}
 use Rattle.px_asm.proofs.ActingLemmas.{after_acts}
 
 -- the state after n micros

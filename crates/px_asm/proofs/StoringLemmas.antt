@@ -1,16 +1,8 @@
 -- What is left of one pixel by acts that store a field, bit by bit.
 use Rattle.px_num.proofs.Basics.{rules, ◌≡◌, ℕ, zero, suc, ◌+◌, ◌*◌, ◌<◌, ◌≤◌, Bool, List, length, if◌then◌else◌, ◌⊎◌}
 use Rattle.px_num.proofs.Basics.{inl, inr, refl, sym, ap, subst, ◌∙◌, arith, nat_tests}
-use Rattle.px_num.specs.Bits.{bit_at, nat_bit}
-use Rattle.px_pixel.specs.Acts.{after_act, stored}
-use Rattle.px_pixel.specs.Pixels.{PixelState}
-use Rattle.px_pixel.specs.declared.act.Act.{Act}
-use Rattle.px_macro.specs.FieldLaws.{BitsOfNumber}
-use Rattle.px_macro.specs.Fields.{number_in, with_number}
-use Rattle.px_macro.specs.Macros.{AreApart, with_field}
-use Rattle.px_macro.specs.declared.field.Field.{Field}
-use Rattle.px_asm.specs.Micros.{copy_act}
-use Rattle.px_asm.specs.Microprograms.{bits_of}
+use Rattle.px_asm.proofs.Words.{Act, after_act, AreApart, bit_at, bits_of, BitsOfNumber, copy_act, Field, nat_bit}
+use Rattle.px_asm.proofs.Words.{number_in, PixelState, stored, with_field, with_number}
 use Rattle.px_asm.proofs.ActingLemmas.{after_acts}
 use Rattle.px_asm.proofs.WrittenLemmas.{IsWritten, none_written, one_written, whole_written}
 use Rattle.px_pixel.specs.declared.act.Act.TheVariants as act

@@ -2,11 +2,7 @@
 use Rattle.px_num.proofs.Basics.{◌≡◌, ◌≢◌, ℕ, suc, ◌+◌, ◌-◌, ◌<◌, ◌≤◌, Bool, true, false, List, length, slice_set}
 use Rattle.px_num.proofs.Basics.{if◌then◌else◌, ◌⊎◌, inl, inr, refl, sym, ap, ◌∙◌, arith, get_or-set_other}
 use Rattle.px_num.proofs.Basics.{get_or-set_same, cases_lt, nat_tests, get_or_default, same_lists}
-use Rattle.px_num.specs.Bits.{bit_at, nat_bit}
-use Rattle.px_num.proofs.ListLaws.{is_tabulate}
-use Rattle.px_array.proofs.ClockLaws.{length-stored}
-use Rattle.px_macro.specs.Fields.{is_in, with_number}
-use Rattle.px_macro.specs.declared.field.Field.{Field}
+use Rattle.px_asm.proofs.Words.{bit_at, Field, is_in, is_tabulate, length-stored, nat_bit, with_number}
 
 -- n bits from a place on are those of v, where the pixel is enabled, and the others as before
 pub record IsWritten (at n : ℕ) (v : ℕ → Bool) (enable : Bool) (old new : List Bool) : Type 0 where

@@ -15,5 +15,5 @@ pub use law::law_of_microprograms;
 pub use making::{make_micros, make_operation};
 pub use number::number_in;
 pub use operating::{Operating, OperatingGrid, Renewal, law_of_renewal, renewal_of};
-pub use operations::{latest, make_operations};
+pub use operations::{make_before, make_operations};
 pub use table::{cycles, micro_at};

@@ -35,7 +35,7 @@ pub trait Operating: Array {
 pub trait OperatingGrid: Grid {
     /// Makes an operation at once, which counts as its clocks, or leaves it to its clocks where these
     /// are faster, and changes nothing.
-    fn operate(&mut self, m: &Macro) -> bool
+    fn try_operate(&mut self, m: &Macro) -> bool
         requires lawful { IsLawful m.now 256 }
         requires places { IsLawful m.now Self.BITS }
         requires counted { (Self.device self.old).clocks + cycles_on (Self.device self.old) m.now ≤ 2 ^ 64 - 1 }
@@ -45,7 +45,7 @@ pub trait OperatingGrid: Grid {
 }
 
 impl<const N: usize> OperatingGrid for PixelGrid<N> {
-    fn operate(&mut self, _m: &Macro) -> bool {
+    fn try_operate(&mut self, _m: &Macro) -> bool {
         false
     }
 }
@@ -73,7 +73,7 @@ fn operate_at_once<G: OperatingGrid>(array: &mut ArrayOf<G>, m: &Macro) -> bool
         return false;
     };
     let (nx, ny) = array.grid.size();
-    let is_made = array.grid.operate(m);
+    let is_made = array.grid.try_operate(m);
     if is_made {
         array.work = array.work.saturating_add(u64::from(cycles(m, nx, ny)));
     }

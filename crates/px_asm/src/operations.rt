@@ -1,18 +1,18 @@
 //! Operations that are made one after another, as many of them at once as that shows nowhere.
-ghost use Rattle.std.specs.Prelude.{◌≡◌, ◌+◌, ◌-◌, ◌*◌, ◌≤◌, if◌then◌else◌, Some, length};
+ghost use Rattle.std.specs.Bool.{OnTrue};
+ghost use Rattle.std.specs.Prelude.{◌≡◌, ◌∷◌, ◌++◌, ◌+◌, ◌-◌, ◌*◌, ◌≤◌, true, length};
+ghost use Rattle.px_array.specs.Arrays.{HasGrid};
 ghost use Rattle.px_array.specs.Slots.{worked};
-ghost use Rattle.px_asm.specs.AtOnce.{IsEnough, IsNearly};
+ghost use Rattle.px_asm.specs.AtOnce.{IsOvertaken, known_of};
+ghost use Rattle.px_asm.specs.Making.{cycles_on};
+ghost use Rattle.px_asm.specs.Operated.{all_known, all_renewed, renewed, untouched};
 ghost use Rattle.px_asm.specs.Operations.{CanMake, all_made};
 
 use crate::making::make_operation;
-use crate::operating::{Operating, law_of_renewal, renewal_of};
-use px_array::Array;
+use crate::operating::{Operating, Renewal, law_of_renewal, renewal_of};
 use px_macro::Macro;
 
 /// Makes operations, one after another, and leaves what their clocks leave.
-///
-/// Up to the last ones that begin anew the tree, the carries and the latches, as far as any of them
-/// does, they are made at once.
 pub fn make_operations<A: Operating>(array: &mut A, operations: &[Macro])
     requires can { CanMake A.BITS operations.now (A.device array.old) }
     ensures device { A.device array.new ≡ all_made operations.now (A.device array.old) }
@@ -23,31 +23,20 @@ pub fn make_operations<A: Operating>(array: &mut A, operations: &[Macro])
     ensures work { A.work array.new
         ≡ worked ((A.device array.new).clocks - (A.device array.old).clocks) (A.work array.old) }
 {
-    law_of_renewal();
-    let first = first_left(operations);
-    operate_each(array, &operations[..first]);
-    make_each(array, &operations[first..]);
+    make_before(array, operations, &[]);
 }
 
-/// Makes each of some operations at once.
-fn operate_each<A: Operating>(array: &mut A, operations: &[Macro])
-    requires can { CanMake A.BITS operations.now (A.device array.old) }
-    ensures nearly { IsNearly A.BITS operations.now (A.device array.old) (A.device array.new) }
-    ensures clocks { (A.device array.old).clocks ≤ (A.device array.new).clocks }
-    ensures slots { A.slots array.new ≡ A.slots array.old }
-    ensures work { A.work array.new
-        ≡ worked ((A.device array.new).clocks - (A.device array.old).clocks) (A.work array.old) }
-{
-    law_of_renewal();
-    for m in operations {
-        array.operate(m);
-    }
-}
-
-/// Makes all clocks of each of some operations.
-fn make_each<A: Array>(array: &mut A, operations: &[Macro])
-    requires can { CanMake A.BITS operations.now (A.device array.old) }
-    ensures device { A.device array.new ≡ all_made operations.now (A.device array.old) }
+/// Makes operations, one after another, so that those behind them, made as well, leave what the
+/// clocks of all leave.
+///
+/// An operation is made at once if others behind it begin anew all that it does, and else by its
+/// clocks.
+pub fn make_before<A: Operating>(array: &mut A, operations: &[Macro], behind: &[Macro])
+    requires can { CanMake A.BITS (operations.now ++ behind.now) (A.device array.old) }
+    ensures device { all_made behind.now (A.device array.new)
+        ≡ all_made (operations.now ++ behind.now) (A.device array.old) }
+    ensures pixels { HasGrid A.BITS (A.device array.old).state.tree.nx
+        (A.device array.old).state.tree.ny (A.device array.new).state }
     ensures clocks { (A.device array.old).clocks ≤ (A.device array.new).clocks }
     ensures few { (A.device array.new).clocks
         ≤ (A.device array.old).clocks + 82 * length operations.now }
@@ -55,35 +44,83 @@ fn make_each<A: Array>(array: &mut A, operations: &[Macro])
     ensures work { A.work array.new
         ≡ worked ((A.device array.new).clocks - (A.device array.old).clocks) (A.work array.old) }
 {
-    for m in operations {
+    for (i, m) in operations.iter().enumerate() {
+        make_one(array, m, &operations[i + 1..], behind);
+    }
+}
+
+/// Makes one operation, at once if the rest and those behind it begin anew all that it does.
+fn make_one<A: Operating>(array: &mut A, m: &Macro, rest: &[Macro], behind: &[Macro])
+    requires can { CanMake A.BITS (m.now ∷ (rest.now ++ behind.now)) (A.device array.old) }
+    ensures device { all_made (rest.now ++ behind.now) (A.device array.new)
+        ≡ all_made (m.now ∷ (rest.now ++ behind.now)) (A.device array.old) }
+    ensures pixels { HasGrid A.BITS (A.device array.old).state.tree.nx
+        (A.device array.old).state.tree.ny (A.device array.new).state }
+    ensures clocks { (A.device array.new).clocks
+        ≡ (A.device array.old).clocks + cycles_on (A.device array.old) m.now }
+    ensures few { cycles_on (A.device array.old) m.now ≤ 82 }
+    ensures slots { A.slots array.new ≡ A.slots array.old }
+    ensures work { A.work array.new ≡ worked (cycles_on (A.device array.old) m.now) (A.work array.old) }
+{
+    law_of_renewal();
+    if is_overtaken(m, rest, behind) {
+        array.operate(m);
+    } else {
         make_operation(array, m);
     }
 }
 
-/// The first of the operations that cannot be made at once: from it on they begin anew all that any
-/// of them does.
-fn first_left(operations: &[Macro]) -> usize
-    ensures within { result ≤ length operations.now }
-    ensures enough { IsEnough operations.now result }
+/// Whether the rest and those behind it begin anew all that an operation does.
+fn is_overtaken(m: &Macro, rest: &[Macro], behind: &[Macro]) -> bool
+    ensures { OnTrue result (IsOvertaken m.now (rest.now ++ behind.now)) }
 {
-    let mut tree = None;
-    let mut carry = None;
-    let mut latch = None;
-    for (i, m) in operations.iter().enumerate() {
-        let renewal = renewal_of(m);
-        tree = latest(renewal.tree, i, tree);
-        carry = latest(renewal.carry, i, carry);
-        latch = latest(renewal.latch, i, latch);
-    }
-    let behind = operations.len();
-    tree.unwrap_or(behind)
-        .min(carry.unwrap_or(behind))
-        .min(latch.unwrap_or(behind))
+    let known = known_after(left_by(m), rest);
+    known_after(known, behind).is_whole()
 }
 
-/// The index, if that operation begins a part anew, and else the one before.
-pub fn latest<T: Copy>(renews: bool, index: T, before: Option<T>) -> Option<T>
-    ensures { result ≡ if renews then Some index else before }
+/// What an operation that is made at once leaves as its clocks do.
+fn left_by(m: &Macro) -> Renewal
+    ensures { known_of result ≡ untouched m.now all_known }
 {
-    if renews { Some(index) } else { before }
+    let begun = renewal_of(m);
+    Renewal {
+        tree: !begun.tree,
+        carry: !begun.carry,
+        latch: !begun.latch,
+    }
+}
+
+/// What is known behind the clocks of some operations, where so much was known before.
+fn known_after(before: Renewal, operations: &[Macro]) -> Renewal
+    ensures { known_of result ≡ all_renewed operations.now (known_of before) }
+{
+    let mut known = before;
+    for m in operations {
+        if known.is_whole() {
+            return known;
+        }
+        known = known.after(m);
+    }
+    known
+}
+
+impl Renewal {
+    /// Whether it is all three.
+    fn is_whole(self) -> bool
+        ensures { OnTrue result (known_of self ≡ all_known) }
+    {
+        self.tree && self.carry && self.latch
+    }
+
+    /// What is known behind the clocks of an operation, where so much was known before.
+    fn after(self, m: &Macro) -> Renewal
+        ensures { known_of result ≡ renewed m.now (known_of self) }
+    {
+        let begun = renewal_of(m);
+        Renewal {
+            tree: begun.tree || self.tree,
+            carry: begun.carry || self.carry,
+            latch: begun.latch || self.latch,
+        }
+    }
 }

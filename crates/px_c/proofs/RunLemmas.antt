@@ -5,9 +5,8 @@ use Rattle.px_command.specs.declared.command.Command.{Command}
 use Rattle.px_command.specs.declared.command.Command.TheVariants as c
 use Rattle.px_prune.specs.Kept.{crowd_of}
 use Rattle.px_sched.specs.Layouts.{layout_of, need_of}
-use Rattle.px_session.specs.Sessions.{answers, has_quit, until_quit}
-use Rattle.px_debug_run.specs.Debugs.{admitted, all_commands, answered, debugged, has_part, scene_part_of}
-use Rattle.px_debug_run.specs.Debugs.{scene_written, session_of, whole_commands}
+use Rattle.px_debug_run.specs.Debugs.{admitted, all_sitting, answered, debugged, has_part, scene_part_of}
+use Rattle.px_debug_run.specs.Debugs.{scene_written, whole_sitting}
 use Rattle.px_outcome.specs.declared.refusal.Refusal.{Refusal}
 use Rattle.px_outcome.specs.declared.stop.Stop.{Stop}
 use Rattle.px_outcome.specs.declared.stop.Stop.TheVariants as s
@@ -35,15 +34,14 @@ sitting_whole false true false None need None front whole bytes is = absurd cc
 sitting_whole false false false None need None front whole bytes is = cc
 
 debugged_whole : (bits : ℕ) (text bytes : List ℕ) → debugged text bits ≡ done bytes
-    → answers bits (session_of text) (until_quit (all_commands text)) ≡ bytes
+    → (all_sitting bits text).said ≡ bytes
 unfolding debugged admitted answered
 debugged_whole bits text bytes is =
     let scene = scene_written (scene_part_of text) in
     let need = need_of (layout_of scene) in
-    sitting_whole (is_long text && not (has_part text)) (is_long text && not (has_quit (whole_commands text)))
-    (nat_lt bits need)
-    (text_refusal (scene_part_of text)) need (crowd_of scene) (answers bits (session_of text) (whole_commands text))
-    (answers bits (session_of text) (until_quit (all_commands text))) bytes is
+    sitting_whole (is_long text && not (has_part text)) (is_long text && not (whole_sitting bits text).quit)
+    (nat_lt bits need) (text_refusal (scene_part_of text)) need (crowd_of scene) (whole_sitting bits text).said
+    (all_sitting bits text).said bytes is
 
 -- with Ok the output gained what the command answers
 gains : (command : Option Command) (bits : ℕ) (u : Unit {0}) (input : Input) (before after : Ends)

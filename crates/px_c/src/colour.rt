@@ -12,7 +12,7 @@ use crate::found::{Found, cost_found};
 use crate::keys::{pixels_of, write_colours};
 use crate::render::short_of_room;
 use crate::status::{BITS, OK};
-use px_deliver::{draw, open_job};
+use px_deliver::{draw_job, open_job};
 use px_planes::PlaneArray;
 use px_scene::{Scene, read_scene};
 use std::alloc::Global;
@@ -80,7 +80,7 @@ fn colour_within(alloc: Global, scene: &Scene, rgb: &mut [u8]) -> Answer
         Ok(job) => job,
         Err(fault) => return refused(scene_fault(fault)),
     };
-    let layout = draw(&mut job, scene, &mut array);
+    let layout = draw_job(&mut job, scene, &mut array);
     write_colours(&array, &layout, scene, rgb);
     Answer {
         status: OK,

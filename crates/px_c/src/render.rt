@@ -12,7 +12,7 @@ use crate::check::found_in;
 use crate::found::{Found, cost_found};
 use crate::keys::{pixels_of, write_keys};
 use crate::status::{BITS, NO_ROOM, OK};
-use px_deliver::{draw, open_job};
+use px_deliver::{draw_job, open_job};
 use px_planes::PlaneArray;
 use px_scene::{Scene, read_scene};
 use std::alloc::Global;
@@ -114,7 +114,7 @@ fn render_within(alloc: Global, scene: &Scene, depths: &mut [u32], faces: &mut [
         Ok(job) => job,
         Err(fault) => return refused(scene_fault(fault)),
     };
-    let layout = draw(&mut job, scene, &mut array);
+    let layout = draw_job(&mut job, scene, &mut array);
     write_keys(&array, &layout, scene, depths, faces);
     Answer {
         status: OK,

@@ -1,8 +1,7 @@
 -- The lines of the canonical text, and their words.
 use Rattle.px_num.proofs.Basics.{◌≡◌, ℕ, ◌+◌, ◌==◌, [], ◌∷◌, ◌++◌, length, filter, codes, flat_map, range_with_len}
-use Rattle.px_model.specs.Scenes.{SolidView, SceneView}
-use Rattle.px_canonical.specs.Canonical.{canonical_text, colour_words, lines_of_number, words_of_plane, solid_lines}
-use Rattle.px_canonical.specs.Canonical.{version_for}
+use Rattle.px_canonical.proofs.Words.{canonical_text, colour_words, lines_of_number, SceneView, solid_lines, SolidView}
+use Rattle.px_canonical.proofs.Words.{version_for, words_of_plane}
 use Rattle.px_canonical.proofs.RoundLaws.{begin_are, face_words}
 use Rattle.px_canonical.proofs.FaceWalkLemmas.{words_at, words_of_number}
 use Rattle.px_canonical.proofs.SceneWalkLemmas.{end_words, first_words, head_words, numbers_words, scene_words}

@@ -1,8 +1,7 @@
 -- The faces below a number, and the one that has it.
 use Rattle.px_num.proofs.Basics.{◌≡◌, ℕ, ◌+◌, ◌<◌, ◌≤◌, ◌==◌, List, [], ◌∷◌, ◌++◌, length, get_or, Bool, true, false}
 use Rattle.px_num.proofs.Basics.{nat_lt, filter, refl, ap, arith, suc, All, AllPairs, nat_tests}
-use Rattle.px_model.specs.declared.solid.Face.{Face}
-use Rattle.px_model.specs.Scenes.{has_number}
+use Rattle.px_canonical.proofs.Words.{Face, has_number}
 
 abbrev pub below : ℕ → List Face → List Face
 below m faces = filter (λ f. nat_lt f.number m) faces

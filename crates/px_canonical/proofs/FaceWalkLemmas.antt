@@ -1,11 +1,9 @@
 -- The lines of a solid's faces, in the order of their numbers.
-use Rattle.px_num.proofs.Basics.{◌≡◌, ℕ, ◌+◌, ◌<◌, ◌≤◌, List, [], ◌∷◌, ◌++◌, length, Bool, true, false, not, codes, map}
-use Rattle.px_num.proofs.Basics.{refl, ap, sym, subst, arith, append-nil, length-append, zero, suc, All, flat_map}
+use Rattle.px_num.proofs.Basics.{◌≡◌, ℕ, ◌+◌, ◌<◌, ◌≤◌, List, [], ◌∷◌, ◌++◌, length, Bool, true, false, not, codes}
+use Rattle.px_num.proofs.Basics.{map, refl, ap, sym, subst, arith, append-nil, length-append, zero, suc, All, flat_map}
 use Rattle.px_num.proofs.Basics.{range_with_len}
-use Rattle.px_model.specs.declared.solid.Face.{Face}
-use Rattle.px_text.specs.Text.{Words}
-use Rattle.px_model.specs.Scenes.{SolidView, IsColour, IsLawfulSolid, IsPlane, AreFaces, has_number}
-use Rattle.px_scene.specs.Drafts.{DraftView}
+use Rattle.px_canonical.proofs.Words.{AreFaces, DraftView, Face, has_number, IsColour, IsLawfulSolid, IsPlane}
+use Rattle.px_canonical.proofs.Words.{SolidView, Words}
 use Rattle.px_canonical.proofs.CutLemmas.{below, at_number, HasOne, cut, few_below}
 use Rattle.px_canonical.proofs.WalkLaws.{Walk, walk_both}
 use Rattle.px_canonical.proofs.RoundLaws.{Writes, back_walk, face_words, face_written, front_walk, open_solid}

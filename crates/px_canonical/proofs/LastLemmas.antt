@@ -1,7 +1,6 @@
 -- The last solid of a draft, behind others.
 use Rattle.px_num.proofs.Basics.{◌≡◌, ℕ, List, [], ◌∷◌, ◌++◌, refl, ap, arith, length-append}
-use Rattle.px_model.specs.Scenes.{SolidView}
-use Rattle.px_scene.specs.Drafts.{in_last, with_last}
+use Rattle.px_canonical.proofs.Words.{in_last, SolidView, with_last}
 
 pub with_last-append : (change : SolidView → SolidView) (ss : List SolidView) (s : SolidView)
     → with_last change (ss ++ s ∷ []) ≡ ss ++ change s ∷ []

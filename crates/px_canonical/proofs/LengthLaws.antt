@@ -1,18 +1,12 @@
 -- How long the parts of a written line are.
 use Rattle.px_num.proofs.Basics.{◌≡◌, ℕ, ℤ, pos, ◌+◌, ◌*◌, ◌<◌, ◌≤◌, ◌^◌, List, [], ◌∷◌, ◌++◌, length, true, decimal}
 use Rattle.px_num.proofs.Basics.{arith, length-append, signed_decimal, AllPass, ints, length-decimal-le}
+use Rattle.px_canonical.proofs.Words.{both, Colour, colour_words, HasLeavesBelow, is_name, IsColour, IsPlane, IsWithin}
+use Rattle.px_canonical.proofs.Words.{leaf_count, Linear, named_by, printed, spaced, Tree, Words, words_of_plane}
 use lib.IntN.{negsuc}
 use Rattle.std.proofs.lemmas.Fmt.{length_signed_le}
-use Rattle.px_num.specs.declared.linear.Linear.{Linear}
-use Rattle.px_num.specs.Forms.{IsWithin}
-use Rattle.px_expr.specs.Tree.{Tree, leaf, join, leaf_count, HasLeavesBelow}
-use Rattle.px_model.specs.declared.solid.Colour.{Colour}
-use Rattle.px_text.specs.Text.{Words, is_name}
-use Rattle.px_model.specs.Scenes.{IsColour, IsPlane}
-use Rattle.px_show.specs.Printed.{printed, named_by}
-use Rattle.px_canonical.specs.Canonical.{written_line, words_of_plane, colour_words}
-use Rattle.px_text.specs.Written.{spaced}
-use Rattle.px_text.proofs.PlainLaws.{both}
+use Rattle.px_expr.specs.Tree.{leaf, join}
+use Rattle.px_canonical.specs.Canonical.{written_line}
 
 pub joined : (xs ys : List ℕ) (m n : ℕ) → length xs ≤ m → length ys ≤ n → length (xs ++ ys) ≤ m + n
 joined xs ys m n some more = omega (arith, length-append xs ys)

@@ -2,18 +2,11 @@
 use Rattle.px_num.proofs.Basics.{◌≡◌, ℕ, ◌+◌, ◌*◌, ◌<◌, ◌≤◌, ◌^◌, List, [], ◌∷◌, ◌++◌, length, Bool, true, false, not}
 use Rattle.px_num.proofs.Basics.{codes, decimal, get_or, refl, subst, arith, length-append, zero, suc, All, AllPass}
 use Rattle.px_num.proofs.Basics.{flat_map, range_with_len, length-map}
-use Rattle.px_num.specs.declared.linear.Linear.{Linear}
-use Rattle.px_model.specs.declared.solid.Face.{Face}
-use Rattle.px_text.specs.Text.{Words, is_name}
-use Rattle.px_model.specs.Scenes.{SolidView, IsColour, IsLawfulSolid, IsPlane, faces_in, names_of, SceneView}
-use Rattle.px_model.specs.Scenes.{IsNumberedFrom, AreNumberedFrom, faces_of, has_number}
-use Rattle.px_show.specs.Versions.{version_word}
-use Rattle.px_canonical.specs.Writable.{IsWritable}
-use Rattle.px_show.specs.declared.scene_version.Version.{Version}
-use Rattle.px_canonical.specs.Canonical.{depth_words, written_line, words_of_plane, colour_words, face_line, side_line}
-use Rattle.px_canonical.specs.Canonical.{face_lines_at, lines_of_number, solid_lines, canonical_text}
-use Rattle.px_text.specs.Written.{spaced}
-use Rattle.px_model.proofs.FaceLaws.{faces_of-cons}
+use Rattle.px_canonical.proofs.Words.{AreNumberedFrom, canonical_text, colour_words, depth_words, Face, face_line}
+use Rattle.px_canonical.proofs.Words.{face_lines_at, faces_in, faces_of, faces_of-cons, has_number, is_name, IsColour}
+use Rattle.px_canonical.proofs.Words.{IsLawfulSolid, IsNumberedFrom, IsPlane, IsWritable, Linear, lines_of_number}
+use Rattle.px_canonical.proofs.Words.{names_of, SceneView, side_line, solid_lines, SolidView, spaced, Version}
+use Rattle.px_canonical.proofs.Words.{version_word, Words, words_of_plane, written_line}
 use Rattle.px_canonical.proofs.CutLemmas.{HasOne, cut}
 use Rattle.px_canonical.proofs.LengthLaws.{joined, decimal_short, plane_short, colour_short, line_short, name_short}
 use Rattle.px_canonical.proofs.LengthLaws.{tree_short}

@@ -9,5 +9,6 @@ pub mod SceneWalkLemmas
 pub mod ShownLaws
 pub mod TextWalkLemmas
 pub mod WalkLaws
+pub mod Words
 pub mod WriteLaws
 pub mod WrittenLaws

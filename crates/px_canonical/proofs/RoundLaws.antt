@@ -3,33 +3,21 @@ use Rattle.px_num.proofs.Basics.{common_steps, ◌≡◌, ℕ, ℤ, pos, ◌+◌
 use Rattle.px_num.proofs.Basics.{Option, Some, None, Ok, true, false, codes, decimal, refl, ap, sym, subst, ◌∙◌, arith}
 use Rattle.px_num.proofs.Basics.{map, append_assoc, append-nil, length-append, suc, All, signed_decimal, option_or}
 use Rattle.px_num.proofs.Basics.{ints, nat_tests, list_all-append}
-use Rattle.px_num.specs.declared.linear.Linear.{Linear}
-use Rattle.px_num.specs.Forms.{IsWithin}
-use Rattle.px_model.specs.declared.solid.Colour.{Colour}
-use Rattle.px_model.specs.declared.solid.Face.{Face}
+use Rattle.px_canonical.proofs.Words.{are_plain, AreDistinctNames, blank, Colour, colour_words, decimal_plain}
+use Rattle.px_canonical.proofs.Words.{depth_words, DraftView, Face, fresh_solid, has_signs, HasLeavesBelow, is_among}
+use Rattle.px_canonical.proofs.Words.{is_name, IsColour, IsLawfulTree, IsPlane, IsWithin, Linear, name_is_plain}
+use Rattle.px_canonical.proofs.Words.{named_by, names_lawful, names_of, past, printed, printed_good, printed_tree}
+use Rattle.px_canonical.proofs.Words.{size_past, small_size, SolidView, Tree, Version, version_word, with_back}
+use Rattle.px_canonical.proofs.Words.{with_front, with_side, Words, words_of_plane, written_line}
 use Rattle.px_scene.specs.declared.line.Due.{Due}
 use Rattle.px_scene.specs.declared.line.Paint.{Paint}
 use Rattle.px_scene.specs.declared.line.Plane.{Plane}
 use Rattle.px_show.specs.declared.fault.LimitKind.{LimitKind}
 use Rattle.px_show.specs.declared.fault.LineFault.{LineFault}
-use Rattle.px_text.specs.Text.{Words, is_name}
-use Rattle.px_text.specs.Written.{are_plain}
-use Rattle.px_expr.specs.Tree.{Tree, HasLeavesBelow, IsLawfulTree}
-use Rattle.px_show.specs.Expressions.{has_signs, is_among}
-use Rattle.px_show.specs.Judged.{past, size_past}
-use Rattle.px_show.specs.Versions.{version_word}
-use Rattle.px_show.specs.declared.scene_version.Version.{Version}
-use Rattle.px_show.specs.Printed.{AreDistinctNames, printed, named_by}
-use Rattle.px_show.proofs.PrintedLaws.{names_lawful, printed_tree, printed_good}
 use Rattle.px_scene.specs.Lines.{back, colour_past, depth, end, face_limit, face_past, front, header, is_due}
-use Rattle.px_scene.specs.Lines.{keyword_of, linear_in, most, paint_in, picture, plane_form, plane_in, plane_past, side}
-use Rattle.px_scene.specs.Lines.{solid, uncoloured}
-use Rattle.px_model.specs.Scenes.{SolidView, IsColour, IsPlane, names_of}
-use Rattle.px_scene.specs.Drafts.{DraftView, with_front, with_back, with_side, fresh_solid, blank}
-use Rattle.px_canonical.specs.Canonical.{colour_words, depth_words, words_of_plane, written_line}
+use Rattle.px_scene.specs.Lines.{keyword_of, linear_in, most, paint_in, picture, plane_form, plane_in, plane_past}
+use Rattle.px_scene.specs.Lines.{side, solid, uncoloured}
 use Rattle.px_text.proofs.DecimalLaws.{number_read, signed_read}
-use Rattle.px_text.proofs.LineLaws.{small_size}
-use Rattle.px_text.proofs.PlainLaws.{decimal_plain, name_is_plain}
 use Rattle.px_canonical.proofs.LastLemmas.{in_last-push, with_last-append}
 use Rattle.px_canonical.proofs.ShownLaws.{show_fed, show_read}
 use Rattle.px_canonical.proofs.WalkLaws.{Walk, form_walk, line_walk, walk_both}

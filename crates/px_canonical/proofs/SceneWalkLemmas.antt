@@ -3,20 +3,12 @@ use Rattle.px_num.proofs.Basics.{◌≡◌, ◌≢◌, ℕ, ◌+◌, ◌<◌, �
 use Rattle.px_num.proofs.Basics.{Bool, true, false, ◌||◌, codes, map, Some, refl, ap, sym, subst, ◌∙◌, arith}
 use Rattle.px_num.proofs.Basics.{append_assoc, append-nil, length-append, suc, All, AllPass, AllPairs, flat_map}
 use Rattle.px_num.proofs.Basics.{range_with_len, bytes_eq, get_or-append_seam, length-map, bytes_eq-Decides}
+use Rattle.px_canonical.proofs.Words.{AreNumberedFrom, blank, colour_words, DraftView, faces_in, faces_of}
+use Rattle.px_canonical.proofs.Words.{faces_of-cons, fresh_solid, has_differ, has_difference, HasLeavesBelow, is_among}
+use Rattle.px_canonical.proofs.Words.{is_name, IsLawfulSolid, IsNumberedFrom, IsWritable, named_by, names_of, printed}
+use Rattle.px_canonical.proofs.Words.{SceneView, signs_of, SolidView, version_for, Words, words_of_plane}
 use Rattle.std.proofs.Common.{zero-add}
-use Rattle.px_expr.specs.Tree.{HasLeavesBelow}
-use Rattle.px_text.specs.Text.{Words, is_name}
-use Rattle.px_show.specs.Expressions.{is_among}
-use Rattle.px_show.specs.Printed.{printed, named_by}
-use Rattle.px_model.specs.Scenes.{SolidView, IsLawfulSolid, faces_in, names_of, SceneView, IsNumberedFrom}
-use Rattle.px_model.specs.Scenes.{AreNumberedFrom, faces_of}
-use Rattle.px_model.proofs.FaceLaws.{faces_of-cons}
-use Rattle.px_canonical.specs.Writable.{IsWritable}
-use Rattle.px_scene.specs.Drafts.{DraftView, fresh_solid, blank}
-use Rattle.px_show.specs.Versions.{has_difference, has_differ}
-use Rattle.px_canonical.specs.Canonical.{version_for, words_of_plane, colour_words}
 use Rattle.px_canonical.proofs.CutLemmas.{none_below, all_below}
-use Rattle.px_show.proofs.PrintedLaws.{signs_of}
 use Rattle.px_canonical.proofs.WalkLaws.{Walk, walk_both}
 use Rattle.px_canonical.proofs.RoundLaws.{CanWrite, begin_walk, begin_words, end_walk, open_solid, opened, show_walk}
 use Rattle.px_canonical.proofs.RoundLaws.{shown_draft, sides_walk, solid_walk, standing, stands}

@@ -1,12 +1,9 @@
 -- The line of an expression, and what is read of it.
 use Rattle.px_num.proofs.Basics.{arith, ◌≡◌, [], ◌∷◌, true, codes, refl, append-nil, list_all, list_all-append}
-use Rattle.px_text.specs.Text.{words_of}
-use Rattle.px_show.specs.Expressions.{Named, leaf, join, has_names}
-use Rattle.px_show.specs.Printed.{printed}
-use Rattle.px_text.specs.Written.{is_no_feed}
-use Rattle.px_show.proofs.PrintedLaws.{printed_uncommented}
+use Rattle.px_canonical.proofs.Words.{before_none, both, has_names, is_no_comment, is_no_feed, name_bytes, Named}
+use Rattle.px_canonical.proofs.Words.{names_plain, plain_byte, plain_fed, printed, printed_uncommented, words_of}
+use Rattle.px_show.specs.Expressions.{leaf, join}
 use Rattle.px_show.proofs.SignLaws.{sign_plain}
-use Rattle.px_text.proofs.PlainLaws.{both, name_bytes, is_no_comment, before_none, names_plain, plain_byte, plain_fed}
 use Rattle.px_canonical.proofs.WrittenLaws.{bare, has_no_feed}
 
 printed_fed : (tree : Named) → has_names tree ≡ true → list_all is_no_feed (printed tree) ≡ true

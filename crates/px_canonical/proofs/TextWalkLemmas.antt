@@ -1,10 +1,8 @@
 -- The canonical text of a scene is read as it.
 use Rattle.px_num.proofs.Basics.{arith, ◌≡◌, ℕ, ◌≤◌, List, [], ◌++◌, length, take, codes, refl, sym, subst, All}
 use Rattle.px_num.proofs.Basics.{flat_map, take_all}
-use Rattle.px_expr.specs.Tree.{IsLawfulTree}
-use Rattle.px_model.specs.Scenes.{IsLawfulScene, IsLawfulSolid, SceneView}
-use Rattle.px_canonical.specs.Canonical.{canonical_text, first_lines, show_line, solid_lines, written_line}
-use Rattle.px_canonical.specs.Writable.{IsReadAs, IsWritable}
+use Rattle.px_canonical.proofs.Words.{canonical_text, first_lines, IsLawfulScene, IsLawfulSolid, IsLawfulTree}
+use Rattle.px_canonical.proofs.Words.{IsReadAs, IsWritable, SceneView, show_line, solid_lines, written_line}
 use Rattle.px_canonical.proofs.CanonicalLemmas.{text_is}
 use Rattle.px_canonical.proofs.LengthLemmas.{canonical_short}
 use Rattle.px_canonical.proofs.SceneWalkLemmas.{final_draft, scene_walk, scene_words}

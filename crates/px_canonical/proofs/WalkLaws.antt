@@ -2,17 +2,13 @@
 use Rattle.px_num.proofs.Basics.{arith, ◌≡◌, ℕ, ◌≤◌, ◌^◌, List, [], ◌∷◌, ◌++◌, length, map, Bool, true, false}
 use Rattle.px_num.proofs.Basics.{if◌then◌else◌, None, Result, Ok, Err, refl, ap, sym, ◌∙◌, append_assoc, append-nil}
 use Rattle.px_num.proofs.Basics.{list_all}
-use Rattle.px_show.specs.Judged.{first_bad}
+use Rattle.px_canonical.proofs.Words.{are_plain, blank, both, draft_of, DraftView, drawn, fault_by, fault_in}
+use Rattle.px_canonical.proofs.Words.{first_bad, is_plain, IsReadAs, taken, taken_by, worded, Words, words_of}
 use Rattle.px_show.specs.declared.fault.Cause.{Cause}
-use Rattle.px_text.specs.Text.{Words, words_of, worded}
-use Rattle.px_text.specs.Written.{are_plain, is_plain}
-use Rattle.px_text.proofs.PlainLaws.{both}
 use Rattle.px_text.proofs.SpacedLaws.{lines_read, words_read}
-use Rattle.px_scene.specs.Drafts.{DraftView, blank, draft_of, drawn, fault_by, fault_in, taken, taken_by}
 use Rattle.px_scene.specs.Lines.{Form, form_of, is_due, keyword_of}
 use Rattle.px_scene.specs.Reading.{fault_behind, is_nothing}
 use Rattle.px_scene.proofs.DraftLaws.{says_more, short}
-use Rattle.px_canonical.specs.Writable.{IsReadAs}
 use Rattle.px_canonical.proofs.WrittenLaws.{bare, bare_fed, has_no_feed, is_written, text_of_lines, words_behind}
 
 pub record IsGood (draft : DraftView) (l : Words) : Type 0 where

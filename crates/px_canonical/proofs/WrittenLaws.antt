@@ -2,14 +2,10 @@
 use Rattle.px_num.proofs.Basics.{nat_tests, common_steps, ◌≡◌, ℕ, List, [], ◌∷◌, ◌++◌, Bool, true, false, ◌&&◌, map}
 use Rattle.px_num.proofs.Basics.{refl, ap, sym, ◌∙◌, arith, append_assoc, append-nil, flat_map, list_all}
 use Rattle.px_num.proofs.Basics.{list_all-append}
-use Rattle.px_num.specs.declared.linear.Linear.{Linear}
-use Rattle.px_model.specs.declared.solid.Colour.{Colour}
-use Rattle.px_model.specs.Scenes.{IsColour, IsPlane}
-use Rattle.px_text.specs.Text.{Words, words_of}
-use Rattle.px_canonical.specs.Canonical.{written_line, words_of_plane, colour_words}
-use Rattle.px_text.specs.Written.{spaced, fed, is_plain, are_plain, is_no_feed}
-use Rattle.px_text.proofs.PlainLaws.{both, plain_fed, spaced_fed, decimal_plain, signed_plain}
-use Rattle.px_text.proofs.LineLaws.{small_size}
+use Rattle.px_canonical.proofs.Words.{are_plain, both, Colour, colour_words, decimal_plain, fed, is_no_feed, is_plain}
+use Rattle.px_canonical.proofs.Words.{IsColour, IsPlane, Linear, plain_fed, signed_plain, small_size, spaced}
+use Rattle.px_canonical.proofs.Words.{spaced_fed, Words, words_of, words_of_plane}
+use Rattle.px_canonical.specs.Canonical.{written_line}
 
 abbrev pub bare : Words → List ℕ
 bare [] = []

@@ -1,9 +1,8 @@
 -- The array after some broadcasts of a scene keeps the scene's columns and rows.
 use Rattle.px_num.proofs.Basics.{◌≡◌, ℕ, take}
-use Rattle.px_array.specs.Arrays.{zero_state}
-use Rattle.px_array.proofs.ClockLaws.{nx-after_clocks, ny-after_clocks}
-use Rattle.px_model.specs.Scenes.{SceneView}
-use Rattle.px_control.specs.Program.{array_after, columns_of, program, rows_of}
+use Rattle.px_control.proofs.Words.{columns_of, nx-after_clocks, ny-after_clocks, program, rows_of, SceneView}
+use Rattle.px_control.proofs.Words.{zero_state}
+use Rattle.px_control.specs.Program.{array_after}
 
 pub columns_at : (bits : ℕ) (scene : SceneView) (n : ℕ) → (array_after bits scene n).state.tree.nx ≡ columns_of scene
 unfolding array_after

@@ -1,53 +1,32 @@
 -- A scene of few products takes less than 2 ^ 43 clocks, and at least one for each operation.
-use Rattle.px_num.proofs.Basics.{rules, ◌≡◌, ℕ, ◌+◌, ◌-◌, ◌*◌, ◌^◌, ◌<◌, ◌≤◌, false, List, [], ◌∷◌, length, get_or}
-use Rattle.px_num.proofs.Basics.{refl, ap, sym, subst, arith, All, sum_by, All-head, All-tail, All-weaker, sum_by-cons}
+use Rattle.px_num.proofs.Basics.{◌≡◌, ℕ, ◌+◌, ◌-◌, ◌*◌, ◌^◌, ◌<◌, ◌≤◌, false, List, [], ◌∷◌, length, get_or, refl, ap}
+use Rattle.px_num.proofs.Basics.{sym, subst, arith, All, sum_by, All-head, All-tail, All-weaker, sum_by-cons}
 use Rattle.px_num.proofs.Basics.{sum_by-le}
+use Rattle.px_control.proofs.Words.{bare, bit_length_most, Candidate, Clocks, columns_of, counted, cycles_in}
+use Rattle.px_control.proofs.Words.{depths_of, each_pass, edges_count, edges_in, exponent_between, faces_in, faces_of}
+use Rattle.px_control.proofs.Words.{flat_sum, HasFace, HasSolidsBelow, HoldsOf, is_void, IsLawfulScene, IsLawfulSolid}
+use Rattle.px_control.proofs.Words.{IsThere, kept_of, layout_of, LayoutView, leaves_below, Literal, literals, Macro}
+use Rattle.px_control.proofs.Words.{none_is_void, operations, passes, passes_are, Product, product_steps, rows_of}
+use Rattle.px_control.proofs.Words.{scene_layout, SceneView, share_worth, solid_of, SolidView, Step, steps_sum}
+use Rattle.px_control.proofs.Words.{steps_there, steps_with, sum_of_products, total, weighed}
 use Rattle.std.proofs.lemmas.Nat.{mul-le}
-use Rattle.px_face.specs.EdgeLaws.{EdgesAreCounted}
 use Rattle.px_face.specs.Faces.{face_count, level}
-use Rattle.px_macro.specs.declared.operation.Macro.{Macro}
-use Rattle.px_expr.specs.Tree.{HasLeavesBelow, Tree}
-use Rattle.px_expr.proofs.LeafLaws.{leaves_below}
-use Rattle.px_normal.specs.declared.product.Product.{Product}
-use Rattle.px_normal.specs.Forms.{HasSolidsBelow, sum_of_products}
-use Rattle.px_normal.specs.Live.{is_void}
-use Rattle.px_prune.specs.Kept.{kept_of}
-use Rattle.px_model.specs.Cells.{depths_of}
-use Rattle.px_model.specs.Scenes.{IsLawfulScene, SceneView, faces_of, IsLawfulSolid, SolidView, faces_in}
-use Rattle.px_sched.specs.declared.literal.Literal.{Literal}
-use Rattle.px_sched.specs.declared.step.Step.{Step}
-use Rattle.px_sched.specs.declared.step.Step.TheVariants.{Candidate}
-use Rattle.px_sched.specs.Layouts.{LayoutView, layout_of}
-use Rattle.px_sched.specs.Passes.{literals, operations, passes, product_steps, solid_of, steps_with}
-use Rattle.px_sched.specs.Steps.{HasFace, IsThere}
-use Rattle.px_sched.specs.Worths.{bare, edges_in, share_worth}
-use Rattle.px_control.specs.Program.{columns_of, cycles_in, rows_of, total}
-use Rattle.px_control.specs.declared.measure.Measure.TheVariants.{Clocks}
+use Rattle.px_normal.proofs.NormalLemmas.{all_below}
+use Rattle.px_prune.specs.Bounding.{bounding_box}
+use Rattle.px_prune.proofs.StayingLemmas.{kept_below}
+use Rattle.px_sets.proofs.SolidsLaws.{solids_laws}
 use Rattle.px_control.proofs.CostLemmas.{blind, total_is}
-use Rattle.px_model.proofs.GridLaws.{exponent_between}
 use Rattle.px_control.proofs.ProductLemmas.{literals_few, product_sum}
 use Rattle.px_normal.specs.declared.product.TheConstants.{MAX_PRODUCTS}
 use Rattle.px_sched.proofs.FewLaws.{few_candidates, few_confirm, few_edges, once}
-use Rattle.px_sched.proofs.LawfulLaws.{passes_are}
-use Rattle.px_sched.proofs.LayoutLaws.{bit_length_most, scene_layout}
-use Rattle.px_sched.proofs.OperationLaws.{HoldsOf, each_pass, steps_there}
-use Rattle.px_sched.proofs.WorthLaws.{counted, flat_sum, steps_sum, weighed}
 use Rattle.px_macro.specs.declared.operation.Macro.TheVariants as m
 
--- what the lower crates know of the solids of products
-pub record AreKnown : Type 0 where
-  pub whole : (count : ℕ) (tree : Tree) → HasLeavesBelow 256 tree → HasLeavesBelow count tree →
-      All (HasSolidsBelow count) (sum_of_products tree)
-  pub kept : (count : ℕ) (scene : SceneView) (products : List Product) →
-      All (HasSolidsBelow count) products → All (HasSolidsBelow count) (kept_of scene products)
-  pub apart : (scene : SceneView) (products : List Product) →
-      All (λ product. is_void product ≡ false) (kept_of scene products)
-
-pub kept_known : (scene : SceneView) → IsLawfulScene scene → AreKnown →
-    All (HasSolidsBelow (length scene.solids)) (kept_of scene (sum_of_products scene.show))
-kept_known scene lawful known =
-    let shown = leaves_below (length scene.solids) 256 (omega (arith, lawful.solids)) scene.show lawful.shown
-    in search (rules, known.kept, known.whole)
+kept_known : (scene : SceneView) → IsLawfulScene scene
+    → All (HasSolidsBelow (length scene.solids)) (kept_of scene (sum_of_products scene.show))
+kept_known scene lawful =
+    let count = length scene.solids in
+    let leaves = leaves_below count 256 (omega (arith, lawful.solids)) scene.show lawful.shown in
+    kept_below solids_laws count (bounding_box scene) _ (all_below count scene.show leaves lawful.shown)
 
 -- a solid adds no more steps to a product as a literal: for each of its faces one as a candidate, one where it
 -- confirms one, and one for each of at most 254 other literals
@@ -63,8 +42,7 @@ weights_sum : (ss : List SolidView) → sum_by most_added ss ≡ (faces_of ss + 
 weights_sum [] = refl
 weights_sum (s ∷ ss) = omega (arith, sum_by-cons most_added s ss, sum_by-cons faces_in s ss, weights_sum ss)
 
-module _ (count : EdgesAreCounted) (scene : SceneView) (lawful : IsLawfulScene scene)
-    (each : All IsLawfulSolid scene.solids) where
+module _ (scene : SceneView) (lawful : IsLawfulScene scene) (each : All IsLawfulSolid scene.solids) where
   abbrev l : LayoutView
   l = layout_of scene
 
@@ -86,9 +64,9 @@ module _ (count : EdgesAreCounted) (scene : SceneView) (lawful : IsLawfulScene s
   few_step step there =
       omega (
         arith,
-        weighed count scene l taken (blind count scene Clocks) step there,
+        weighed edges_count scene l taken (blind scene Clocks) step there,
         few_bare step,
-        mul-le (edges_in scene step) (taken (m.KeepSign (level 0))) 97 59 (few_edges count scene l each step)
+        mul-le (edges_in scene step) (taken (m.KeepSign (level 0))) 97 59 (few_edges edges_count scene l each step)
             (omega (arith, levels)),
       )
 
@@ -111,8 +89,8 @@ module _ (count : EdgesAreCounted) (scene : SceneView) (lawful : IsLawfulScene s
         lawful.solids,
       )
 
-  pub few_clocks : AreKnown → length (kept_of scene (sum_of_products scene.show)) ≤ MAX_PRODUCTS → total scene < 2 ^ 43
-  few_clocks known few =
+  pub few_clocks : length (kept_of scene (sum_of_products scene.show)) ≤ MAX_PRODUCTS → total scene < 2 ^ 43
+  few_clocks few =
       let kept = kept_of scene (sum_of_products scene.show) in
       let steps = steps_with scene kept in
       let number : Product → ℕ = λ product. sum_by once (product_steps scene product) in
@@ -127,8 +105,8 @@ module _ (count : EdgesAreCounted) (scene : SceneView) (lawful : IsLawfulScene s
         counted steps,
         steps_sum scene once kept,
         sum_by-le number 1244160 kept
-            (λ k d there. few_added (get_or kept k d) (kept_known scene lawful known k d there)
-            (known.apart scene (sum_of_products scene.show) k d there)),
+            (λ k d there. few_added (get_or kept k d) (kept_known scene lawful k d there)
+            (none_is_void scene (sum_of_products scene.show) k d there)),
         few,
       )
 

@@ -1,32 +1,15 @@
 -- What the passes of a scene come to, by the rates of their steps.
-use Rattle.px_num.proofs.Basics.{false, ◌≡◌, ◌==◌, ◌<◌, ◌∙◌, ℕ, All, List, length, get_or, refl, ap, sym, arith, inl}
-use Rattle.px_num.proofs.Basics.{inr, sum_by, cases_Bool, length-flat_map}
-use Rattle.px_num.proofs.ListLaws.{length-tabulate}
-use Rattle.px_asm.specs.Micros.{all_micros}
-use Rattle.px_expr.proofs.LeafLaws.{some_solid}
-use Rattle.px_face.specs.EdgeLaws.{EdgesAreCounted}
-use Rattle.px_macro.specs.declared.operation.Macro.{Macro}
-use Rattle.px_macro.specs.Macros.{IsLawful, IsLawfulInMore}
-use Rattle.px_model.specs.Cells.{depths_of}
-use Rattle.px_model.specs.Scenes.{IsLawfulScene, IsLawfulSolid, SceneView}
-use Rattle.px_normal.specs.declared.product.Product.{Product}
-use Rattle.px_normal.specs.Forms.{sum_of_products}
-use Rattle.px_normal.specs.Live.{is_void}
-use Rattle.px_prune.specs.Kept.{kept_of}
-use Rattle.px_sched.specs.declared.step.Step.{Step}
-use Rattle.px_sched.specs.declared.step.Step.TheVariants.{Candidate, Drop, Front, Turn}
-use Rattle.px_sched.specs.Layouts.{LayoutView, layout_of}
-use Rattle.px_sched.specs.Passes.{operations, passes, steps_with}
-use Rattle.px_sched.specs.PassesFacts.{LayoutsAreLawful, StepsAreLawful}
-use Rattle.px_sched.specs.Steps.{HasFace, IsFace, IsStep, IsThere}
-use Rattle.px_sched.specs.Worths.{bare, first_face_step, products_worth}
-use Rattle.px_sched.proofs.LawfulLaws.{passes_are}
-use Rattle.px_sched.proofs.OperationLaws.{is_there, steps_there}
-use Rattle.px_sched.proofs.WorthLaws.{IsBlind, flat_sum, sum_by-agree, weighed}
-use Rattle.px_control.specs.declared.measure.Measure.{Measure}
-use Rattle.px_control.specs.declared.rates.Rates.{Rates}
-use Rattle.px_control.specs.Costs.{AreRates, bare_worth, but_edges, rated, worth}
-use Rattle.px_control.specs.Program.{columns_of, cycles_in, program, rows_of, total}
+use Rattle.px_num.proofs.Basics.{false, ◌≡◌, ◌==◌, ◌<◌, ◌≤◌, ◌∙◌, ℕ, All, List, length, get_or, refl, ap, sym, arith}
+use Rattle.px_num.proofs.Basics.{inl, inr, sum_by, cases_Bool, length-flat_map}
+use Rattle.px_control.proofs.Words.{all_micros, AreRates, bare, bare_worth, but_edges, Candidate, columns_of}
+use Rattle.px_control.proofs.Words.{cycles_in, depths_of, Drop, edges_count, first_face_step, flat_sum, Front, HasFace}
+use Rattle.px_control.proofs.Words.{is_lawful_in_more, is_there, IsBlind, IsFace, IsLawful, IsLawfulScene}
+use Rattle.px_control.proofs.Words.{IsLawfulSolid, IsStep, IsThere, kept_of, layout_of, LayoutView, length-tabulate}
+use Rattle.px_control.proofs.Words.{Macro, Measure, need_of, none_is_void, operations, passes, passes_are, Product}
+use Rattle.px_control.proofs.Words.{products_worth, rated, Rates, rows_of, scene_layout, SceneView, some_solid, Step}
+use Rattle.px_control.proofs.Words.{steps_are_lawful, steps_there, steps_with, sum_by-agree, sum_of_products, total}
+use Rattle.px_control.proofs.Words.{Turn, weighed, worth}
+use Rattle.px_control.specs.Program.{program}
 use Rattle.px_control.proofs.ProductLemmas.{products_sum}
 use Rattle.px_macro.specs.declared.operation.Macro.TheVariants as m
 
@@ -35,11 +18,15 @@ pub first_face : (scene : SceneView) → IsLawfulScene scene → IsFace scene 0 
 first_face scene lawful = grind (arith, some_solid)
 
 -- an operation of a step is lawful in the memory of any array
-pub operation_lawful : StepsAreLawful → LayoutsAreLawful → IsLawfulInMore → (scene : SceneView) → IsLawfulScene scene
-    → All IsLawfulSolid scene.solids → (layout : LayoutView) → layout ≡ layout_of scene → (step : Step)
-    → IsStep scene step → (at : ℕ) (o : Macro) → at < length (operations scene (layout_of scene) step)
-    → o ≡ get_or (operations scene layout step) at m.All → IsLawful o 256
-operation_lawful steps layouts more scene lawful solids layout same step is at o low found = grind arith
+pub operation_lawful : (scene : SceneView) → IsLawfulScene scene → All IsLawfulSolid scene.solids
+    → (layout : LayoutView) → layout ≡ layout_of scene → (step : Step) → IsStep scene step → (at : ℕ) (o : Macro)
+    → at < length (operations scene (layout_of scene) step) → o ≡ get_or (operations scene layout step) at m.All
+    → IsLawful o 256
+operation_lawful scene lawful solids layout same step is at o low found =
+    let lies = scene_layout scene lawful in
+    let few : need_of (layout_of scene) ≤ 256 = omega (arith, lies.depth, lies.number) in
+    let fits = steps_are_lawful scene lawful solids step is at m.All low in
+    rw (found, same) (is_lawful_in_more _ (need_of (layout_of scene)) 256 few fits)
 
 module _ (scene : SceneView) where
   pub clocked : (ms : List Macro) →
@@ -50,7 +37,7 @@ module _ (scene : SceneView) where
   unfolding program
   total_is = clocked (passes scene)
 
-module _ (count : EdgesAreCounted) (scene : SceneView) (measure : Measure) where
+module _ (scene : SceneView) (measure : Measure) where
   abbrev l : LayoutView
   l = layout_of scene
 
@@ -68,31 +55,32 @@ module _ (count : EdgesAreCounted) (scene : SceneView) (measure : Measure) where
 
   pub counted_bare : (step : Step) → IsStep scene step
       → sum_by (but_edges scene measure) (operations scene l step) ≡ bare_worth scene measure step
-  counted_bare step is = grind (arith, weighed, blind_but_edges, is_there, bare_has_none)
+  counted_bare step is = grind (arith, weighed edges_count, blind_but_edges, is_there, bare_has_none)
 
   module _ (rates : Rates) (are : AreRates scene measure rates) where
     rated_is : (step : Step) → HasFace (IsThere scene) step
         → sum_by (worth scene measure) (operations scene l step) ≡ rated rates scene (first_face_step step)
     rated_is (Candidate solid face) there =
         rw (are.faces.candidate, are.faces.edge)
-        (weighed count scene l (worth scene measure) blind (Candidate solid face) there)
+        (weighed edges_count scene l (worth scene measure) blind (Candidate solid face) there)
     rated_is (Drop solid face) there =
-        rw (are.faces.drop, are.faces.edge) (weighed count scene l (worth scene measure) blind (Drop solid face) there)
+        rw (are.faces.drop, are.faces.edge)
+        (weighed edges_count scene l (worth scene measure) blind (Drop solid face) there)
     rated_is (Front solid face) there =
         rw (are.faces.front, are.faces.edge)
-        (weighed count scene l (worth scene measure) blind (Front solid face) there)
+        (weighed edges_count scene l (worth scene measure) blind (Front solid face) there)
     rated_is (Turn other solid face) there =
         rw (are.faces.turn, are.faces.edge)
-        (weighed count scene l (worth scene measure) blind (Turn other solid face) there)
-    rated_is step there = omega (arith, are, weighed count scene l (worth scene measure) blind step there)
+        (weighed edges_count scene l (worth scene measure) blind (Turn other solid face) there)
+    rated_is step there = omega (arith, are, weighed edges_count scene l (worth scene measure) blind step there)
 
     -- what is told of the products that are kept
     pub passes_come_to : (products : List Product) → products ≡ kept_of scene (sum_of_products scene.show)
-        → All (λ product. is_void product ≡ false) (kept_of scene (sum_of_products scene.show))
         → products_worth (rated rates scene) scene products ≡ sum_by (worth scene measure) (passes scene)
-    passes_come_to products same apart =
+    passes_come_to products same =
         let kept = kept_of scene (sum_of_products scene.show) in
         let own = operations scene l in
+        let apart = none_is_void scene (sum_of_products scene.show) in
         ap (products_worth (rated rates scene) scene) same ∙ sym (products_sum (rated rates scene) scene kept apart)
         ∙ sym (sum_by-agree (λ step. sum_by (worth scene measure) (own step))
         (λ step. rated rates scene (first_face_step step))

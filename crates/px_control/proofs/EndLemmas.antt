@@ -1,18 +1,12 @@
 -- The ends of operations before and after a clock.
-use Rattle.px_num.proofs.Basics.{◌≡◌, ℕ, zero, suc, ◌+◌, ◌-◌, ◌<◌, ◌≤◌, List, [], ◌∷◌, ◌++◌, length, take, drop, filter}
-use Rattle.px_num.proofs.Basics.{Option, Some, None, refl, ap, ◌∙◌, arith, length-append, add-one, flat_map, slice_get}
-use Rattle.px_num.proofs.Basics.{nat_lt, nat_le, drop-cons, lt-ltb, slice_get_within, get_or_from_slice_get, take_all}
-use Rattle.px_num.proofs.Basics.{take-append-drop, flat_map-cons}
-use Rattle.std.proofs.lemmas.List.Concat.{flat_map-append}
-use Rattle.px_num.proofs.ListLaws.{length-tabulate}
-use Rattle.px_num.proofs.TruthLaws.{le_false, le_true, lt_false}
-use Rattle.px_array.specs.declared.micro.Micro.{Micro}
-use Rattle.px_asm.specs.Micros.{all_micros, micros}
-use Rattle.px_macro.specs.declared.operation.Macro.{Macro}
-use Rattle.px_model.specs.Scenes.{SceneView}
-use Rattle.px_sched.specs.Passes.{passes}
-use Rattle.px_control.specs.Program.{columns_of, cycles_in, ends_after, ends_from, operation_ends, program, rows_of}
-use Rattle.px_control.specs.Program.{total}
+use Rattle.px_num.proofs.Basics.{◌≡◌, ℕ, zero, suc, ◌+◌, ◌-◌, ◌<◌, ◌≤◌, List, [], ◌∷◌, ◌++◌, length, take, drop}
+use Rattle.px_num.proofs.Basics.{filter, Option, Some, None, refl, ap, ◌∙◌, arith, length-append, add-one, flat_map}
+use Rattle.px_num.proofs.Basics.{slice_get, nat_lt, nat_le, drop-cons, lt-ltb, slice_get_within, get_or_from_slice_get}
+use Rattle.px_num.proofs.Basics.{take_all, take-append-drop, flat_map-cons}
+use Rattle.px_control.proofs.Words.{all_micros, columns_of, cycles_in, ends_after, ends_from, flat_map-append}
+use Rattle.px_control.proofs.Words.{le_false, le_true, length-tabulate, lt_false, Macro, Micro, micros, passes}
+use Rattle.px_control.proofs.Words.{rows_of, SceneView, total}
+use Rattle.px_control.specs.Program.{operation_ends, program}
 
 -- whether the micro is one of the operation's, or the first where none is left
 abbrev pub IsMicroOf : SceneView → (micro : ℕ) → Option Macro → Type 0

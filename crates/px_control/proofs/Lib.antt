@@ -2,6 +2,7 @@ pub mod ArrayLaws
 pub mod BoundLemmas
 pub mod CostLemmas
 pub mod EndLemmas
+pub mod GridLaws
 pub mod PictureLemmas
 pub mod PlaceLemmas
 pub mod ProductLemmas
@@ -9,3 +10,4 @@ pub mod ProgramLemmas
 pub mod RunLemmas
 pub mod StepLemmas
 pub mod WholeLemmas
+pub mod Words

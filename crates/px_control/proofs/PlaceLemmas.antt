@@ -2,22 +2,13 @@
 use Rattle.px_num.proofs.Basics.{◌≡◌, ℕ, ◌+◌, ◌-◌, ◌<◌, ◌≤◌, min, List, [], ◌∷◌, length, get_or, Option, Some, None}
 use Rattle.px_num.proofs.Basics.{refl, sym, ap, ◌∙◌, arith, slice_get, IfNone, slice_get_cases, slice_get_within}
 use Rattle.px_num.proofs.Basics.{slice_get-get_or}
+use Rattle.px_control.proofs.Words.{columns_of, cycles_in, Device, ends_after, IsAt, IsLawful, IsWithinOperation}
+use Rattle.px_control.proofs.Words.{layout_of, Macro, Micro, micro_at, micro_at_clock, need_of, operation_at, passes}
+use Rattle.px_control.proofs.Words.{Place, rows_of, SceneView, Stands, StandsFor, start_of, total}
 use Rattle.std.specs.Prelude.{OnSome}
-use Rattle.px_array.specs.declared.micro.Micro.{Micro}
-use Rattle.px_array.specs.Arrays.{Device}
-use Rattle.px_asm.specs.Micros.{micro_at}
-use Rattle.px_macro.specs.Macros.{IsLawful}
-use Rattle.px_macro.specs.declared.operation.Macro.{Macro}
-use Rattle.px_model.specs.Scenes.{SceneView}
 use Rattle.px_sched.specs.declared.cursor.Cursor.{Cursor}
-use Rattle.px_sched.specs.Cursors.{Stands}
-use Rattle.px_sched.specs.Layouts.{layout_of, need_of}
-use Rattle.px_sched.specs.Passes.{passes}
-use Rattle.px_control.specs.declared.place.Place.{Place}
-use Rattle.px_control.specs.Program.{IsAt, array_after, columns_of, cycles_in, ends_after, micro_at_clock, operation_at}
-use Rattle.px_control.specs.Program.{operation_ends, program, rows_of, start_of, total}
+use Rattle.px_control.specs.Program.{array_after, operation_ends, program}
 use Rattle.px_control.specs.ProgramLaws.{HaveLawfulPasses, HaveClocks}
-use Rattle.px_control.specs.Standing.{IsWithinOperation, StandsFor}
 use Rattle.px_control.proofs.EndLemmas.{next_end_here, operation_here, start_all, start_within}
 use Rattle.px_control.proofs.StepLemmas.{below_total, lawful_here, micro_here, start_more}
 

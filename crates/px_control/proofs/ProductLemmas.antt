@@ -4,23 +4,16 @@ use Rattle.px_num.proofs.Basics.{nat_tests, common_steps, ◌≡◌, ◌≢◌, 
 use Rattle.px_num.proofs.Basics.{true, false, not, cond, List, [], ◌∷◌, length, add-one, drop, get_or, refl, ap, sym}
 use Rattle.px_num.proofs.Basics.{◌∙◌, arith, inl, inr, All, filter, sum_by, cases_eq, cases_lt, drop_all, fold-map}
 use Rattle.px_num.proofs.Basics.{sum_by-append, sum_by-cons}
+use Rattle.px_control.proofs.Words.{first_face_step, flat_sum, HasSolidsBelow, is_void, itself_true, judged_worth}
+use Rattle.px_control.proofs.Words.{Literal, literal, literal_steps, literal_sum, literals, literals_of, no_solid}
+use Rattle.px_control.proofs.Words.{other_false, others, own_worth, Product, product_steps, products_worth, SceneView}
+use Rattle.px_control.proofs.Words.{shares_worth, SolidView, Step, steps_sum, steps_with, sum_by-agree}
 use Rattle.std.proofs.lemmas.List.Filters.{sum_by-filter_both}
 use Rattle.std.proofs.lemmas.List.Sums.{sum_by-drop_more, sum_by_push}
-use Rattle.px_num.proofs.TruthLaws.{itself_true, other_false}
-use Rattle.px_normal.specs.declared.product.Product.{Product}
 use Rattle.px_sets.specs.declared.set.SolidSet.{SolidSet}
-use Rattle.px_normal.specs.Forms.{HasSolidsBelow}
-use Rattle.px_normal.specs.Live.{is_void}
 use Rattle.px_sets.specs.Sets.{below, has, solids}
-use Rattle.px_model.specs.Scenes.{SceneView, SolidView}
-use Rattle.px_sched.specs.declared.literal.Literal.{Literal}
-use Rattle.px_sched.specs.declared.step.Step.{Step}
-use Rattle.px_sched.specs.Passes.{literal, literal_steps, literals, literals_of, no_solid, others, product_steps}
-use Rattle.px_sched.specs.Passes.{steps_with}
-use Rattle.px_sched.specs.Worths.{first_face_step, judged_worth, own_worth, products_worth, shares_worth}
 use Rattle.px_sched.proofs.MemberLaws.{In, any_in}
 use Rattle.px_sched.proofs.ProductLaws.{each_literal, in_solids, in_solids_of}
-use Rattle.px_sched.proofs.WorthLaws.{flat_sum, literal_sum, steps_sum, sum_by-agree}
 
 -- sums
 filter_sum : {A : Type 0} (test : A → Bool) (f : A → ℕ) (xs : List A) →

@@ -1,21 +1,14 @@
 -- The broadcasts of one operation, from one up to another.
 use Rattle.px_num.proofs.Basics.{◌≡◌, ℕ, ◌+◌, ◌-◌, ◌<◌, ◌≤◌, List, ◌++◌, length, take, drop, get_or, Some, subst, sym}
 use Rattle.px_num.proofs.Basics.{ap, ◌∙◌, arith, between, slice_get, take-add, drop-take, same_lists, between_is}
+use Rattle.px_control.proofs.Words.{after_clocks, after_clocks-append, all_clocked, all_micros, columns_of, cycles}
+use Rattle.px_control.proofs.Words.{cycles_in, cycles_on, Device, get_or-tabulate, grid_after_clocks}
+use Rattle.px_control.proofs.Words.{grid_of_zero_state, HasGrid, IsAt, IsGrid, length-tabulate, Macro, micro_at}
+use Rattle.px_control.proofs.Words.{micros, micros_on, passes, Place, rows_of, SceneView, StandsFor, start_of, total}
+use Rattle.px_control.proofs.Words.{zero_state}
 use Rattle.std.proofs.lemmas.List.Edits.{get_or-between, length-between}
-use Rattle.px_num.proofs.ListLaws.{get_or-tabulate, length-tabulate}
-use Rattle.px_array.specs.Arrays.{Device, HasGrid, zero_state}
-use Rattle.px_array.proofs.ClockLaws.{after_clocks-append, grid_after_clocks, grid_of_zero_state}
-use Rattle.px_array.specs.Clocks.{after_clocks, all_clocked}
-use Rattle.px_asm.specs.Making.{cycles_on, micros_on}
-use Rattle.px_asm.specs.Micros.{all_micros, cycles, micro_at, micros}
-use Rattle.px_macro.specs.declared.operation.Macro.{Macro}
-use Rattle.px_model.specs.Scenes.{SceneView}
-use Rattle.px_sched.specs.Passes.{passes}
-use Rattle.px_tree.specs.Nodes.{IsGrid}
-use Rattle.px_control.specs.Program.{IsAt, array_after, columns_of, cycles_in, program, rows_of, start_of, total}
+use Rattle.px_control.specs.Program.{array_after, program}
 use Rattle.px_control.specs.ProgramLaws.{HaveLawfulPasses}
-use Rattle.px_control.specs.Standing.{StandsFor}
-use Rattle.px_control.specs.declared.place.Place.{Place}
 use Rattle.px_control.proofs.EndLemmas.{start_within}
 use Rattle.px_control.proofs.PlaceLemmas.{here_of}
 use Rattle.px_control.proofs.ArrayLaws.{columns_at, rows_at}

@@ -2,16 +2,10 @@
 use Rattle.px_num.proofs.Basics.{◌≡◌, ℕ, ◌+◌, ◌<◌, ◌≤◌, List, [], ◌∷◌, length, take, get_or, Some, ap, ◌∙◌, arith}
 use Rattle.px_num.proofs.Basics.{length-append, slice_get, All, All-get_or, take_more, slice_get_within}
 use Rattle.px_num.proofs.Basics.{get_or_from_slice_get, flat_map-cons, get_or-flat_map, length-flat_map-take}
-use Rattle.std.proofs.lemmas.List.Concat.{flat_map-append}
-use Rattle.px_num.proofs.ListLaws.{get_or-tabulate, length-tabulate}
-use Rattle.px_array.specs.declared.micro.Micro.{Micro}
-use Rattle.px_array.specs.Arrays.{Device, opened}
-use Rattle.px_asm.specs.Micros.{all_micros, cycles, micro_at, micros}
-use Rattle.px_macro.specs.Macros.{IsLawful}
-use Rattle.px_macro.specs.declared.operation.Macro.{Macro}
-use Rattle.px_model.specs.Scenes.{SceneView}
-use Rattle.px_sched.specs.Layouts.{layout_of, need_of}
-use Rattle.px_control.specs.Program.{IsAt, array_after, columns_of, rows_of}
+use Rattle.px_control.proofs.Words.{all_micros, columns_of, cycles, Device, flat_map-append, get_or-tabulate, IsAt}
+use Rattle.px_control.proofs.Words.{IsLawful, layout_of, length-tabulate, Macro, Micro, micro_at, micros, need_of}
+use Rattle.px_control.proofs.Words.{opened, rows_of, SceneView}
+use Rattle.px_control.specs.Program.{array_after}
 
 one_operation : (m : Macro) (nx ny : ℕ) → length (all_micros (m ∷ []) nx ny) ≡ cycles m nx ny
 one_operation m nx ny = simp (flat_map-cons, length-append, length-tabulate) (omega arith)

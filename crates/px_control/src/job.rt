@@ -114,7 +114,7 @@ impl<'s> Job<'s> {
         ensures work { A.work array.new ≡ worked result (A.work array.old) }
     {
         let made = clocks.min(self.left());
-        self.place = self.program.advance(&self.place, array, made);
+        self.place = self.program.run_clocks(&self.place, array, made);
         made
     }
 

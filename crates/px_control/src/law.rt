@@ -8,11 +8,7 @@ ghost use Rattle.px_control.specs.PictureLaw.{PictureLaw};
 ghost use Rattle.px_control.specs.Program.{CanRun};
 ghost use Rattle.px_control.specs.ProgramLaws.{IsGoodProgram};
 
-use crate::total::law_of_clocks;
-use px_asm::law_of_microprograms;
-use px_macro::laws_of_operations;
 use px_model::{Scene, laws_of_scenes};
-use px_sched::laws_of_passes;
 
 /// No scene's passes need more bits of memory in a pixel.
 pub const MAX_LAYOUT_BITS: usize = 74;
@@ -20,11 +16,7 @@ pub const MAX_LAYOUT_BITS: usize = 74;
 /// The keys that an array stores after the whole program of a scene are the picture.
 pub fn law_of_pictures()
     ensures { PictureLaw }
-{
-    laws_of_operations();
-    law_of_microprograms();
-    laws_of_passes();
-}
+{}
 
 /// An array on which a scene's broadcasts are made is open, and has a pixel for each one of the
 /// picture; its grid is the one that `Scene::grid` gives.
@@ -39,11 +31,11 @@ pub fn law_of_sizes()
 {}
 
 /// No scene needs more than these bits.
+#[tactic(auto, using(px_sched::proofs::LayoutLaws::scene_layout))]
 pub(crate) fn law_of_needs(scene: &Scene)
     ensures { need_of (layout_of scene.now) ≤ MAX_LAYOUT_BITS }
 {
     laws_of_scenes(scene);
-    laws_of_passes();
 }
 
 /// What holds of the program of a scene that can be run.
@@ -51,8 +43,4 @@ pub(crate) fn law_of_program(scene: &Scene)
     requires { CanRun scene.now }
     ensures good { IsGoodProgram scene.now }
     ensures more { IsLawfulInMore }
-{
-    laws_of_operations();
-    laws_of_passes();
-    law_of_clocks();
-}
+{}

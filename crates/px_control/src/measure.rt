@@ -7,10 +7,9 @@ ghost use Rattle.px_control.specs.Costs.{bare_worth, but_edges, worth};
 ghost use Rattle.px_control.specs.Program.{cycles_in};
 
 use px_asm::cycles;
-use px_face::laws_of_edges;
-use px_macro::{Macro, laws_of_operations};
+use px_macro::Macro;
 use px_model::{Scene, laws_of_scenes};
-use px_sched::{Layout, Step, laws_of_passes};
+use px_sched::{Layout, Step};
 
 /// What is counted of operations.
 #[derive(Clone, Copy)]
@@ -42,9 +41,6 @@ impl Measure {
         ensures few { result ≤ 8364 }
     {
         laws_of_scenes(scene);
-        laws_of_operations();
-        laws_of_passes();
-        laws_of_edges();
         let count = step.count(scene);
         let mut sum = 0;
         for at in 0..count {

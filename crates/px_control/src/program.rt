@@ -108,40 +108,31 @@ impl<'s> Program<'s> {
         }
     }
 
-    /// The place behind the micros of the operation that runs, up to one of them.
-    pub(crate) fn after(&self, place: &Place, m: &Macro, cycles: u32, to: u32) -> Place
-        requires stands { StandsFor self.now place.now }
-        requires here { place.now.current ≡ Some m.now }
+    /// Goes past the micros of the operation that runs, up to one of them.
+    pub(crate) fn go_on(&self, place: &mut Place, m: &Macro, cycles: u32, to: u32)
+        requires stands { StandsFor self.now place.old }
+        requires here { place.old.current ≡ Some m.now }
         requires cycles { cycles ≡ cycles_in self.now m.now }
-        requires forth { place.now.micro ≤ to }
+        requires forth { place.old.micro ≤ to }
         requires within { to ≤ cycles }
-        ensures stands { StandsFor self.now result }
-        ensures clock { result.clock ≡ place.now.clock + (to - place.now.micro) }
-        ensures micro { cycles ≤ to → result.micro ≡ 0 }
-        ensures operation { cycles ≤ to → result.operation ≡ place.now.operation + 1 }
+        ensures stands { StandsFor self.now place.new }
+        ensures clock { place.new.clock ≡ place.old.clock + (to - place.old.micro) }
+        ensures micro { cycles ≤ to → place.new.micro ≡ 0 }
+        ensures operation { cycles ≤ to → place.new.operation ≡ place.old.operation + 1 }
     {
         self.laws();
-        let clock = place.clock + u64::from(to - place.micro);
+        place.clock += u64::from(to - place.micro);
         if to < cycles {
-            Place {
-                clock,
-                micro: to,
-                ..*place
-            }
+            place.micro = to;
         } else {
-            let mut cursor = place.cursor;
-            let current = self.give(&mut cursor);
-            Place {
-                cursor,
-                clock,
-                operation: place.operation + 1,
-                micro: 0,
-                current,
-            }
+            place.operation += 1;
+            place.micro = 0;
+            place.current = self.give(&mut place.cursor);
         }
     }
 
     /// The next operation of the passes.
+    #[inline(always)]
     pub(crate) fn give(&self, cursor: &mut Cursor) -> Option<Macro>
         requires { Stands self.now cursor.old }
         ensures operation { result ≡ slice_get (passes self.now) cursor.old.given }
@@ -208,7 +199,9 @@ impl<'s> Program<'s> {
                 let wanted = u64::from(place.micro) + (end - place.clock);
                 let to = wanted.min(u64::from(cycles)) as u32;
                 make_micros(array, m, place.micro, to);
-                self.after(place, m, cycles, to)
+                let mut behind = *place;
+                self.go_on(&mut behind, m, cycles, to);
+                behind
             }
             None => *place,
         }

@@ -12,10 +12,9 @@ ghost use Rattle.px_control.specs.Program.{total};
 use crate::literal::share;
 use crate::measure::Measure;
 use crate::rates::Rates;
-use px_face::laws_of_edges;
 use px_model::{Scene, laws_of_scenes};
-use px_normal::{MAX_PRODUCTS, Product, laws_of_normal_forms};
-use px_prune::{Plan, laws_of_pruning};
+use px_normal::{MAX_PRODUCTS, Product};
+use px_prune::Plan;
 use px_sched::{Layout, Literal, literals};
 
 /// How many operations the passes of a scene have, and how many clocks they take
@@ -31,9 +30,6 @@ pub fn cost(scene: &Scene, plan: &Plan, layout: &Layout) -> (u64, u64)
     ensures macros { result.0 ≡ length (passes scene.now) }
     ensures clocks { result.1 ≡ total scene.now }
 {
-    laws_of_edges();
-    laws_of_normal_forms();
-    laws_of_pruning();
     laws_of_scenes(scene);
     let operations = Rates::of(scene, layout, Measure::Operations);
     let clocks = Rates::of(scene, layout, Measure::Clocks);
@@ -45,11 +41,7 @@ pub fn cost(scene: &Scene, plan: &Plan, layout: &Layout) -> (u64, u64)
 pub fn law_of_clocks()
     ensures bound { ClockBound }
     ensures some { EachTakesAClock }
-{
-    laws_of_edges();
-    laws_of_normal_forms();
-    laws_of_pruning();
-}
+{}
 
 /// The background, and then each product, by two rates.
 fn products_cost(scene: &Scene, first: &Rates, second: &Rates, products: &[Product]) -> (u64, u64)

@@ -1,30 +1,30 @@
 //! The way through a program, on which operations are made at once as long as that shows nowhere.
-ghost use Rattle.std.specs.Prelude.{◌≡◌, ◌⊎◌, ◌+◌, ◌-◌, ◌<◌, ◌≤◌, ℕ, Some, None, IfSome, IsSome, length};
+ghost use Rattle.std.specs.Prelude.{◌≡◌, ◌+◌, ◌-◌, ◌<◌, ◌≤◌, ℕ, All, IfNone, IfSome, OnSome};
+ghost use Rattle.arrayvec.specs.ArrayVec.{array_vec_len};
+ghost use Rattle.px_array.specs.Arrays.{Device};
+ghost use Rattle.px_array.specs.Clocks.{all_clocked};
 ghost use Rattle.px_array.specs.Slots.{worked};
+ghost use Rattle.px_asm.specs.Making.{micros_on};
+ghost use Rattle.px_asm.specs.Operations.{all_made};
+ghost use Rattle.px_macro.specs.Macros.{IsLawful};
 ghost use Rattle.px_sched.specs.Layouts.{layout_of, need_of};
-ghost use Rattle.px_sched.specs.Passes.{passes};
-ghost use Rattle.px_control.specs.Program.{IsAt, start_of, total};
+ghost use Rattle.px_control.specs.Program.{IsAt, total};
 ghost use Rattle.px_control.specs.Standing.{StandsFor};
-ghost use Rattle.px_control.specs.Whole.{AllRenewed, IsFresh, IsNear, IsSized, after_left};
+ghost use Rattle.px_control.specs.Whole.{Holds};
 
 use crate::place::Place;
 use crate::program::Program;
+use arrayvec::ArrayVec;
 use px_array::Array;
-use px_asm::{Operating, latest, law_of_renewal, make_micros, renewal_of};
+use px_asm::{Operating, make_before};
 use px_macro::Macro;
 
-/// Operations that begin tree, carry and latch anew.
-#[derive(Clone, Copy)]
-struct Stretch {
-    /// The first of them.
-    first: u64,
-    /// The first that is behind them.
-    end: u64,
-}
+/// So many operations are looked at before the first of them is made.
+const HELD: usize = 512;
 
 impl<'s> Program<'s> {
     /// Makes so many broadcasts from a place on, and answers the place behind them.
-    pub(crate) fn advance<A: Operating>(&self, from: &Place, array: &mut A, clocks: u64) -> Place
+    pub(crate) fn run_clocks<A: Operating>(&self, from: &Place, array: &mut A, clocks: u64) -> Place
         requires stands { StandsFor self.now from.now }
         requires left { from.now.clock + clocks ≤ total self.now }
         requires at { IsAt A.BITS self.now from.now.clock (A.device array.old) }
@@ -65,8 +65,7 @@ impl<'s> Program<'s> {
     }
 
     /// Makes the broadcasts from an operation's first up to a clock, and answers the place there:
-    /// operations at once up to the last ones that begin anew what this leaves open, and all behind
-    /// them clock by clock.
+    /// operation by operation, each once those behind it are known, and at the end clock by clock.
     fn march<A: Operating>(&self, from: &Place, array: &mut A, end: u64) -> Place
         requires stands { StandsFor self.now from.now }
         requires micro { from.now.micro ≡ 0 }
@@ -79,182 +78,89 @@ impl<'s> Program<'s> {
         ensures slots { A.slots array.new ≡ A.slots array.old }
         ensures work { A.work array.new ≡ worked (end - from.now.clock) (A.work array.old) }
     {
-        match self.last_renewal(from, end) {
-            Some(Stretch { first, end: behind }) => {
-                let near = self.operate_to(from, array, first);
-                let exact = self.renew_to(&near, array, behind);
-                self.walk(&exact, array, end)
-            }
-            None => self.walk(from, array, end),
-        }
-    }
-
-    /// The last operations before a clock that begin tree, carry and latch anew, if there are any:
-    /// from the earliest of the last clear, the last carry that is set and the last fetch, to the
-    /// last operation that ends by then.
-    fn last_renewal(&self, from: &Place, end: u64) -> Option<Stretch>
-        requires stands { StandsFor self.now from.now }
-        requires micro { from.now.micro ≡ 0 }
-        requires order { from.now.clock ≤ end }
-        ensures fresh { IfSome result (λ s. IsFresh self.now from.now.operation s.end s.first) }
-        ensures within { IfSome result (λ s. s.end ≤ length (passes self.now)) }
-        ensures before { IfSome result (λ s. start_of self.now s.end ≤ end) }
-    {
         let mut place = *from;
-        let mut tree = None;
-        let mut carry = None;
-        let mut latch = None;
-        while let Some((m, next)) = self.whole(&place, end) {
-            let renewal = renewal_of(&m);
-            tree = latest(renewal.tree, place.operation, tree);
-            carry = latest(renewal.carry, place.operation, carry);
-            latch = latest(renewal.latch, place.operation, latch);
-            place = next;
+        let mut held = ArrayVec::new();
+        let mut behind = ArrayVec::new();
+        self.hold(&mut place, end, &mut held);
+        while !held.is_empty() {
+            self.make_held(&mut place, array, end, &held, &mut behind);
+            self.make_held(&mut place, array, end, &behind, &mut held);
         }
-        let first = least(tree, carry, latch)?;
-        Some(Stretch {
-            first,
-            end: place.operation,
-        })
+        self.walk(&place, array, end)
     }
 
-    /// The operation at a place and the place behind it, if it ends by a clock.
-    fn whole(&self, place: &Place, end: u64) -> Option<(Macro, Place)>
-        requires stands { StandsFor self.now place.now }
-        requires micro { place.now.micro ≡ 0 }
-        ensures here { IfSome result (λ r. place.now.current ≡ Some r.0) }
-        ensures stands { IfSome result (λ r. StandsFor self.now r.1) }
-        ensures micro { IfSome result (λ r. r.1.micro ≡ 0) }
-        ensures operation { IfSome result (λ r. r.1.operation ≡ place.now.operation + 1) }
-        ensures within { IfSome result (λ r. r.1.clock ≤ end) }
-    {
-        self.laws();
-        match place.current {
-            Some(m) => {
-                let cycles = self.cycles(&m);
-                let next = self.after(place, &m, cycles, cycles);
-                if next.clock <= end {
-                    Some((m, next))
-                } else {
-                    None
-                }
-            }
-            None => None,
-        }
-    }
-
-    /// Makes the operations up to one of them at once.
-    fn operate_to<A: Operating>(&self, from: &Place, array: &mut A, k: u64) -> Place
-        requires stands { StandsFor self.now from.now }
-        requires micro { from.now.micro ≡ 0 }
-        requires order { from.now.operation ≤ k }
-        requires within { k ≤ length (passes self.now) }
-        requires near { IsNear A.BITS self.now from.now.clock (A.device array.old) }
-        ensures stands { StandsFor self.now result }
-        ensures micro { result.micro ≡ 0 }
-        ensures operation { result.operation ≡ k }
-        ensures later { from.now.clock ≤ result.clock }
-        ensures near { IsNear A.BITS self.now result.clock (A.device array.new) }
-        ensures slots { A.slots array.new ≡ A.slots array.old }
-        ensures work { A.work array.new ≡ worked (result.clock - from.now.clock) (A.work array.old) }
-    {
-        let mut place = *from;
-        while place.operation < k {
-            place = self.operate_one(&place, array);
-        }
-        place
-    }
-
-    /// Makes the operation at a place at once, and answers the place behind it.
-    fn operate_one<A: Operating>(&self, place: &Place, array: &mut A) -> Place
-        requires stands { StandsFor self.now place.now }
-        requires micro { place.now.micro ≡ 0 }
-        requires more { place.now.operation < length (passes self.now) }
-        requires near { IsNear A.BITS self.now place.now.clock (A.device array.old) }
-        ensures stands { StandsFor self.now result }
-        ensures micro { result.micro ≡ 0 }
-        ensures operation { result.operation ≡ place.now.operation + 1 }
-        ensures later { place.now.clock < result.clock }
-        ensures near { IsNear A.BITS self.now result.clock (A.device array.new) }
+    /// Makes the operations that are held, with those behind them held in their place.
+    fn make_held<A: Operating>(
+        &self,
+        place: &mut Place,
+        array: &mut A,
+        end: u64,
+        held: &ArrayVec<Macro, HELD>,
+        behind: &mut ArrayVec<Macro, HELD>,
+    )
+        requires stands { StandsFor self.now place.old }
+        requires micro { place.old.micro ≡ 0 }
+        requires order { place.old.clock ≤ end }
+        requires within { end ≤ total self.now }
+        requires holds { Holds A.BITS self.now place.old.clock held.now.items (A.device array.old) }
+        ensures stands { StandsFor self.now place.new }
+        ensures micro { place.new.micro ≡ 0 }
+        ensures order { place.new.clock ≤ end }
+        ensures operation { place.new.operation ≡ place.old.operation + array_vec_len behind.new }
+        ensures holds { Holds A.BITS self.now place.new.clock behind.new.items (A.device array.new) }
+        ensures later { (A.device array.old).clocks ≤ (A.device array.new).clocks }
         ensures slots { A.slots array.new ≡ A.slots array.old }
         ensures work { A.work array.new
-            ≡ worked (result.clock - place.now.clock) (A.work array.old) }
+            ≡ worked ((A.device array.new).clocks - (A.device array.old).clocks) (A.work array.old) }
     {
         self.laws();
-        law_of_renewal();
-        match &place.current {
-            Some(m) => {
-                array.operate(m);
-                let cycles = self.cycles(m);
-                self.after(place, m, cycles, cycles)
+        self.hold(place, end, behind);
+        make_before(array, held.as_slice(), behind.as_slice());
+    }
+
+    /// Goes past the next operations from a place on, as far as they end by a clock and can be
+    /// held, and holds them.
+    fn hold(&self, place: &mut Place, end: u64, held: &mut ArrayVec<Macro, HELD>)
+        requires stands { StandsFor self.now place.old }
+        requires micro { place.old.micro ≡ 0 }
+        ensures stands { StandsFor self.now place.new }
+        ensures micro { place.new.micro ≡ 0 }
+        ensures within { place.old.clock ≤ end → place.new.clock ≤ end }
+        ensures operation { place.new.operation ≡ place.old.operation + array_vec_len held.new }
+        ensures lawful { All (λ m. IsLawful m (need_of (layout_of self.now))) held.new.items }
+        ensures leads { (bits : ℕ) (d : Device) → IsAt bits self.now place.old.clock d
+            → IsAt bits self.now place.new.clock (all_made held.new.items d) }
+    {
+        held.clear();
+        while held.len() < HELD {
+            match self.pass(place, end) {
+                Some(m) => held.push(m),
+                None => return,
             }
-            None => *place,
         }
     }
 
-    /// Makes all micros of the operations up to one of them, which begin anew what was left open.
-    fn renew_to<A: Array>(&self, from: &Place, array: &mut A, end: u64) -> Place
-        requires stands { StandsFor self.now from.now }
-        requires micro { from.now.micro ≡ 0 }
-        requires order { from.now.operation ≤ end }
-        requires within { end ≤ length (passes self.now) }
-        requires renewed { AllRenewed self.now from.now.operation end }
-        requires near { IsNear A.BITS self.now from.now.clock (A.device array.old) }
-        ensures stands { StandsFor self.now result }
-        ensures clock { result.clock ≡ start_of self.now end }
-        ensures later { from.now.clock ≤ result.clock }
-        ensures at { IsAt A.BITS self.now result.clock (A.device array.new) }
-        ensures slots { A.slots array.new ≡ A.slots array.old }
-        ensures work { A.work array.new
-            ≡ worked (result.clock - from.now.clock) (A.work array.old) }
+    /// Goes past the operation at a place, if it ends by a clock.
+    fn pass(&self, place: &mut Place, end: u64) -> Option<Macro>
+        requires stands { StandsFor self.now place.old }
+        requires micro { place.old.micro ≡ 0 }
+        ensures stands { StandsFor self.now place.new }
+        ensures micro { place.new.micro ≡ 0 }
+        ensures within { place.old.clock ≤ end → place.new.clock ≤ end }
+        ensures operation { OnSome result (place.new.operation ≡ place.old.operation + 1) }
+        ensures stays { IfNone result (place.new ≡ place.old) }
+        ensures lawful { IfSome result (λ m. IsLawful m (need_of (layout_of self.now))) }
+        ensures leads { IfSome result (λ m. (bits : ℕ) (d : Device)
+            → IsAt bits self.now place.old.clock d
+            → IsAt bits self.now place.new.clock (all_clocked (micros_on d m) d)) }
     {
         self.laws();
-        law_of_renewal();
-        let mut place = *from;
-        while place.operation < end {
-            place = self.make_one(&place, array);
+        let m = place.current?;
+        let cycles = self.cycles(&m);
+        if end < place.clock + u64::from(cycles) {
+            return None;
         }
-        place
-    }
-
-    /// Makes all micros of the operation at a place, and answers the place behind it.
-    fn make_one<A: Array>(&self, place: &Place, array: &mut A) -> Place
-        requires stands { StandsFor self.now place.now }
-        requires micro { place.now.micro ≡ 0 }
-        requires more { place.now.operation < length (passes self.now) }
-        requires enough { need_of (layout_of self.now) ≤ A.BITS }
-        requires sized { IsSized self.now place.now.clock (A.device array.old) }
-        ensures stands { StandsFor self.now result }
-        ensures micro { result.micro ≡ 0 }
-        ensures operation { result.operation ≡ place.now.operation + 1 }
-        ensures later { place.now.clock < result.clock }
-        ensures sized { IsSized self.now result.clock (A.device array.new) }
-        ensures device { (end : ℕ) → place.now.operation < end
-            → after_left self.now result.operation end (A.device array.new)
-            ≡ after_left self.now place.now.operation end (A.device array.old) }
-        ensures slots { A.slots array.new ≡ A.slots array.old }
-        ensures work { A.work array.new
-            ≡ worked (result.clock - place.now.clock) (A.work array.old) }
-    {
-        self.laws();
-        match &place.current {
-            Some(m) => {
-                let cycles = self.cycles(m);
-                make_micros(array, m, 0, cycles);
-                self.after(place, m, cycles, cycles)
-            }
-            None => *place,
-        }
-    }
-}
-
-/// The least of three, if all are there.
-fn least(a: Option<u64>, b: Option<u64>, c: Option<u64>) -> Option<u64>
-    ensures { IfSome result (λ k. IfSome a (λ x. k ≤ x) × IfSome b (λ x. k ≤ x) × IfSome c (λ x. k ≤ x)
-        × IsSome a × IsSome b × IsSome c × ((a ≡ Some k) ⊎ ((b ≡ Some k) ⊎ (c ≡ Some k)))) }
-{
-    match (a, b, c) {
-        (Some(a), Some(b), Some(c)) => Some(a.min(b).min(c)),
-        _ => None,
+        self.go_on(place, &m, cycles, cycles);
+        Some(m)
     }
 }

@@ -1,9 +1,6 @@
 -- An array that fits a session, and one beside its course.
 use Rattle.px_num.proofs.Basics.{◌≡◌, ℕ, ◌*◌, ◌<◌, ◌≤◌, List, Option, arith, cases_lt}
-use Rattle.px_array.specs.Arrays.{Device}
-use Rattle.px_debug.specs.Courses.{IsOnCourse}
-use Rattle.px_debug.specs.Marks.{AreMarked}
-use Rattle.px_debug.specs.Moves.{Fits, SessionView, quarter_of}
+use Rattle.px_debug.proofs.Words.{AreMarked, Device, Fits, IsOnCourse, quarter_of, SessionView}
 use Rattle.px_debug.specs.declared.course.Course.{Course}
 
 step_up : (k n q : ℕ) → k ≤ n → k * q ≤ n * q

@@ -1,8 +1,6 @@
 -- From end to end of operations.
 use Rattle.px_num.proofs.Basics.{◌≡◌, ℕ, zero, suc, List, [], ◌∷◌, refl, sym}
-use Rattle.px_model.specs.Scenes.{SceneView}
-use Rattle.px_control.specs.Program.{ends_after}
-use Rattle.px_debug.specs.Moves.{after_ends}
+use Rattle.px_debug.proofs.Words.{after_ends, ends_after, SceneView}
 
 -- at the last clock, after which nothing ends, there is nowhere to go
 pub nowhere_to_go : (count now last : ℕ) (ends : List ℕ) → now ≡ last → ends ≡ [] → after_ends count ends now last ≡ now

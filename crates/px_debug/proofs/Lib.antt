@@ -3,3 +3,4 @@ pub mod JumpLemmas
 pub mod MarkingLemmas
 pub mod TraceLemmas
 pub mod TracingLemmas
+pub mod Words

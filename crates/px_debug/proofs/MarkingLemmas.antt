@@ -1,17 +1,12 @@
 -- The places and the slots of the passed quarters, as the clock goes on.
-use Rattle.px_num.proofs.Basics.{◌≡◌, ℕ, ◌+◌, ◌*◌, ◌/◌, ◌<◌, ◌≤◌, List, [], ◌∷◌, length, get_or, set, Option, Some, sym}
-use Rattle.px_num.proofs.Basics.{ap, ◌∙◌, inl, inr, below_more, length-set, get_or-set_same, get_or-set_other, arith}
-use Rattle.px_num.proofs.Basics.{nat_eq, unwrap_or, div-mul-le_self}
+use Rattle.px_num.proofs.Basics.{◌≡◌, ℕ, ◌+◌, ◌*◌, ◌/◌, ◌<◌, ◌≤◌, List, [], ◌∷◌, length, get_or, set, Option, Some}
+use Rattle.px_num.proofs.Basics.{sym, ap, ◌∙◌, inl, inr, below_more, length-set, get_or-set_same, get_or-set_other}
+use Rattle.px_num.proofs.Basics.{arith, nat_eq, unwrap_or, div-mul-le_self}
+use Rattle.px_debug.proofs.Words.{AreMarked, Device, HasMarks, HasSlots, IsAt, Place, SceneView, StandsFor}
 use Rattle.std.specs.Bool.{MatchBool}
 use Rattle.std.proofs.Math.Nat.{mul-div_cancel}
 use Rattle.std.proofs.lemmas.Bool.Decides.{eqb_tells}
-use Rattle.px_array.specs.Arrays.{Device}
 use Rattle.px_array.specs.Slots.{after_save, no_slots}
-use Rattle.px_model.specs.Scenes.{SceneView}
-use Rattle.px_control.specs.declared.place.Place.{Place}
-use Rattle.px_control.specs.Program.{IsAt}
-use Rattle.px_control.specs.Standing.{StandsFor}
-use Rattle.px_debug.specs.Marks.{AreMarked, HasMarks, HasSlots}
 
 pub due : (now q n : ℕ) → 1 ≤ q → n < 4 → now ≤ n * q → MatchBool (nat_eq (now / q) n) ((n < 4) × (now ≡ n * q))
     (n < 4 → now < n * q)

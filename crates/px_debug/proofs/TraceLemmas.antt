@@ -1,13 +1,10 @@
 -- The last broadcasts.
-use Rattle.px_num.proofs.Basics.{nat_tests, common_steps, ◌≡◌, ℕ, ◌+◌, ◌-◌, ◌<◌, ◌≤◌, List, [], ◌∷◌, ◌++◌, length, take}
-use Rattle.px_num.proofs.Basics.{drop, Some, refl, sym, ap, ◌∙◌, append_assoc, length-append, length-drop, arith}
+use Rattle.px_num.proofs.Basics.{nat_tests, common_steps, ◌≡◌, ℕ, ◌+◌, ◌-◌, ◌<◌, ◌≤◌, List, [], ◌∷◌, ◌++◌, length}
+use Rattle.px_num.proofs.Basics.{take, drop, Some, refl, sym, ap, ◌∙◌, append_assoc, length-append, length-drop, arith}
 use Rattle.px_num.proofs.Basics.{slice_get, take-add, take_more, take-append-drop, slice_get_within}
 use Rattle.px_num.proofs.Basics.{get_or_from_slice_get}
+use Rattle.px_debug.proofs.Words.{get_or-drop, keep_last, length-take, Micro, SceneView}
 use Rattle.std.proofs.Math.Seq.{drop-append-add}
-use Rattle.std.proofs.lemmas.List.{length-take, get_or-drop}
-use Rattle.circular_buffer.specs.Buffer.{keep_last}
-use Rattle.px_array.specs.declared.micro.Micro.{Micro}
-use Rattle.px_model.specs.Scenes.{SceneView}
 use Rattle.px_debug.specs.Marks.{last_before}
 
 pub keep_keep : {X : Type 0} (k : ℕ) (xs ys : List X) → keep_last k (keep_last k xs ++ ys) ≡ keep_last k (xs ++ ys)

@@ -1,4 +1,3 @@
 pub mod AskingLemmas
 pub mod PartLemmas
 pub mod ServedLemmas
-pub mod StopLemmas

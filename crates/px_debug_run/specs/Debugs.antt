@@ -11,8 +11,8 @@ use Rattle.px_control.specs.Program.{IsAt}
 use Rattle.px_debug.specs.Moves.{Fits, SessionView}
 use Rattle.px_asked.specs.Lines.{all_lines, whole_lines}
 use Rattle.px_asked.specs.Parts.{behind_part, holds_part, scene_part}
-use Rattle.px_session.specs.Servings.{Answered, Broken}
-use Rattle.px_session.specs.Sessions.{answers, has_quit, session_opened, stand, until_quit}
+use Rattle.px_session.specs.Servings.{Answered, Breaks}
+use Rattle.px_session.specs.Sessions.{Sitting, session_opened, sitting, stand}
 use Rattle.px_outcome.specs.declared.refusal.Refusal.TheVariants as r
 use Rattle.px_outcome.specs.declared.stop.Stop.{Stop}
 use Rattle.px_outcome.specs.declared.stop.Stop.TheVariants as s
@@ -55,6 +55,13 @@ all_commands bytes = all_lines (command_text bytes)
 abbrev pub session_of : List ℕ → SessionView
 session_of bytes = session_opened (part_scene bytes)
 
+-- and over the command lines, without a last piece and with it
+abbrev pub whole_sitting : (bits : ℕ) → (bytes : List ℕ) → Sitting
+whole_sitting bits bytes = sitting bits (session_of bytes) (whole_commands bytes)
+
+abbrev pub all_sitting : (bits : ℕ) → (bytes : List ℕ) → Sitting
+all_sitting bits bytes = sitting bits (session_of bytes) (all_commands bytes)
+
 -- the outcome, where a scene part is a scene's, and the array can draw it
 unfoldable pub admitted : (part : List ℕ) → (bits : ℕ) → Outcome → Outcome
 admitted part bits outcome = unless_refused (text_refusal part) (drawable bits (scene_written part) outcome)
@@ -63,9 +70,8 @@ admitted part bits outcome = unless_refused (text_refusal part) (drawable bits (
 -- those lines, and then the refusal
 unfoldable pub answered : (bytes : List ℕ) → (bits : ℕ) → Outcome
 answered bytes bits =
-    if is_long bytes && not (has_quit (whole_commands bytes))
-    then cut (answers bits (session_of bytes) (whole_commands bytes)) too_long
-    else done (answers bits (session_of bytes) (until_quit (all_commands bytes)))
+    if is_long bytes && not (whole_sitting bits bytes).quit then cut (whole_sitting bits bytes).said too_long
+    else done (all_sitting bits bytes).said
 
 -- a scene part that is not whole within the limit of a text is past it
 unfoldable pub debugged : (bytes : List ℕ) → (bits : ℕ) → Outcome
@@ -78,14 +84,15 @@ debugged bytes bits =
 pub record IsAnswered (ends : Bool) (bits : ℕ) (from : SessionView) (lines : List (List ℕ)) (before after : Ends) :
     Type 0 where
   pub now : SessionView
-  pub answered : Answered ends bits (stand from 0 before.out) (stand now after.array.work after.out) lines
+  pub answered : Answered ends (stand from 0 before.out) (stand now after.array.work after.out)
+      (sitting bits from lines)
   pub fits : Fits bits now after.array.device after.array.slots
 
 -- a write failed in the answer to one of the lines, or in finishing behind the last; the array is as the
 -- session leaves it
 pub record IsBroken (bits : ℕ) (from : SessionView) (lines : List (List ℕ)) (before after : Ends) : Type 0 where
   pub now : SessionView
-  pub broken : Broken true bits (stand from 0 before.out) (stand now after.array.work after.out) lines
+  pub broken : Breaks bits (stand from 0 before.out) (stand now after.array.work after.out) lines
   pub fits : Fits bits now after.array.device after.array.slots
 
 -- the scene part of some bytes is a scene's that an array with pixels of so many bits can draw
@@ -95,13 +102,13 @@ Admits bits bytes = (outcome : Outcome) → admitted (scene_part_of bytes) bits 
 -- a write failed behind a scene part that is a scene's that the array can draw
 pub record IsBrokenOff (bits : ℕ) (taken : List ℕ) (before after : Ends) : Type 0 where
   pub admits : Admits bits taken
-  pub broken : IsBroken bits (session_of taken) (until_quit (all_commands taken)) before after
+  pub broken : IsBroken bits (session_of taken) (all_commands taken) before after
 
 -- a read failed behind a whole scene part: it is a scene's that the array can draw, no whole command is a quit,
 -- and all are answered
 pub record IsCutOff (bits : ℕ) (taken : List ℕ) (before after : Ends) : Type 0 where
   pub admits : Admits bits taken
-  pub quiet : has_quit (whole_commands taken) ≡ false
+  pub quiet : (whole_sitting bits taken).quit ≡ false
   pub answered : IsAnswered false bits (session_of taken) (whole_commands taken) before after
 
 -- and where the scene part was not whole, nothing is done
@@ -128,7 +135,7 @@ LeavesAtMemory bits taken before now =
 -- what is written, and what is left of the array
 abbrev pub LeavesSession : Result (Unit {0}) Stop → (bits : ℕ) → Input → (before after : Ends) → Type 0
 LeavesSession (Ok u) bits input before after =
-    IsAnswered true bits (session_of input.bytes) (until_quit (all_commands input.bytes)) before after
+    IsAnswered true bits (session_of input.bytes) (all_commands input.bytes) before after
 LeavesSession (Err (s.Refused (r.Limit line kind found))) bits input before after =
     LeavesAtLimit (debugged input.bytes bits) bits input.bytes before after
 LeavesSession (Err s.ReadFault) bits input before after = LeavesAtReadFault bits input.taken before after

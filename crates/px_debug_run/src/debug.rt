@@ -1,12 +1,14 @@
 //! The command `debug`: a session over the scene part of the input, whose command lines are the rest.
-ghost use Rattle.std.specs.Prelude.{◌≡◌, ◌≢◌, ◌≤◌, ℕ, IfErr, IfOk, IsErrOf, OnErr, OnOk, Err};
-ghost use Rattle.std.specs.Io.KnownBytes.{Keeps};
+ghost use Rattle.std.specs.Prelude.{◌≡◌, ◌≢◌, ◌<◌, ◌≤◌, ◌+◌, ◌^◌, [], ℕ, IfErr, IfOk, IsErrOf, OnErr, OnOk, Err, None, length, true, false};
+ghost use Rattle.std.specs.Io.KnownBytes.{IsAtEnd};
 ghost use Rattle.px_io.specs.Told.{ConsumesAtMost};
 ghost use Rattle.px_array.specs.Slots.{array_view};
 ghost use Rattle.px_debug.specs.Moves.{Fits};
 ghost use Rattle.px_io.specs.declared.reading.ReadError.{ReadError};
 ghost use Rattle.px_asked.specs.Listenings.{ListenedTo, Listens};
 ghost use Rattle.px_asked.specs.Readings.{TookNoPart};
+ghost use Rattle.px_session.specs.Prompts.{Moment, moment};
+ghost use Rattle.px_session.specs.Servings.{HasOutCause, HasReadCause};
 ghost use Rattle.px_session.specs.Sessions.{session_opened};
 ghost use Rattle.px_outcome.specs.declared.stop.Stop.{Stop};
 ghost use Rattle.px_debug_run.specs.Askings.{AnswersInTime};
@@ -14,7 +16,7 @@ ghost use Rattle.px_debug_run.specs.Debugs.{PerformsSession};
 ghost use Rattle.px_outcome.specs.Outcomes.{Outcome, drawable};
 ghost use Rattle.px_outcome.specs.Ends.{ends};
 ghost use Rattle.px_outcome.specs.Results.{HasCauses, status_of};
-ghost use Rattle.px_debug_run.specs.Sittings.{Finishes, HasParts, IsOpening, IsTooLong, LeavesClosed, Opens, result_of};
+ghost use Rattle.px_debug_run.specs.Sittings.{IsOpening, IsSceneOf, IsShort, LeavesClosed, Opens, Refuses, Sits, result_of};
 ghost use Rattle.px_outcome.specs.Stops.{IsReadCause, StopsAt, stopped};
 
 use px_array::Array;
@@ -24,11 +26,12 @@ use px_debug::Session;
 use px_io::{ReadError, Sink};
 use px_outcome::{READ_LIMIT, SceneStop, Stop, open_job, scene_in, too_long};
 use px_scene::Scene;
-use px_session::{Ending, laws_of_sessions, serve};
+use px_session::{Ending, finish_unasked, laws_of_sessions, serve};
 use std::alloc::Global;
 
 /// Reads the scene part and judges it as soon as it is whole, and then answers each command line
 /// before more is read.
+#[tactic(auto, using(crate::proofs::AskingLemmas::answers_listened, crate::proofs::AskingLemmas::answers_unread))]
 pub fn debug_input<S: Asks<O>, O: Sink, A: Operating>(
     alloc: Global,
     input: &mut S,
@@ -50,18 +53,13 @@ pub fn debug_input<S: Asks<O>, O: Sink, A: Operating>(
 {
     laws_of_sessions();
     let opening = open_input(alloc, input, out)?;
-    let end = opening.part;
-    let more = READ_LIMIT - opening.text.len();
-    let (part, read) = parts_of(&opening)?;
-    let scene = scene_in(alloc, part)?;
+    let (scene, read) = scene_of(alloc, &opening)?;
     let mut session = open_session(alloc, &scene, array)?;
-    match end {
-        Some(_) => result_of(serve(&mut session, array, read, input, more, out)),
-        None => finish(out),
-    }
+    result_of(sit(&mut session, array, &opening, read, input, out))
 }
 
 /// Reads the input until its scene part is whole, or to its end or its limit.
+#[tactic(auto, using(crate::proofs::PartLemmas::is_opening))]
 fn open_input<S: Asks<O>, O: Sink>(
     alloc: Global,
     input: &mut S,
@@ -80,24 +78,32 @@ fn open_input<S: Asks<O>, O: Sink>(
         IsReadCause fault (S.faults input.old) (S.faults input.new)) }
 {
     laws_of_parts();
-    match read_part(alloc, input, out, READ_LIMIT) {
-        Ok(opening) => Ok(opening),
-        Err(fault) => Err(fault),
-    }
+    let opening = read_part(alloc, input, out, READ_LIMIT)?;
+    Ok(opening)
 }
 
-/// The scene part, and what was read behind it without the byte past the limit; a part that is not
-/// whole within the limit is past it.
-fn parts_of(opening: &Opening) -> Result<(&[u8], &[u8]), SceneStop>
+/// The scene of the scene part, and what was read behind that without the byte past the limit.
+fn scene_of(alloc: Global, opening: &Opening) -> Result<(Scene, &[u8]), SceneStop>
     requires { IsOpening opening.now }
-    ensures ok { IfOk result (λ parts. HasParts opening.now parts.0.now parts.1.now) }
-    ensures err { IfErr result (λ stop. IsTooLong opening.now stop) }
+    ensures ok { IfOk result (λ found. IsSceneOf opening.now found.0 found.1.now) }
+    ensures err { (bits : ℕ) → IfErr result (Refuses bits opening.now) }
 {
-    if opening.part.is_none() && opening.text.len() == READ_LIMIT {
+    if is_cut(opening) {
         return Err(SceneStop::Refused(too_long()));
     }
     let counted = &opening.text[..opening.text.len().min(READ_LIMIT - 1)];
-    Ok(counted.split_at(opening.part.unwrap_or(counted.len())))
+    let (part, read) = counted.split_at(opening.part.unwrap_or(counted.len()));
+    let scene = scene_in(alloc, part)?;
+    Ok((scene, read))
+}
+
+/// Whether a scene part is past the limit: it is not whole within it.
+fn is_cut(opening: &Opening) -> bool
+    requires few { length opening.now.text.items ≤ READ_LIMIT }
+    ensures cut { result ≡ true → (opening.now.part ≡ None) × (length opening.now.text.items ≡ READ_LIMIT) }
+    ensures short { result ≡ false → IsShort opening.now }
+{
+    opening.part.is_none() && opening.text.len() == READ_LIMIT
 }
 
 /// Opens the array for a scene, and a session on it.
@@ -124,9 +130,45 @@ fn open_session<'s, A: Array>(
     }
 }
 
+/// Answers the lines behind the scene part, and finishes the output.
+fn sit<S: Asks<O>, O: Sink, A: Operating>(
+    session: &mut Session<'_>,
+    array: &mut A,
+    opening: &Opening,
+    read: &[u8],
+    input: &mut S,
+    out: &mut O,
+) -> Ending
+    requires fits { Fits A.BITS session.old (A.device array.old) (A.slots array.old) }
+    requires first { session.old.lines ≡ 0 }
+    requires few { length opening.now.text.items ≤ READ_LIMIT }
+    requires short { IsShort opening.now }
+    requires none { opening.now.part ≡ None → (read.now ≡ []) × IsAtEnd (S.rest input.old) }
+    ensures fits { Fits A.BITS session.new (A.device array.new) (A.slots array.new) }
+    ensures sits { Sits opening.now result A.BITS read.now
+        (moment session.old (A.work array.old) (O.state out.old)
+        (S.asks input.old) (S.rest input.old) (S.faults input.old))
+        (moment session.new (A.work array.new) (O.state out.new)
+        (S.asks input.new) (S.rest input.new) (S.faults input.new)) }
+{
+    match opening.part {
+        Some(_) => serve(
+            session,
+            array,
+            read,
+            input,
+            READ_LIMIT - opening.text.len(),
+            out,
+        ),
+        None => finish_unasked(out),
+    }
+}
+
 /// What a session comes to that ended so.
 fn result_of(ending: Ending) -> Result<(), Stop>
     ensures result { result ≡ result_of ending }
+    ensures causes { (input_old input_new out_old out_new : ℕ) → HasReadCause ending input_old input_new →
+        HasOutCause ending out_old out_new → HasCauses result input_old input_new out_old out_new }
     ensures worded { result ≢ Err Stop.Usage }
 {
     match ending {
@@ -134,17 +176,5 @@ fn result_of(ending: Ending) -> Result<(), Stop>
         Ending::Long => Err(Stop::Refused(too_long())),
         Ending::ReadFault => Err(Stop::ReadFault),
         Ending::WriteFault => Err(Stop::WriteFault),
-    }
-}
-
-/// Finishes the output of a session without command lines.
-fn finish<O: Sink>(out: &mut O) -> Result<(), Stop>
-    ensures bytes { Keeps (O.state out.old).written (O.state out.new).written }
-    ensures end { Finishes result (O.state out.old) (O.state out.new) }
-    ensures causes { (n : ℕ) → HasCauses result n n (O.state out.old).faults (O.state out.new).faults }
-{
-    match out.finish() {
-        Ok(()) => Ok(()),
-        Err(_) => Err(Stop::WriteFault),
     }
 }

@@ -1,9 +1,12 @@
 -- What the images of an accepted text show, from what texts and pictures are known for; and which scenes are drawn.
 use Rattle.px_num.proofs.Basics.{ℕ, Option, refl}
 use Rattle.px_model.specs.Cells.{picture}
-use Rattle.px_face.specs.Seen.{PicturesShowFirstCells}
-use Rattle.px_scene.specs.AcceptedLaw.{AcceptedIsLawful}
+use Rattle.px_face.specs.Surfaces.{PicturesShowBackground}
+use Rattle.px_face.proofs.BackgroundLemmas.{shows_background}
+use Rattle.px_face.proofs.SeenLemmas.{shows_first_cells}
+use Rattle.px_face.proofs.SurfaceLemmas.{scene_surface}
 use Rattle.px_scene.specs.Reading.{scene_of}
+use Rattle.px_scene.proofs.AcceptedLemmas.{accepted_lawful}
 use Rattle.px_scene.specs.Text.{worded}
 use Rattle.px_normal.specs.CrowdLaw.{CrowdLaw}
 use Rattle.px_prune.specs.Bounding.{bounding_box}
@@ -11,11 +14,14 @@ use Rattle.px_sets.specs.declared.cell_box.CellBox.{CellBox}
 use Rattle.px_deliver.proofs.RefusalLemmas.{accepts}
 use Rattle.px_deliver.specs.PictureLaw.{SmallScenesAreDrawn, TextsHavePictures}
 
-pub texts_have_pictures : AcceptedIsLawful → PicturesShowFirstCells → TextsHavePictures
-texts_have_pictures lawful seen text good = record {
+pub background_shown : PicturesShowBackground
+background_shown = shows_background scene_surface
+
+pub texts_have_pictures : TextsHavePictures
+texts_have_pictures text good = record {
   sights = picture (scene_of (worded text));
   written = refl;
-  shown = λ x y. seen (scene_of (worded text)) (lawful text good).scene_is x y;
+  shown = shows_first_cells scene_surface (scene_of (worded text)) (accepted_lawful text good).scene_is;
 }
 
 pub small_scenes_are_drawn : ((boxes : ℕ → Option CellBox) → CrowdLaw boxes) → SmallScenesAreDrawn

@@ -12,9 +12,8 @@ ghost use Rattle.px_deliver.specs.Images.{images};
 
 use px_array::Array;
 use px_asm::Operating;
-use px_control::{Job, law_of_grids};
-use px_face::laws_of_surfaces;
-use px_frame::{Plane, laws_of_images, write_picture};
+use px_control::Job;
+use px_frame::{Plane, write_picture};
 use px_io::{Failed, Sink};
 use px_scene::{Scene, laws_of_scenes};
 use px_sched::Layout;
@@ -74,13 +73,14 @@ pub fn deliver_images<A: Operating, O: Sink>(
         → IsRunOnce (array_view (A.device array.new) (A.slots array.new) (A.work array.new)) }
     ensures job { IsFinished job.old job.new }
 {
-    let layout = draw(job, scene, array);
+    let layout = draw_job(job, scene, array);
     write_images(array, &layout, scene, planes, out)?;
     out.finish()
 }
 
 /// Makes the clocks that are left, and answers where the picture then stands in a pixel's memory.
-pub fn draw<A: Operating>(job: &mut Job<'_>, scene: &Scene, array: &mut A) -> Layout
+#[tactic(auto, using(crate::proofs::PictureLemmas::background_shown))]
+pub fn draw_job<A: Operating>(job: &mut Job<'_>, scene: &Scene, array: &mut A) -> Layout
     requires scene { scene.now ≡ job.old.scene }
     requires at { IsAt A.BITS scene.now job.old.place.clock (A.device array.old) }
     ensures layout { result ≡ layout_of scene.now }
@@ -95,7 +95,6 @@ pub fn draw<A: Operating>(job: &mut Job<'_>, scene: &Scene, array: &mut A) -> La
 {
     job.finish(array);
     laws_of_scenes(scene);
-    laws_of_surfaces();
     job.layout()
 }
 
@@ -136,7 +135,5 @@ fn write_image<A: Array, O: Sink>(
     ensures cause { HasCause (O.state out.old).faults (O.state out.new).faults result }
 {
     laws_of_scenes(scene);
-    law_of_grids();
-    laws_of_images();
     write_picture(array, layout, scene, plane, out)
 }

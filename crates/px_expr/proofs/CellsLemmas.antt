@@ -1,8 +1,6 @@
 -- Surfaces and members of joined expressions.
 use Rattle.px_num.proofs.Basics.{arith, ℕ, ◌≡◌, ◌<◌, refl}
-use Rattle.px_expr.specs.Tree.{Tree, leaf, join, HasLeavesBelow}
-use Rattle.px_expr.specs.Cells.{Cell, cell, combined, is_member, HasSurface}
-use Rattle.px_expr.specs.declared.node.Op.{Op}
+use Rattle.px_expr.proofs.Words.{Cell, cell, combined, HasLeavesBelow, HasSurface, is_member, join, leaf, Op, Tree}
 use Rattle.px_expr.proofs.CombinationLaws.{combination_begins, truth_of_complement}
 
 has_combined : (op : Op) (a b c d : Cell) → HasSurface a c → HasSurface b d

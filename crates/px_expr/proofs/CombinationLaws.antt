@@ -1,13 +1,11 @@
 -- Laws of combinations: which cells the complement of one has, and that what begins shows a face.
 use Rattle.px_num.proofs.Basics.{ℕ, ◌≡◌, ◌<◌, ◌&&◌, ◌||◌, ◌++◌, Bool, true, false, not, List, length, refl, arith}
 use Rattle.px_num.proofs.Basics.{length-append}
+use Rattle.px_expr.proofs.Words.{Both, Cell, Combination, complement_of, Either, EitherWay, HasSurface, opposite}
+use Rattle.px_expr.proofs.Words.{shown_in, shown_when, truth_in, truth_when, where_true}
 use Rattle.px_num.proofs.TruthLaws.{not_false, not_true}
-use Rattle.px_expr.specs.Cells.{Cell, HasSurface, shown_in, shown_when, where_true, complement_of, opposite, truth_in}
-use Rattle.px_expr.specs.Cells.{truth_when}
 use Rattle.px_expr.specs.declared.node.Sense.{Sense}
 use Rattle.px_expr.specs.declared.node.Sense.TheVariants.{Plain, Complement}
-use Rattle.px_expr.specs.declared.node.Combination.{Combination}
-use Rattle.px_expr.specs.declared.node.Combination.TheVariants.{Both, Either, EitherWay}
 
 pub truth_in_opposite : (sense : Sense) (side : Bool) → truth_in (opposite sense) side ≡ not (truth_in sense side)
 truth_in_opposite Plain side = refl

@@ -6,3 +6,4 @@ pub mod PostorderLemmas
 pub mod SidesLemmas
 pub mod StackLaws
 pub mod WaitingLemmas
+pub mod Words

@@ -1,10 +1,7 @@
 -- What is shown of each operator in its turn: its node is seen as it, and it has no cell where neither side has one.
 use Rattle.px_num.proofs.Basics.{ℕ, ◌≡◌, ◌≢◌, ⊤, false, refl}
-use Rattle.px_expr.specs.declared.node.Op.{Op}
-use Rattle.px_expr.specs.declared.node.Combination.{Combination}
-use Rattle.px_expr.specs.declared.node.Combination.TheVariants.{Both, Either, EitherWay}
-use Rattle.px_expr.specs.Shapes.{node_shape, op_node}
-use Rattle.px_expr.specs.Cells.{truth_of, combination_of}
+use Rattle.px_expr.proofs.Words.{Both, Combination, combination_of, Either, EitherWay, node_shape, Op, op_node}
+use Rattle.px_expr.proofs.Words.{truth_of}
 use Rattle.px_expr.specs.declared.node.Op.TheVariants as o
 use Rattle.px_expr.specs.declared.node.Shape.TheVariants as p
 

@@ -2,13 +2,10 @@
 use Rattle.px_num.proofs.Basics.{ℕ, ◌≡◌, ◌≤◌, ◌<◌, ◌+◌, ◌*◌, List, [], ◌∷◌, ◌++◌, length, take, get_or, fold, refl}
 use Rattle.px_num.proofs.Basics.{arith, rules, length-append, All, fold-append, All-nil, All-cons, All-append, zero}
 use Rattle.px_num.proofs.Basics.{suc}
-use Rattle.px_expr.specs.Tree.{Tree, leaf, join, leaf_count, nesting, HasLeavesBelow}
-use Rattle.px_expr.specs.Shapes.{node_shape, op_node, joined, CanPlace, IsLeafBelow}
+use Rattle.px_expr.proofs.Words.{CanPlace, HasLeavesBelow, IsLeafBelow, join, joined, leaf, leaf_count, MAX_NESTING}
+use Rattle.px_expr.proofs.Words.{MAX_WAITING, nesting, Node, node_shape, nodes_behind, nodes_of, Op, op_node, placed}
+use Rattle.px_expr.proofs.Words.{size, Tree, trees_after}
 use Rattle.px_expr.proofs.OperatorLaws.{shape_of_op}
-use Rattle.px_expr.specs.Postorder.{size, nodes_behind, nodes_of, placed, trees_after}
-use Rattle.px_expr.specs.declared.node.Node.{Node}
-use Rattle.px_expr.specs.declared.node.Op.{Op}
-use Rattle.px_expr.specs.declared.node.TheConstants.{MAX_NESTING, MAX_WAITING}
 
 pub size_leaves : (tree : Tree) → size tree + 1 ≡ 2 * leaf_count tree
 size_leaves (leaf solid) = refl

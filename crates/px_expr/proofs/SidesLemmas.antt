@@ -1,12 +1,9 @@
 -- Each node of a tree but the root is one node's side, and stands before it.
 use Rattle.px_num.proofs.Basics.{ℕ, ◌≡◌, ◌≤◌, ◌<◌, ◌+◌, ◌-◌, ◌==◌, List, [], ◌∷◌, ◌++◌, length, get_or, refl, arith}
 use Rattle.px_num.proofs.Basics.{cond, length-append, All, count_by, nat_tests, sum_by-append, zero, suc}
-use Rattle.px_expr.specs.Tree.{Tree, leaf, join}
-use Rattle.px_expr.specs.Shapes.{node_shape, op_node, sides}
+use Rattle.px_expr.proofs.Words.{join, leaf, Node, node_shape, nodes_behind, Op, op_node, parent_count, sides, size}
+use Rattle.px_expr.proofs.Words.{Tree}
 use Rattle.px_expr.proofs.OperatorLaws.{shape_of_op}
-use Rattle.px_expr.specs.Postorder.{size, nodes_behind, parent_count}
-use Rattle.px_expr.specs.declared.node.Node.{Node}
-use Rattle.px_expr.specs.declared.node.Op.{Op}
 use Rattle.px_expr.proofs.PostorderLemmas.{length-nodes_behind}
 
 some_node : (tree : Tree) → 1 ≤ size tree

@@ -2,12 +2,8 @@
 use Rattle.px_num.proofs.Basics.{arith, ap, sym, ◌∙◌, ℕ, ◌≡◌, ◌+◌, ◌<◌, ◌≤◌, List, [], ◌∷◌, ◌++◌, Option, Some, map}
 use Rattle.px_num.proofs.Basics.{take, length, reverse, slice_index_or, refl, take_all, length-reverse, length-map}
 use Rattle.px_num.proofs.Basics.{reverse-append, fold_more}
+use Rattle.px_expr.proofs.Words.{join, joined, leaf, Node, node_shape, Op, put, Tree, trees_after}
 use Rattle.std.specs.Option.{option_to_list}
-use Rattle.px_expr.specs.Tree.{Tree, leaf, join}
-use Rattle.px_expr.specs.Shapes.{node_shape, joined, put}
-use Rattle.px_expr.specs.Postorder.{trees_after}
-use Rattle.px_expr.specs.declared.node.Node.{Node}
-use Rattle.px_expr.specs.declared.node.Op.{Op}
 use Rattle.px_expr.specs.declared.node.Shape.{Shape}
 use Rattle.px_expr.specs.declared.node.Shape.TheVariants as p
 

@@ -2,15 +2,9 @@
 use Rattle.px_num.proofs.Basics.{nat_tests, common_steps, ℕ, ◌≡◌, ◌≤◌, ◌<◌, ◌+◌, ◌-◌, ◌*◌, max, List, [], ◌∷◌, ◌++◌}
 use Rattle.px_num.proofs.Basics.{length, reverse, refl, ap, arith, append_assoc, length-append, reverse-append}
 use Rattle.px_num.proofs.Basics.{length-reverse, fold-append}
-use Rattle.px_expr.specs.Tree.{Tree, leaf, join, nesting}
-use Rattle.px_expr.specs.Shapes.{op_node, joined}
-use Rattle.px_expr.specs.Postorder.{size, placed, trees_after}
-use Rattle.px_expr.specs.Waiting.{newest, all_leaves}
-use Rattle.px_expr.specs.Kept.{all_size, all_nodes, subtrees_of, AreLawful, IsKept}
-use Rattle.px_expr.specs.declared.node.Node.{Node}
-use Rattle.px_expr.specs.declared.node.Op.{Op}
-use Rattle.px_expr.specs.declared.builder.Subtree.{Subtree}
-use Rattle.px_expr.specs.declared.node.TheConstants.{MAX_LEAVES, MAX_NESTING}
+use Rattle.px_expr.proofs.Words.{all_leaves, all_nodes, all_size, AreLawful, IsKept, join, joined, leaf, MAX_LEAVES}
+use Rattle.px_expr.proofs.Words.{MAX_NESTING, nesting, newest, Node, Op, op_node, placed, size, Subtree, subtrees_of}
+use Rattle.px_expr.proofs.Words.{Tree, trees_after}
 use Rattle.px_expr.proofs.PostorderLemmas.{size_leaves, length-nodes_behind}
 use Rattle.px_expr.specs.declared.node.Node.TheVariants as n
 

@@ -1,23 +1,17 @@
 -- A pixel shows a face of the scene where it has a first cell, and face 0 elsewhere.
-use Rattle.px_num.proofs.Basics.{◌≡◌, ◌<◌, ◌≤◌, ◌+◌, ℕ, zero, suc, ℤ, Bool, true, false, List, [], ◌∷◌, ◌++◌, length}
-use Rattle.px_num.proofs.Basics.{min, Option, Some, None, refl, sym, subst, arith, inl, inr, ◌↔◌, if◌then◌else◌, All}
-use Rattle.px_num.proofs.Basics.{int_eq, cases_eq, All-nil, All-append, All-filter, All-map, sum_by-cons}
-use Rattle.px_num.specs.Forms.{value_at}
-use Rattle.px_num.proofs.TruthLaws.{min_cases}
-use Rattle.px_expr.specs.Cells.{Cell, cell, combined, shown_in, shown_when, own_faces}
+use Rattle.px_num.proofs.Basics.{◌≡◌, ◌<◌, ◌≤◌, ◌+◌, ℕ, zero, suc, ℤ, Bool, false, List, [], ◌∷◌, ◌++◌, length, min}
+use Rattle.px_num.proofs.Basics.{Option, Some, None, sym, subst, arith, inl, inr, ◌↔◌, All, int_eq, cases_eq, All-nil}
+use Rattle.px_num.proofs.Basics.{All-append, All-filter, All-map, sum_by-cons}
+use Rattle.px_face.proofs.Words.{AreNumberedFrom, cell, Cell, combined, Depths, depths_of, Face, faces_at, faces_in}
+use Rattle.px_face.proofs.Words.{faces_of, far_of, first, first_cell, FirstCellsAreFirst, is_member_at, IsFirst}
+use Rattle.px_face.proofs.Words.{IsFirstOf, IsLawfulScene, IsLawfulSolid, leaf_cell, least, min_cases}
+use Rattle.px_face.proofs.Words.{PicturesShowBackground, PicturesShowFaces, scene_before, scene_cell}
+use Rattle.px_face.proofs.Words.{ScenesHaveSurfaces, SceneView, shown_in, shown_when, sight_at, solid_cell, SolidView}
+use Rattle.px_face.proofs.Words.{value_at}
 use Rattle.px_expr.specs.Tree.{Tree, join, leaf}
 use Rattle.px_expr.specs.declared.node.Op.{Op}
 use Rattle.px_expr.specs.declared.node.Sense.{Sense}
-use Rattle.px_expr.specs.declared.node.Sense.TheVariants.{Plain, Complement}
 use Rattle.px_expr.specs.declared.node.Combination.{Combination}
-use Rattle.px_expr.specs.declared.node.Combination.TheVariants.{Both, Either, EitherWay}
-use Rattle.px_model.specs.declared.solid.Face.{Face}
-use Rattle.px_model.specs.Scenes.{IsLawfulSolid, SolidView, faces_in, AreNumberedFrom, IsLawfulScene, SceneView}
-use Rattle.px_model.specs.Scenes.{faces_of}
-use Rattle.px_model.specs.Cells.{Depths, depths_of, faces_at, far_of, first, first_cell, is_member_at, leaf_cell, least}
-use Rattle.px_model.specs.Cells.{scene_cell, sight_at, solid_cell}
-use Rattle.px_face.specs.Surfaces.{IsFirst, IsFirstOf, FirstCellsAreFirst, PicturesShowBackground, PicturesShowFaces}
-use Rattle.px_face.specs.Surfaces.{ScenesHaveSurfaces, scene_before}
 
 first_tells : (test : ℕ → Bool) (limit : ℕ) → IsFirstOf test limit (first test limit)
 first_tells test zero = λ n h. absurd (omega arith)
@@ -34,24 +28,14 @@ module _ (Is : ℕ → Type 0) where
     shown : AreAll c.shown
     hidden : AreAll c.hidden
 
-  all_where : (test : Bool) (ns : List ℕ) → AreAll ns → AreAll (if test then ns else [])
-  all_where true ns all = all
-  all_where false ns all = All-nil Is
-
   all_both : (ms ns : List ℕ) → AreAll ms → AreAll ns → AreAll (ms ++ ns)
   all_both ms ns first second = All-append Is ms ns first second
 
-  all_own : (c : Cell) → HasFaces c → AreAll (own_faces c)
-  all_own c faces = grind arith
-
   all_in : (sense : Sense) (c : Cell) → HasFaces c → AreAll (shown_in sense c)
-  all_in Plain c faces = faces.shown
-  all_in Complement c faces = faces.hidden
+  all_in x c faces = grind arith
 
   all_when : (k : Combination) (a b : Cell) → HasFaces a → HasFaces b → AreAll (shown_when k a b)
-  all_when (Both s t) a b left right = all_both _ _ (all_in s a left) (all_in t b right)
-  all_when (Either s t) a b left right = grind (arith, all_both, all_where, all_in)
-  all_when (EitherWay s) a b left right = all_both _ _ (all_own a left) (all_own b right)
+  all_when x a b left right = grind (arith, all_both)
 
   all_combined : (op : Op) (a b : Cell) → HasFaces a → HasFaces b → HasFaces (combined op a b)
   all_combined op a b left right = grind (arith, all_when)
@@ -66,7 +50,7 @@ module _ (Is : ℕ → Type 0) where
 
   all_solid : (s : SolidView) (d : Depths) (x y z : ℕ) → Is s.near_number → All (λ f. Is f.number) s.fronts
       → All (λ f. Is f.number) s.backs → HasFaces (solid_cell d x y z s)
-  all_solid s d x y z near fronts backs = grind (arith, all_where, all_both, all_faces)
+  all_solid s d x y z near fronts backs = grind (arith, all_faces)
 
   none_at : HasFaces (record { member = false; shown = []; hidden = [] })
   none_at = record { shown = All-nil Is; hidden = All-nil Is }
@@ -122,8 +106,7 @@ module _ (surfaces : ScenesHaveSurfaces) (scene : SceneView) (lawful : IsLawfulS
   far = far_of scene
 
   before_first : (z : ℕ) → IsFirst test far z → (scene_before scene x y z).member ≡ false
-  before_first zero r = refl
-  before_first (suc z) r = r.none_before z (omega arith)
+  before_first x r = grind arith
 
   -- the first cell shows a face
   pub begins : (z : ℕ) → IsFirst test far z → 0 < length (scene_cell scene x y z).shown
@@ -147,16 +130,11 @@ module _ (surfaces : ScenesHaveSurfaces) (scene : SceneView) (lawful : IsLawfulS
 
   face_none : All IsLawfulSolid scene.solids → (found : Option ℕ) → IsFirstOf test far found
       → ((sight_at scene x y found).face ≡ 0) ↔ (found ≡ None)
-  face_none solids None r = (λ e. refl, λ e. refl)
-  face_none solids (Some z) r = (λ e. absurd (omega (arith, e, face_some z solids r)), λ e. absurd cc)
-
-  depth_none : (found : Option ℕ) → IsFirstOf test far found → ((sight_at scene x y found).depth ≡ far) ↔ (found ≡ None)
-  depth_none None r = (λ e. refl, λ e. refl)
-  depth_none (Some z) r = (λ e. absurd (omega (arith, e, r.below)), λ e. absurd cc)
+  face_none solids x r = grind (arith, face_some)
 
 pub shows_faces : ScenesHaveSurfaces → PicturesShowFaces
 shows_faces surfaces scene lawful x y =
     face_below surfaces scene lawful x y (first_cell scene x y) (first_cells scene x y)
 
 pub shows_background : ScenesHaveSurfaces → PicturesShowBackground
-shows_background surfaces scene lawful solids x y = grind (arith, face_none, first_cells, depth_none)
+shows_background surfaces scene lawful solids x y = grind (arith, face_none, first_cells)

@@ -1,10 +1,7 @@
 -- The cells of a solid at a pixel, by the cells of the greatest front and of the least back.
 use Rattle.px_num.proofs.Basics.{◌≡◌, ◌≤◌, ℕ, true, ◌&&◌, nat_le, nat_lt, refl, ◌∙◌, arith, inl, inr, ints, cases_lt}
-use Rattle.px_num.proofs.TruthLaws.{le_true, lt_true, never}
-use Rattle.px_model.specs.Scenes.{SolidView}
-use Rattle.px_model.specs.Cells.{Depths, cell_of, end_of, enters_at, is_inside, leaves_at}
-use Rattle.px_model.proofs.CellLaws.{cell_is_first, cell_is_least, cells_end, cells_grow}
-use Rattle.px_face.specs.Covering.{HasCells, is_met}
+use Rattle.px_face.proofs.Words.{cell_is_first, cell_is_least, cell_of, cells_end, cells_grow, Depths, end_of}
+use Rattle.px_face.proofs.Words.{enters_at, HasCells, is_inside, is_met, le_true, leaves_at, lt_true, never, SolidView}
 use Rattle.px_face.proofs.DepthLaws.{cells_are, depths_are}
 
 module _ (s : SolidView) (d : Depths) (x y : ℕ) where

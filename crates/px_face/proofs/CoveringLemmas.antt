@@ -3,20 +3,12 @@ use Rattle.px_num.proofs.Basics.{common_steps, ◌≡◌, ◌<◌, ◌≤◌, �
 use Rattle.px_num.proofs.Basics.{false, ◌&&◌, List, [], ◌∷◌, ◌++◌, length, map, take, drop, get_or, eqb, refl, ap, sym}
 use Rattle.px_num.proofs.Basics.{◌∙◌, arith, add-one, list_all, ints, cases_lt, nat_tests, get_or-append_right}
 use Rattle.px_num.proofs.Basics.{get_or-map, get_or_append_left, length-map, list_all-append, list_all-map}
-use Rattle.std.proofs.lemmas.List.{drop-map, take-map}
-use lib.Signed.{le_z, lt_z}
-use Rattle.px_num.specs.declared.linear.Linear.{Linear}
+use Rattle.px_face.proofs.Words.{above, all_same, and_false, and_true, AreFaces, at_least, back_edges, back_planes}
+use Rattle.px_face.proofs.Words.{covering_back, drop-map, enters_at, eqb_holds, Face, face_count, face_number}
+use Rattle.px_face.proofs.Words.{face_plane, front_edges, front_planes, greatest_place, hold_at, is_front_face, is_met}
+use Rattle.px_face.proofs.Words.{IsCoveredOnce, le_z, leaves_at, level, Linear, lt_fails, lt_false, lt_holds, lt_true}
+use Rattle.px_face.proofs.Words.{lt_z, minus, numbers_in_faces, SolidView, take-map, value_at}
 use Rattle.px_num.proofs.FormLaws.{value_at-less_one, value_at-minus}
-use Rattle.px_num.specs.Forms.{minus, value_at}
-use Rattle.px_num.proofs.TruthLaws.{and_false, and_true, eqb_holds, lt_fails, lt_false, lt_holds, lt_true}
-use Rattle.px_num.proofs.MostLaws.{all_same}
-use Rattle.px_model.specs.declared.solid.Face.{Face}
-use Rattle.px_model.specs.Scenes.{AreFaces, IsLawfulSolid, SolidView}
-use Rattle.px_model.specs.Cells.{enters_at, leaves_at}
-use Rattle.px_face.specs.Covering.{IsCoveredOnce, covering_back, covering_front, greatest_place, is_met}
-use Rattle.px_face.specs.Edges.{above, hold_at, at_least, back_edges, covers, front_edges}
-use Rattle.px_face.specs.Faces.{back_planes, face_count, front_planes, is_front_face, level, face_number}
-use Rattle.px_face.specs.Faces.{numbers_in_faces, face_plane}
 use Rattle.px_face.proofs.DepthLaws.{backs_over, cells_are, depths_are, fronts_below, fronts_under, before_turned}
 use Rattle.px_face.proofs.DepthLaws.{turned_backs, le_same}
 use Rattle.px_face.proofs.PlaceLemmas.{greatest_bounds, greatest_first, greatest_only, greatest_there}
@@ -43,9 +35,6 @@ le_ext a b p q = grind (arith, ints)
 
 lt_ext : (a b : ℤ) → lt_z a a ≡ lt_z a b → lt_z b a ≡ lt_z b b → a ≡ b
 lt_ext a b p q = grind (arith, ints)
-
-pub moved_place : (n i k : ℕ) → n ≤ i → eqb (i - n) k ≡ eqb i (n + k)
-moved_place n i k h = grind (arith, nat_tests)
 
 -- forms as a test of the values that they compare
 part : (f : Linear → Linear) (v : Linear → ℤ) (t : ℤ → Bool) (x y : ℕ)
@@ -191,14 +180,6 @@ module _ (s : SolidView) (end x y : ℕ) where
       (face - (length s.fronts + 1)) (level 0)
   plane_back face high = grind (arith, get_or-append_right, fronts_size)
 
-  fronts_cover : (face : ℕ) → is_front_face s face ≡ true → covers s end face x y
-      ≡ (is_met s end x y && eqb face (covering_front s x y))
-  fronts_cover face front = grind (arith, lt_holds, front_is)
-
-  backs_cover : (face : ℕ) → face < face_count s → is_front_face s face ≡ false → covers s end face x y
-      ≡ (is_met s end x y && eqb face (covering_back s end x y))
-  backs_cover face there back = grind (arith, lt_fails, back_is, moved_place)
-
   least_index : (face : ℕ) → face < face_count s → is_front_face s face ≡ false → value_at (face_plane s end face) x y
       ≡ leaves_at s end x y → covering_back s end x y ≤ face
   least_index face there back same =
@@ -238,16 +219,22 @@ module _ (s : SolidView) (end x y : ℕ) where
       ≡ get_or (s.near_number ∷ numbers_in_faces s.fronts) face 0
   number_front face low = grind (arith, get_or_append_left, length-map)
 
-  least_number : IsLawfulSolid s → (face : ℕ) → is_front_face s face ≡ true → value_at (face_plane s end face) x y
-      ≡ enters_at s x y → face_number s (covering_front s x y) ≤ face_number s face
-  least_number lawful face front same = grind (arith, lt_holds, number_front, front_low, numbers_grow, first_index)
-
   pub covered_once : IsCoveredOnce s end x y
   covered_once =
       record {
-        fronts = fronts_cover;
-        backs = backs_cover;
-        front = grind (arith, lt_true, front_low, plane_front, front_value, least_number);
+        fronts = grind (arith, lt_holds, front_is);
+        backs = grind (arith, lt_fails, back_is, nat_tests);
+        front = grind (
+          arith,
+          lt_true,
+          front_low,
+          plane_front,
+          front_value,
+          lt_holds,
+          number_front,
+          numbers_grow,
+          first_index,
+        );
         back = grind (arith, back_low, lt_false, plane_back, back_value, least_index);
         values = cells_are s end x y;
         depths = depths_are s end x y;

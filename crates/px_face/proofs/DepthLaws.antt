@@ -1,32 +1,13 @@
 -- Where a ray enters a solid and leaves it: the greatest front and the least back, as tests of all fronts and backs.
 use Rattle.px_num.proofs.Basics.{◌≡◌, ◌-ℤ◌, ◌≤ℤ◌, ◌<ℤ◌, ℕ, ℤ, pos, neg_ℤ, Bool, true, false, ◌&&◌, map, nat_lt, refl}
 use Rattle.px_num.proofs.Basics.{sym, ◌∙◌, arith, list_all, ints, list_all-append, list_all-map}
+use Rattle.px_face.proofs.Words.{all_max, all_min, all_same, back_planes, enters_at, front_planes, hold_at}
+use Rattle.px_face.proofs.Words.{is_inside_at, is_met, le_z, leaves_at, level, Linear, lt_z, SolidView, value_at}
 use Rattle.std.proofs.lemmas.Int.{fold-int_max_bounds, fold-int_min_bounds}
 use Rattle.std.proofs.Math.IntN.{zero-*ℤ}
-use lib.Signed.{le_z, lt_z}
-use Rattle.px_num.specs.declared.linear.Linear.{Linear}
-use Rattle.px_num.specs.Forms.{value_at}
-use Rattle.px_num.proofs.MostLaws.{all_max, all_min, all_same}
-use Rattle.px_model.specs.Scenes.{SolidView}
-use Rattle.px_model.specs.Cells.{enters_at, is_inside_at, leaves_at}
-use Rattle.px_face.specs.Covering.{is_met}
-use Rattle.px_face.specs.Edges.{hold_at}
-use Rattle.px_face.specs.Faces.{back_planes, front_planes, level}
 
 pub value_at-level : (n x y : ℕ) → value_at (level n) x y ≡ pos n
 value_at-level n x y = omega (arith, ints, zero-*ℤ (pos x), zero-*ℤ (pos y))
-
-both_same : (a b c d : Bool) → a ≡ b → c ≡ d → (a && c) ≡ (b && d)
-both_same a b c d p q = rw (p, q) refl
-
-swapped : (a b : Bool) → (a && (b && true)) ≡ (b && a)
-swapped true true = refl
-swapped true false = refl
-swapped false true = refl
-swapped false false = refl
-
-below_is_most : (u v : ℤ) → lt_z u v ≡ le_z u (v -ℤ pos 1)
-below_is_most u v = grind (arith, ints)
 
 pub before_turned : (z w : ℤ) → le_z (neg_ℤ w) (neg_ℤ z -ℤ pos 1) ≡ lt_z z w
 before_turned z w = grind (arith, ints)
@@ -56,16 +37,16 @@ module _ (s : SolidView) (end x y : ℕ) where
   turned p = neg_ℤ (value_at p x y)
 
   pub fronts_below : (z : ℤ) → list_all (λ u. le_z u z) (map at (front_planes s.fronts)) ≡ le_z (enters_at s x y) z
-  fronts_below z = grind (arith, both_same, value_at-level, list_all-map, all_max)
+  fronts_below z = grind (arith, list_all-map, all_max)
 
   pub fronts_under : (z : ℤ) → list_all (λ u. lt_z u z) (map at (front_planes s.fronts)) ≡ lt_z (enters_at s x y) z
   fronts_under z =
-      all_same (λ u. lt_z u z) (λ u. le_z u (z -ℤ pos 1)) (λ u. below_is_most u z) (map at (front_planes s.fronts))
+      all_same (λ u. lt_z u z) (λ u. le_z u (z -ℤ pos 1)) (λ u. grind (arith, ints)) (map at (front_planes s.fronts))
       ∙ fronts_below (z -ℤ pos 1)
-      ∙ sym (below_is_most (enters_at s x y) z)
+      ∙ sym (grind (arith, ints))
 
   pub backs_over : (z : ℤ) → list_all (λ u. lt_z z u) (map at (back_planes s.backs end)) ≡ lt_z z (leaves_at s end x y)
-  backs_over z = grind (arith, list_all-map, list_all-append, value_at-level, swapped, all_min)
+  backs_over z = grind (arith, list_all-map, list_all-append, all_min)
 
   pub turned_backs : (z : ℤ) → list_all (λ u. le_z u (neg_ℤ z -ℤ pos 1)) (map turned (back_planes s.backs end))
       ≡ lt_z z (leaves_at s end x y)

@@ -3,15 +3,10 @@ use Rattle.px_num.proofs.Basics.{rules, ◌≡◌, ◌<◌, ◌≤◌, ◌+◌, 
 use Rattle.px_num.proofs.Basics.{drop, get_or, ap, sym, ◌∙◌, arith, append_assoc, length-append, inl, inr, nat_tests}
 use Rattle.px_num.proofs.Basics.{common_steps, cases_lt, length-map, get_or_append_left, get_or-append_right}
 use Rattle.px_num.proofs.Basics.{get_or-map, get_or-take, take_all, take_more, All-get_or}
-use Rattle.std.proofs.lemmas.List.{length-drop, length-take-le}
-use Rattle.std.proofs.lemmas.List.{get_or-drop}
-use Rattle.px_num.specs.declared.linear.Linear.{Linear}
-use Rattle.px_num.specs.Forms.{IsInTreeRange}
-use Rattle.px_num.proofs.TruthLaws.{lt_false, lt_true}
-use Rattle.px_model.specs.Scenes.{IsLawfulSolid, SolidView}
-use Rattle.px_face.specs.Edges.{above, at_least, back_edges, edge_count, edges, front_edges}
+use Rattle.px_face.proofs.Words.{above, at_least, back_edges, back_planes, edge_count, edges, face_count, front_planes}
+use Rattle.px_face.proofs.Words.{get_or-drop, IsInTreeRange, IsLawfulSolid, length-drop, length-take-le, level, Linear}
+use Rattle.px_face.proofs.Words.{lt_false, lt_true, SolidView}
 use Rattle.px_face.specs.Orders.{back_orders, front_orders}
-use Rattle.px_face.specs.Faces.{back_planes, face_count, front_planes, level}
 use Rattle.px_face.proofs.RangeLemmas.{back_range, backs_size, front_range, fronts_size}
 
 -- a form among those before place i, those after it, and those of the other kind
@@ -86,7 +81,7 @@ module _ (s : SolidView) (end i k : ℕ) (r p q : Linear) where
 
   pub back_form_before : i ≤ length s.backs → k < i → p ≡ get_or (back_planes s.backs end) i (level 0)
       → q ≡ get_or (back_planes s.backs end) k (level 0) → r ≡ above q p → r ≡ get_or (back_orders s end i) k (level 0)
-  back_form_before there low e f g = grind (arith, nat_tests, common_steps, form_before, backs_size)
+  back_form_before there low e f g = grind (arith, nat_tests, common_steps, backs_size)
 
   pub back_form_after : i ≤ length s.backs → i ≤ k → k < length s.backs
       → p ≡ get_or (back_planes s.backs end) i (level 0) → q ≡ get_or (back_planes s.backs end) (k + 1) (level 0)
@@ -98,34 +93,17 @@ module _ (s : SolidView) (end i k : ℕ) (r p q : Linear) where
       (front_planes s.fronts) (length s.backs) i (backs_size s end) there k (level 0) low high))
 
 module _ (s : SolidView) (end i : ℕ) where
-  pub front_beyond : (k : ℕ) (d : Linear) → length s.sides ≤ k → get_or (front_edges s end i) k d
-      ≡ get_or (front_orders s end i) (k - length s.sides) d
-  front_beyond k d low = search (rules, append_assoc, get_or-append_right)
-
   pub back_beyond : (k : ℕ) (d : Linear) → length s.sides ≤ k → get_or (back_edges s end i) k d
       ≡ get_or (back_orders s end i) (k - length s.sides) d
   back_beyond k d low = grind (arith, append_assoc, get_or-append_right)
 
-  front_count : i ≤ length s.fronts → length (front_edges s end i) ≡ edge_count s
-  front_count there =
-      grind (arith, nat_tests, common_steps, kind_size, fronts_size, length-append, length-map, backs_size)
-
-  back_count : i ≤ length s.backs → length (back_edges s end i) ≡ edge_count s
-  back_count there =
-      grind (arith, nat_tests, common_steps, kind_size, backs_size, length-append, length-map, fronts_size)
-
 pub edges_count : (s : SolidView) (end face : ℕ) → face < face_count s → length (edges s end face) ≡ edge_count s
-edges_count s end face there = grind (arith, cases_lt, lt_true, front_count, lt_false, back_count)
+edges_count s end face there = grind (arith, common_steps, backs_size, length-append, length-map, fronts_size)
 
 pub front_form : (s : SolidView) (end face k : ℕ) (r : Linear) → face < length s.fronts + 1 → length s.sides ≤ k
     → r ≡ get_or (front_orders s end face) (k - length s.sides) (level 0) → r ≡ get_or (edges s end face) k (level 0)
 front_form s end face k r front low is =
-    rw (lt_true face (length s.fronts + 1) front) (is ∙ sym (front_beyond s end face k (level 0) low))
-
-pub back_form : (s : SolidView) (end face k : ℕ) (r : Linear) → length s.fronts + 1 ≤ face → length s.sides ≤ k
-    → r ≡ get_or (back_orders s end (face - (length s.fronts + 1))) (k - length s.sides) (level 0)
-    → r ≡ get_or (edges s end face) k (level 0)
-back_form s end face k r back low is = grind (arith, lt_false, back_beyond)
+    rw (lt_true face (length s.fronts + 1) front) (is ∙ sym (search (rules, append_assoc, get_or-append_right)))
 
 pub edges_range : (s : SolidView) → IsLawfulSolid s → (end : ℕ) → end < 2 ^ 32 → (face : ℕ) → face < face_count s
     → All IsInTreeRange (edges s end face)

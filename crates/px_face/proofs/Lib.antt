@@ -10,3 +10,4 @@ pub mod RangeLemmas
 pub mod SeenLemmas
 pub mod SurfaceLemmas
 pub mod WholeLemmas
+pub mod Words

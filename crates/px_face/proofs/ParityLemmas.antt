@@ -1,19 +1,12 @@
 -- The parity law: an odd number of covering faces stands at or before a cell exactly where it is inside.
-use Rattle.px_num.proofs.Basics.{nat_tests, common_steps, ◌≡◌, ◌<◌, ◌≤◌, ◌+◌, ℕ, zero, suc, ℤ, pos, Bool, true, false}
-use Rattle.px_num.proofs.Basics.{◌&&◌, not, List, [], cond, ◌∷◌, length, eqb, count_by, refl, ap, sym, ◌∙◌, arith, inl}
-use Rattle.px_num.proofs.Basics.{inr, range_with_len, ints, cases_eq, sum_by-append}
-use lib.Signed.{le_z, lt_z}
-use Rattle.px_num.specs.Forms.{value_at}
-use Rattle.px_num.proofs.TruthLaws.{and_false, and_right, and_true, eqb_holds, eqb_itself, eqb_other, lt_false}
-use Rattle.px_num.proofs.TruthLaws.{lt_holds, lt_is_not_le, lt_true}
+use Rattle.px_num.proofs.Basics.{nat_tests, common_steps, ◌≡◌, ◌<◌, ◌≤◌, ◌+◌, ℕ, zero, suc, pos, Bool, true, false}
+use Rattle.px_num.proofs.Basics.{◌&&◌, not, List, cond, length, eqb, count_by, refl, ap, sym, ◌∙◌, arith, inl, inr}
+use Rattle.px_num.proofs.Basics.{range_with_len, ints, cases_eq, sum_by-append}
+use Rattle.px_face.proofs.Words.{and_false, and_true, cell_is_first, covering_back, covering_front, Depths, end_of}
+use Rattle.px_face.proofs.Words.{enters_at, eqb_holds, eqb_itself, eqb_other, face_count, face_plane, is_inside_at}
+use Rattle.px_face.proofs.Words.{is_met, is_odd, is_passed_at, IsCoveredOnce, IsInsideByParity, le_z, leaves_at}
+use Rattle.px_face.proofs.Words.{lt_false, lt_holds, lt_is_not_le, lt_true, SolidView, value_at}
 use Rattle.px_num.proofs.RangeLaws.{range_cut}
-use Rattle.px_model.specs.Scenes.{SolidView}
-use Rattle.px_model.specs.Cells.{Depths, end_of, enters_at, is_inside_at, leaves_at}
-use Rattle.px_model.proofs.CellLaws.{cell_is_first}
-use Rattle.px_face.specs.Covering.{IsCoveredOnce, IsInsideByParity, covering_back, covering_front, is_met, is_odd}
-use Rattle.px_face.specs.Covering.{is_passed_at}
-use Rattle.px_face.specs.Edges.{hold_at}
-use Rattle.px_face.specs.Faces.{face_count, face_plane}
 use Rattle.px_face.proofs.ParityLaws.{count_by-cons}
 
 count_none : (test : ℕ → Bool) (a n : ℕ) → ((i : ℕ) → a ≤ i → i < a + n → test i ≡ false)
@@ -46,9 +39,6 @@ where_here true false passed false h = refl
 where_here true true passed true h = h refl
 where_here true true passed false h = h refl
 
-left_is_entered : (e l z : ℤ) → lt_z e l ≡ true → le_z l z ≡ true → le_z e z ≡ true
-left_is_entered e l z some left = grind (arith, ints)
-
 odd_between : (met entered left : Bool) → (met ≡ true → left ≡ true → entered ≡ true) → (met && entered && not left)
     ≡ is_odd (cond (met && entered) 1 0 + cond (met && left) 1 0)
 odd_between false entered left first = refl
@@ -67,10 +57,6 @@ module _ (s : SolidView) (end x y : ℕ) (law : IsCoveredOnce s end x y) where
       (λ e. ap (λ v. le_z v (pos z)) (ap (λ j. value_at (face_plane s end j) x y)
       (eqb_holds i (covering_front s x y) e) ∙ law.front.value)))
 
-  backs_passed : (z i : ℕ) → length s.fronts + 1 ≤ i → i < face_count s → is_passed_at s end x y z i
-      ≡ ((is_met s end x y && le_z (leaves_at s end x y) (pos z)) && eqb i (covering_back s end x y))
-  backs_passed z i low high = grind (arith, nat_tests, common_steps, lt_false, where_here, eqb_holds)
-
   pub odd_inside_at : ((v : ℕ) → is_inside_at s end x y v
       ≡ is_odd (count_by (is_passed_at s end x y v) (range_with_len 0 (face_count s))))
   odd_inside_at z =
@@ -87,12 +73,12 @@ module _ (s : SolidView) (end x y : ℕ) (law : IsCoveredOnce s end x y) where
       count_one test 0 nf (covering_front s x y) (met && entered) (λ i p q. fronts_passed z i (omega arith))
       (omega arith) (omega arith) in
       let backs : count_by test (range_with_len nf nb) ≡ cond (met && left) 1 0 =
-      count_one test nf nb (covering_back s end x y) (met && left) (λ i p q. backs_passed z i p (omega arith))
+      count_one test nf nb (covering_back s end x y) (met && left)
+      (λ i p q. grind (arith, nat_tests, common_steps, lt_false, eqb_holds))
       (omega arith) (omega (arith, law.back.there)) in
       law.values z
       ∙ ap (λ b. met && entered && b) (lt_is_not_le (leaves_at s end x y) (pos z))
-      ∙ odd_between met entered left (λ m. left_is_entered (enters_at s x y) (leaves_at s end x y) (pos z)
-      (and_right (hold_at s.sides x y) (lt_z (enters_at s x y) (leaves_at s end x y)) m))
+      ∙ odd_between met entered left (λ m. grind (arith, ints))
       ∙ sym (rw (
         count,
         range_cut 0 nf nb,
@@ -104,8 +90,7 @@ module _ (s : SolidView) (end x y : ℕ) (law : IsCoveredOnce s end x y) where
       ) refl)
 
 count_same : (p q : ℕ → Bool) → ((i : ℕ) → p i ≡ q i) → (is : List ℕ) → count_by p is ≡ count_by q is
-count_same p q same [] = refl
-count_same p q same (i ∷ is) = grind (arith, count_by-cons, cond, count_same p q same is)
+count_same p q same x = grind (arith, count_by-cons)
 
 -- the same by the cells of the faces
 pub odd_inside : (s : SolidView) (d : Depths) (x y : ℕ) → IsCoveredOnce s (end_of d) x y → IsInsideByParity s d x y

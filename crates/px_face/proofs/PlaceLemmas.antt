@@ -1,43 +1,17 @@
 -- The place of the greatest number: above all before it, and at least all after it.
 use Rattle.px_num.proofs.Basics.{common_steps, ◌≡◌, ◌<◌, ◌≤◌, ℕ, zero, suc, ℤ, Bool, true, false, ◌&&◌, List, [], ◌∷◌}
-use Rattle.px_num.proofs.Basics.{length, take, drop, get_or, eqb, refl, ap, sym, ◌∙◌, arith, ◌⊎◌, inl, inr, list_all}
-use Rattle.px_num.proofs.Basics.{ints, cases_Bool, nat_tests}
-use Rattle.px_num.proofs.TruthLaws.{and_both, and_false, and_left, and_right, and_true}
-use lib.Signed.{le_z, lt_z}
-use Rattle.px_face.specs.Covering.{greatest_place}
+use Rattle.px_num.proofs.Basics.{length, take, drop, get_or, eqb, ap, sym, ◌∙◌, arith, inl, inr, list_all, ints}
+use Rattle.px_num.proofs.Basics.{cases_Bool, nat_tests}
+use Rattle.px_face.proofs.Words.{and_both, and_left, and_right, and_true, greatest_place, le_z, lt_z}
 
 -- v is above those before it, and at least those after it
 abbrev pub is_first_greatest : List ℤ → ℤ → List ℤ → Bool
 is_first_greatest before v after = list_all (λ u. lt_z u v) before && list_all (λ u. le_z u v) after
 
-le_along : (u v z : ℤ) → le_z u v ≡ true → le_z v z ≡ true → le_z u z ≡ true
-le_along u v z p q = grind (arith, ints)
-
-over_along : (v t z : ℤ) → le_z t v ≡ false → le_z t z ≡ true → le_z v z ≡ true
-over_along v t z p q = grind (arith, ints)
-
-all_along : (vs : List ℤ) (v z : ℤ) → list_all (λ u. le_z u v) vs ≡ true → le_z v z ≡ true
-    → list_all (λ u. le_z u z) vs ≡ true
-all_along [] v z p q = refl
-all_along (u ∷ us) v z p q =
-    rw (le_along u v z (and_left (le_z u v) (list_all (λ w. le_z w v) us) p) q)
-    (all_along us v z (and_right (le_z u v) (list_all (λ w. le_z w v) us) p) q)
-
-stays : (v : ℤ) (vs : List ℤ) (z : ℤ) → list_all (λ u. le_z u v) vs ≡ true → (le_z v z ≡ true) ⊎ (le_z v z ≡ false)
-    → le_z v z ≡ (le_z v z && list_all (λ u. le_z u z) vs)
-stays v vs z all (inl under) = rw (under, all_along vs v z all under) refl
-stays v vs z all (inr out) = rw out refl
-
-goes : (v t : ℤ) (vs : List ℤ) (z : ℤ) → ((y : ℤ) → le_z t y ≡ list_all (λ u. le_z u y) vs)
-    → list_all (λ u. le_z u v) vs ≡ false → (list_all (λ u. le_z u z) vs ≡ true) ⊎ (list_all (λ u. le_z u z) vs ≡ false)
-    → le_z t z ≡ (le_z v z && list_all (λ u. le_z u z) vs)
-goes v t vs z bounds some (inl all) = rw (bounds z, all, over_along v t z (bounds v ∙ some) (bounds z ∙ all)) refl
-goes v t vs z bounds some (inr out) = rw (bounds z, out) (sym (and_false (le_z v z)))
-
 greatest_cons : (v : ℤ) (vs : List ℤ) (d z : ℤ) → le_z (get_or (v ∷ vs) (greatest_place (v ∷ vs)) d) z
     ≡ list_all (λ u. le_z u z) (v ∷ vs)
 greatest_cons v [] d z = sym (and_true (le_z v z))
-greatest_cons v (w ∷ ws) d z = grind (arith, nat_tests, common_steps, stays, goes, greatest_cons w ws d)
+greatest_cons v (w ∷ ws) d z = grind (arith, nat_tests, common_steps, greatest_cons w ws d)
 
 -- the greatest is at most z exactly where all are
 pub greatest_bounds : (vs : List ℤ) (d z : ℤ) → 0 < length vs → le_z (get_or vs (greatest_place vs) d) z
@@ -74,12 +48,6 @@ at_most (u ∷ us) v (suc i) d h all =
 over : (v t : ℤ) → le_z t v ≡ false → lt_z v t ≡ true
 over v t h = grind (arith, ints)
 
-not_first : (k : ℕ) → false ≡ eqb 0 (suc k)
-not_first k = grind (arith, nat_tests)
-
-not_next : (i : ℕ) → false ≡ eqb (suc i) 0
-not_next i = grind (arith, nat_tests)
-
 next : (i k : ℕ) (b : Bool) → (i ≡ k → b ≡ true) → (b && eqb i k) ≡ eqb (suc i) (suc k)
 next i k b h = grind (arith, nat_tests)
 
@@ -87,7 +55,7 @@ next i k b h = grind (arith, nat_tests)
 pub greatest_only : (vs : List ℤ) (i : ℕ) (d : ℤ) → i < length vs → is_first_greatest (take i vs) (get_or vs i d)
     (drop (suc i) vs) ≡ eqb i (greatest_place vs)
 greatest_only [] i d h = absurd (omega arith)
-greatest_only (v ∷ vs) zero d h = grind (arith, not_first)
+greatest_only (v ∷ vs) zero d h = grind (arith, nat_tests)
 greatest_only (v ∷ []) (suc i) d h = absurd (omega arith)
 greatest_only (v ∷ w ∷ ws) (suc i) d h =
     let vs = w ∷ ws in
@@ -97,7 +65,7 @@ greatest_only (v ∷ w ∷ ws) (suc i) d h =
     and_both (lt_z v u) (list_all (λ y. lt_z y u) (take i vs)) (list_all (λ y. le_z y u) (drop (suc i) vs))
     ∙ ap (λ b. lt_z v u && b) here
     ∙ elim (cases_Bool (list_all (λ y. le_z y v) vs)) [
-      | inl all ↦ rw (at_most vs v i d (omega arith) all, all) (not_next i)
+      | inl all ↦ rw (at_most vs v i d (omega arith) all, all) (grind (arith, nat_tests))
       | inr some ↦ rw some (next i (greatest_place vs) (lt_z v u) (λ e. ap (λ j. lt_z v (get_or vs j d)) e
           ∙ over v (get_or vs (greatest_place vs) d) (greatest_cons w ws d v ∙ some)))
     ]

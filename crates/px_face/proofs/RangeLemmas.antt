@@ -1,13 +1,11 @@
 -- The edges of a face are in the range of the multiplier tree.
-use Rattle.px_num.proofs.Basics.{nat_tests, common_steps, ◌≡◌, ◌<◌, ◌≤◌, ◌+◌, ◌^◌, ℕ, ℤ, pos, ◌-ℤ◌, List, [], ◌∷◌, ◌++◌}
-use Rattle.px_num.proofs.Basics.{length, map, take, drop, get_or, All, arith, length-append, ints, length-map, All-cons}
-use Rattle.px_num.proofs.Basics.{All-append, All-map, All-weaker, All-get_or, All-push}
+use Rattle.px_num.proofs.Basics.{nat_tests, common_steps, ◌≡◌, ◌<◌, ◌≤◌, ◌+◌, ◌^◌, ℕ, ℤ, ◌-ℤ◌, List, [], ◌∷◌, ◌++◌}
+use Rattle.px_num.proofs.Basics.{length, map, take, drop, get_or, All, arith, length-append, ints, length-map}
+use Rattle.px_num.proofs.Basics.{All-cons, All-append, All-map, All-weaker, All-get_or, All-push}
+use Rattle.px_face.proofs.Words.{above, at_least, back_edges, back_planes, face_count, face_plane, front_edges}
+use Rattle.px_face.proofs.Words.{front_planes, IsInTreeRange, IsLawfulSolid, IsPlane, IsWithin, leads, level, Linear}
+use Rattle.px_face.proofs.Words.{planes_in_faces, SolidView, trails}
 use Rattle.std.proofs.lemmas.List.Elements.{All-take, All-drop}
-use Rattle.px_num.specs.declared.linear.Linear.{Linear}
-use Rattle.px_num.specs.Forms.{IsInTreeRange, IsWithin}
-use Rattle.px_model.specs.Scenes.{IsLawfulSolid, IsPlane, SolidView}
-use Rattle.px_face.specs.Edges.{above, at_least, back_edges, front_edges, leads, trails}
-use Rattle.px_face.specs.Faces.{back_planes, face_count, front_planes, level, face_plane, planes_in_faces}
 pub use Rattle.px_model.proofs.PlaneLaws.{half_range, plane_range}
 
 pub fronts_size : (s : SolidView) → length (front_planes s.fronts) ≡ length s.fronts + 1
@@ -20,17 +18,8 @@ backs_size s end =
 apart : (m n : ℕ) (u v : ℤ) → m + m ≤ n → IsWithin m u → IsWithin m v → IsWithin n (u -ℤ v)
 apart m n u v le (ulow, uhigh) (vlow, vhigh) = (omega (arith, ints), omega (arith, ints))
 
-apart_less : (m n : ℕ) (u v : ℤ) → m + m < n → IsWithin m u → IsWithin m v → IsWithin n ((u -ℤ v) -ℤ pos 1)
-apart_less m n u v le (ulow, uhigh) (vlow, vhigh) = (omega (arith, ints), omega (arith, ints))
-
-at_least_range : (p q : Linear) → IsPlane p → IsPlane q → IsInTreeRange (at_least p q)
-at_least_range p q h k = grind (arith, nat_tests, common_steps, apart)
-
 above_range : (p q : Linear) → IsPlane p → IsPlane q → IsInTreeRange (above p q)
-above_range p q h k = grind (arith, nat_tests, common_steps, apart, apart_less)
-
-level_plane : (n : ℕ) → n < 2 ^ 32 → IsPlane (level n)
-level_plane n h = grind arith
+above_range p q h k = grind (arith, nat_tests, common_steps, apart)
 
 part : (f : Linear → Linear) → ((q : Linear) → IsPlane q → IsInTreeRange (f q)) → (ps : List Linear) → All IsPlane ps
     → All IsInTreeRange (map f ps)
@@ -40,14 +29,14 @@ leads_range : (p : Linear) (ps : List Linear) (i : ℕ) → IsPlane p → All Is
 leads_range p ps i plane planes =
     All-append IsInTreeRange (map (λ q. above p q) (take i ps)) (map (λ q. at_least p q) (drop (i + 1) ps))
     (part (λ q. above p q) (λ q h. above_range p q plane h) (take i ps) (All-take IsPlane i ps planes))
-    (part (λ q. at_least p q) (λ q h. at_least_range p q plane h) (drop (i + 1) ps)
+    (part (λ q. at_least p q) (λ q h. grind (arith, nat_tests, common_steps, apart)) (drop (i + 1) ps)
     (All-drop IsPlane (i + 1) ps planes))
 
 trails_range : (p : Linear) (ps : List Linear) (i : ℕ) → IsPlane p → All IsPlane ps → All IsInTreeRange (trails p ps i)
 trails_range p ps i plane planes =
     All-append IsInTreeRange (map (λ q. above q p) (take i ps)) (map (λ q. at_least q p) (drop (i + 1) ps))
     (part (λ q. above q p) (λ q h. above_range q p h plane) (take i ps) (All-take IsPlane i ps planes))
-    (part (λ q. at_least q p) (λ q h. at_least_range q p h plane) (drop (i + 1) ps)
+    (part (λ q. at_least q p) (λ q h. grind (arith, nat_tests, common_steps, apart)) (drop (i + 1) ps)
     (All-drop IsPlane (i + 1) ps planes))
 
 three_range : (a b c : List Linear) → All IsInTreeRange a → All IsInTreeRange b → All IsInTreeRange c
@@ -56,12 +45,12 @@ three_range a b c in_a in_b in_c = All-append IsInTreeRange (a ++ b) c (All-appe
 
 module _ (s : SolidView) (lawful : IsLawfulSolid s) (end : ℕ) (small : end < 2 ^ 32) where
   fronts_planes : All IsPlane (front_planes s.fronts)
-  fronts_planes = All-cons IsPlane (level 0) (planes_in_faces s.fronts) (level_plane 0 (omega arith))
+  fronts_planes = All-cons IsPlane (level 0) (planes_in_faces s.fronts) (grind arith)
       (All-map IsPlane (λ f. f.plane) s.fronts lawful.fronts.planes)
 
   backs_planes : All IsPlane (back_planes s.backs end)
   backs_planes = All-push IsPlane (planes_in_faces s.backs) (level end)
-      (All-map IsPlane (λ f. f.plane) s.backs lawful.backs.planes) (level_plane end small)
+      (All-map IsPlane (λ f. f.plane) s.backs lawful.backs.planes) (grind arith)
 
   sides_range : All IsInTreeRange s.sides
   sides_range = All-weaker IsPlane IsInTreeRange plane_range s.sides lawful.sides

@@ -1,9 +1,6 @@
 -- A picture shows at each pixel the first cell and the lowest-numbered face shown there, or the background.
 use Rattle.px_num.proofs.Basics.{common_steps, ◌≡◌, ◌<◌, ◌≤◌, ℕ, true, List, [], ◌∷◌, length, arith, nat_tests}
-use Rattle.px_num.proofs.TruthLaws.{min_cases}
-use Rattle.px_expr.specs.Cells.{has_face}
-use Rattle.px_model.specs.Cells.{least}
-use Rattle.px_face.specs.Surfaces.{ScenesHaveSurfaces}
+use Rattle.px_face.proofs.Words.{has_face, least, min_cases, ScenesHaveSurfaces}
 use Rattle.px_face.specs.Seen.{PicturesShowFirstCells}
 use Rattle.px_face.proofs.BackgroundLemmas.{begins, first_cells}
 

@@ -1,22 +1,18 @@
 -- Where a solid begins it shows a front, and just behind its end it hides a back; and so does a scene.
-use Rattle.px_num.proofs.Basics.{common_steps, ◌≡◌, ◌<◌, ◌≤◌, ◌&&◌, ℕ, zero, suc, ℤ, pos, Bool, true, false, nat_le}
-use Rattle.px_num.proofs.Basics.{nat_lt, List, [], ◌∷◌, ◌++◌, length, map, Option, Some, None, refl, sym, ◌∙◌, arith}
-use Rattle.px_num.proofs.Basics.{inl, inr, if◌then◌else◌, slice_get, option_map_or, int_eq, ints, nat_tests}
+use Rattle.px_num.proofs.Basics.{common_steps, ◌≡◌, ◌<◌, ◌&&◌, ℕ, zero, suc, ℤ, pos, Bool, true, false, nat_le, nat_lt}
+use Rattle.px_num.proofs.Basics.{List, [], ◌∷◌, ◌++◌, length, map, Option, Some, None, refl, sym, ◌∙◌, arith, inl, inr}
+use Rattle.px_num.proofs.Basics.{if◌then◌else◌, slice_get, option_map_or, int_eq, ints, nat_tests}
+use Rattle.px_face.proofs.Words.{backs_at, before_end, cell, Cell, cell_is_least, cell_of, Depths, depths_of, end_of}
+use Rattle.px_face.proofs.Words.{enters_at, Face, faces_at, far_of, fronts_at, greatest_fronts, HasSurface}
+use Rattle.px_face.proofs.Words.{int_same_true, is_inside, is_member, is_met, IsLawfulScene, leaf_cell, leaves_at}
+use Rattle.px_face.proofs.Words.{lt_of_ints, lt_true, no_cell, NoMemberBehind, same_true, scene_before, scene_cell}
+use Rattle.px_face.proofs.Words.{ScenesHaveSurfaces, SceneView, solid_before, solid_cell, SolidView, value_at}
 use Rattle.std.specs.List.{Contains}
 use Rattle.std.proofs.lemmas.Int.{fold-int_max_reached, fold-int_min_reached}
 use Rattle.std.proofs.lemmas.List.{length-append}
-use Rattle.px_num.specs.Forms.{value_at}
-use Rattle.px_num.proofs.TruthLaws.{int_same_true, lt_false, lt_of_ints, lt_true, same_true}
-use Rattle.px_expr.specs.Cells.{Cell, HasSurface, cell, is_member}
 use Rattle.px_expr.specs.Tree.{HasLeavesBelow, Tree, join, leaf}
+use Rattle.px_expr.proofs.CellsLemmas.{has_surface, member_of_cell}
 use Rattle.px_expr.proofs.OperatorLaws.{none_of_none}
-use Rattle.px_model.specs.declared.solid.Face.{Face}
-use Rattle.px_model.specs.Scenes.{SolidView, IsLawfulScene, SceneView}
-use Rattle.px_model.specs.Cells.{Depths, backs_at, cell_of, depths_of, end_of, enters_at, far_of, faces_at, fronts_at}
-use Rattle.px_model.specs.Cells.{greatest_fronts, is_inside, leaf_cell, leaves_at, no_cell, scene_cell, solid_cell}
-use Rattle.px_model.proofs.CellLaws.{before_end, cell_is_least}
-use Rattle.px_face.specs.Covering.{is_met}
-use Rattle.px_face.specs.Surfaces.{NoMemberBehind, ScenesHaveSurfaces, scene_before, solid_before}
 use Rattle.px_face.proofs.CellLemmas.{has_cells}
 
 -- the faces of a value that one of them has
@@ -80,10 +76,7 @@ module _ (s : SolidView) (d : Depths) (x y : ℕ) where
   not_limit : (z : ℕ) → z < d.far → leaves ≡ pos limit → last ≡ z → ⊥
   not_limit z before is e =
       let test : nat_lt z last ≡ true = grind (arith, cell_is_least, lt_of_ints, before_end, lt_true) in
-      absurd (lt_never z last test e)
-    where
-      lt_never : (m n : ℕ) → nat_lt m n ≡ true → n ≡ m → ⊥
-      lt_never m n h e = grind (arith, nat_tests)
+      absurd (grind (arith, nat_tests))
 
   back_ends : (z : ℕ) → suc z < d.far → is_inside s d x y z ≡ true → is_inside s d x y (suc z) ≡ false
       → 0 < length (backs_at s d x y (suc z))
@@ -100,13 +93,7 @@ module _ (s : SolidView) (d : Depths) (x y : ℕ) where
 
 pub solid_surface : (s : SolidView) (d : Depths) (x y z : ℕ) → z < d.far → HasSurface (solid_before d x y z s)
     (solid_cell d x y z s)
-solid_surface s d x y zero low =
-    record { first = λ before now. front_starts s d x y now; behind = λ before now. absurd cc }
-solid_surface s d x y (suc z) low = record { first = front_begins s d x y z; behind = back_ends s d x y z low }
-
--- no solid is inside at the far limit or behind it
-outside_behind : (s : SolidView) (d : Depths) (x y z : ℕ) → d.far ≤ z → is_inside s d x y z ≡ false
-outside_behind s d x y z past = rw (before_end d z, lt_false z d.far past) refl
+solid_surface s d x y z low = grind (arith, front_starts, front_begins, back_ends)
 
 -- where no solid has a cell, no expression has one
 none_member : (inside : ℕ → Bool) → ((solid : ℕ) → inside solid ≡ false) → (tree : Tree) → is_member inside tree ≡ false
@@ -125,7 +112,7 @@ MemberLaw = (solid_at : ℕ → Cell) (tree : Tree) → (cell solid_at tree).mem
     ≡ is_member (λ solid. (solid_at solid).member) tree
 
 pub none_behind : MemberLaw → NoMemberBehind
-none_behind member scene x y z past = grind (arith, nat_tests, common_steps, none_member, slice_get, outside_behind)
+none_behind member scene x y z past = grind (arith, nat_tests, common_steps, none_member, slice_get)
 
 -- the solid of an index at the cell before
 abbrev leaf_before : List SolidView → Depths → (x y z solid : ℕ) → Cell
@@ -159,5 +146,5 @@ module _ (surface : SurfaceLaw) (member : MemberLaw) (scene : SceneView) (lawful
   }
   scene_has_surface (suc z) low = surface_of (suc z) low
 
-pub scene_surface : SurfaceLaw → MemberLaw → ScenesHaveSurfaces
-scene_surface surface member scene lawful x y z low = scene_has_surface surface member scene lawful x y z low
+pub scene_surface : ScenesHaveSurfaces
+scene_surface scene lawful x y z low = scene_has_surface has_surface member_of_cell scene lawful x y z low

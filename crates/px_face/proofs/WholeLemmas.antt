@@ -1,17 +1,11 @@
 -- Without a fraction the cells of a solid are its values, and the faces at a cell are those whose value it is.
-use Rattle.px_num.proofs.Basics.{◌≡◌, ◌<◌, ◌≤◌, ◌≤ℤ◌, ◌==◌, ℕ, zero, suc, ℤ, pos, negsuc, Bool, true, false, ◌&&◌, List}
-use Rattle.px_num.proofs.Basics.{[], ◌∷◌, ◌++◌, refl, ap, sym, ◌∙◌, arith, inl, inr, if◌then◌else◌, list_all, int_eq}
-use Rattle.px_num.proofs.Basics.{ints, cases_Bool, cases_eq, nat_tests}
-use lib.Signed.{le_z, lt_z}
-use Rattle.px_num.specs.Forms.{value_at}
-use Rattle.px_num.proofs.TruthLaws.{and_left, and_right, first_of_three, int_eq_holds, itself_true, third_of_three}
-use Rattle.px_num.proofs.MostLaws.{all_max, all_min}
-use Rattle.px_model.specs.declared.solid.Face.{Face}
-use Rattle.px_model.specs.Scenes.{SolidView}
-use Rattle.px_model.specs.Cells.{Depths, cell_of, depths, end_of, enters_at, faces_at, is_inside, is_inside_at}
-use Rattle.px_model.specs.Cells.{leaves_at}
-use Rattle.px_model.proofs.CellLaws.{cell_whole, value_whole}
-use Rattle.px_face.specs.Covering.{is_met}
+use Rattle.px_num.proofs.Basics.{◌≡◌, ◌≤◌, ◌≤ℤ◌, ◌==◌, ℕ, zero, suc, ℤ, pos, negsuc, Bool, true, false, ◌&&◌, List, []}
+use Rattle.px_num.proofs.Basics.{◌∷◌, ◌++◌, refl, ap, sym, ◌∙◌, arith, inl, inr, if◌then◌else◌, list_all, int_eq, ints}
+use Rattle.px_num.proofs.Basics.{cases_Bool, cases_eq, nat_tests}
+use Rattle.px_face.proofs.Words.{all_max, all_min, and_left, and_right, cell_of, cell_whole, depths, Depths, end_of}
+use Rattle.px_face.proofs.Words.{enters_at, Face, faces_at, first_of_three, int_eq_holds, is_inside, is_inside_at}
+use Rattle.px_face.proofs.Words.{is_met, itself_true, le_z, leaves_at, lt_z, SolidView, third_of_three, value_at}
+use Rattle.px_face.proofs.Words.{value_whole}
 use Rattle.px_face.specs.WholeLaws.{WholeBacks, WholeFronts}
 use Rattle.px_face.proofs.DepthLaws.{cells_are, depths_are, le_same}
 
@@ -43,20 +37,8 @@ unequal n z h = grind (arith, nat_tests)
 below_is : (n z : ℕ) → le_z (pos n) (pos z) ≡ true → n ≤ z
 below_is n z h = grind (arith, ints)
 
-above_fails : (n z : ℕ) → n < z → le_z (pos z) (pos n) ≡ false
-above_fails n z h = grind (arith, ints)
-
-not_itself : (v : ℤ) → lt_z v v ≡ false
-not_itself v = grind (arith, ints)
-
 past_is : (n z : ℕ) → lt_z (pos z) (pos n) ≡ true → suc z ≤ n
 past_is n z h = grind (arith, ints)
-
-before_is : (n z : ℕ) → z < n → lt_z (pos z) (pos n) ≡ true
-before_is n z h = grind (arith, ints)
-
-negative : (n z : ℕ) → lt_z (pos z) (negsuc n) ≡ false
-negative n z = grind (arith, ints)
 
 module _ (far near : ℕ) (fs : List Face) (x y z : ℕ) where
   fronts_by_value : (e : ℤ) → pos 0 ≤ℤ e → le_z e (pos z) ≡ true → list_all (λ f. le_z (value_at f.plane x y) e)
@@ -73,22 +55,21 @@ module _ (far near : ℕ) (fs : List Face) (x y z : ℕ) where
           unequal n z other,
           unequal z 0 (λ e. omega arith),
           no_faces (λ v. le_z v (pos n)) fs x y (pos z) all
-              (above_fails n z (omega arith)),
+              (grind (arith, ints)),
         ) refl
   ])
 
   backs_by_value : (l : ℤ) → lt_z (pos z) l ≡ true
       → (lt_z (pos (suc z)) l ≡ true → list_all (λ b. lt_z (pos (suc z)) (value_at b.plane x y)) fs ≡ true)
       → (if cell_of (depths far 0) l == suc z then faces_at fs x y l else []) ≡ faces_at fs x y (pos (suc z))
-  backs_by_value (negsuc n) some all = cc (negative n z, some)
+  backs_by_value (negsuc n) some all = cc some
   backs_by_value (pos n) some all = rw (cell_whole far n) (elim (cases_eq n (suc z)) [
     | inl same ↦ rw (same, itself_true (suc z)) refl
     | inr other ↦
-        let le = past_is n z some in
         rw (
           unequal n (suc z) other,
           no_faces (λ v. lt_z (pos (suc z)) v) fs x y (pos (suc z))
-              (all (before_is n (suc z) (omega arith))) (not_itself (pos (suc z))),
+              (all (grind (arith, ints))) (grind (arith, ints)),
         ) refl
   ])
 

@@ -9,8 +9,6 @@ ghost use Rattle.px_face.specs.Surfaces.{
   SolidsHaveSurfaces,
 };
 
-use px_expr::{member_law, surface_law};
-
 /// Where a solid or a scene begins along a ray it shows a face, and just behind its end, before the
 /// far limit, it hides one (docs/PICTURE.md, "What a pixel shows"). A pixel shows face 0, and the
 /// far limit's depth, exactly where no cell of it is a member; else its first cell that is one, and the
@@ -23,7 +21,4 @@ pub fn laws_of_surfaces()
     ensures faces { PicturesShowFaces }
     ensures background { PicturesShowBackground }
     ensures seen { PicturesShowFirstCells }
-{
-    surface_law();
-    member_law();
-}
+{}

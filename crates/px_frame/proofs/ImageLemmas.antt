@@ -1,12 +1,8 @@
 -- The images of an array that stores a picture.
 use Rattle.px_num.proofs.Basics.{arith, ◌≡◌}
-use Rattle.px_array.specs.Arrays.{State, pixel_of}
-use Rattle.px_model.specs.Scenes.{SceneView}
-use Rattle.px_sched.specs.Layouts.{LayoutView}
+use Rattle.px_frame.proofs.Words.{depth_at, face_at, LayoutView, picture_image, pixel_of, Plane, SceneView, State}
+use Rattle.px_frame.proofs.Words.{stored_depth, stored_face, stored_image}
 use Rattle.px_sched.specs.PassesLaw.{ShowsThePicture}
-use Rattle.px_frame.specs.declared.plane.Plane.{Plane}
-use Rattle.px_frame.specs.Picture.{depth_at, face_at, picture_image}
-use Rattle.px_frame.specs.Stored.{stored_depth, stored_face, stored_image}
 use Rattle.px_frame.proofs.RowLaws.{same_image, same_pixels}
 use Rattle.px_frame.specs.declared.plane.Plane.TheVariants as p
 

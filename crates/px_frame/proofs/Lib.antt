@@ -2,3 +2,4 @@ pub mod FaceLemmas
 pub mod ImageLemmas
 pub mod RowLaws
 pub mod StripLemmas
+pub mod Words

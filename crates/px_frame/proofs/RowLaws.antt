@@ -2,22 +2,14 @@
 use Rattle.px_num.proofs.Basics.{◌≡◌, ℕ, ◌+◌, ◌-◌, ◌/◌, ◌^◌, ◌<◌, ◌≤◌, refl, ap, sym, ◌∙◌, arith, List, [], ◌∷◌, ◌++◌}
 use Rattle.px_num.proofs.Basics.{append_assoc, get_or, length, set, take, length-set, flat_map-append, flat_map}
 use Rattle.px_num.proofs.Basics.{range_with_len}
+use Rattle.px_frame.proofs.Words.{Field, field_shown, front_after, front_before, header, HoldsRow, image_of}
+use Rattle.px_frame.proofs.Words.{image_of_pixels, LayoutView, number_in, number_pixel, pixel_of, Plane, row_bytes}
+use Rattle.px_frame.proofs.Words.{row_of_pixels, SceneView, shown_pixel, SinkState, State, stored_pixel, strip_pixel}
+use Rattle.px_frame.proofs.Words.{takes_both, TakesAll, TakesFront, three_bytes}
 use Rattle.std.proofs.lemmas.List.{append-nil}
 use Rattle.std.proofs.lemmas.Grind.{take-set_at}
 use Rattle.px_num.proofs.RangeLaws.{range_cut, same_parts}
-use Rattle.px_io.specs.Told.{SinkState, TakesAll, TakesFront}
-use Rattle.px_io.proofs.ToldLaws.{front_after, front_before, takes_both}
-use Rattle.px_frame.specs.Picture.{header, image_of, image_of_pixels, number_pixel, row_of_pixels, three_bytes}
-use Rattle.px_array.specs.Arrays.{State, pixel_of}
-use Rattle.px_macro.specs.Fields.{number_in}
-use Rattle.px_macro.specs.declared.field.Field.{Field}
-use Rattle.px_model.specs.Scenes.{SceneView}
-use Rattle.px_sched.specs.Layouts.{LayoutView}
-use Rattle.px_frame.specs.declared.plane.Plane.{Plane}
 use Rattle.px_frame.specs.declared.plane.Plane.TheVariants as p
-use Rattle.px_frame.specs.Rows.{field_shown, row_bytes, shown_pixel, strip_pixel}
-use Rattle.px_frame.specs.Stored.{stored_pixel}
-use Rattle.px_frame.specs.Strips.{HoldsRow}
 
 range_join : (n m : ℕ) → range_with_len 0 n ++ range_with_len n m ≡ range_with_len 0 (n + m)
 range_join n m =

@@ -3,14 +3,9 @@ use Rattle.px_num.proofs.Basics.{◌≡◌, ℕ, zero, suc, ◌+◌, ◌*◌, �
 use Rattle.px_num.proofs.Basics.{if◌then◌else◌, List, ◌++◌, get_or, length, ap, sym, subst, ◌∙◌, arith, inl, inr}
 use Rattle.px_num.proofs.Basics.{length-append, cases_lt, get_or_append_left, get_or-append-add, shr-shr, shr_split}
 use Rattle.px_num.proofs.Basics.{bit_at_cat_low}
-use Rattle.px_num.specs.Bits.{bit_at, nat_bit}
-use Rattle.px_num.proofs.TruthLaws.{double_pow, lt_true, power_grows}
-use Rattle.px_array.specs.Arrays.{State, pixel_of}
-use Rattle.px_array.specs.Words.{IsMemoryWord, memory_bit}
-use Rattle.px_tree.proofs.PlaceLaws.{index_below, power_next}
-use Rattle.px_macro.specs.Fields.{number_from_bits, number_in}
-use Rattle.px_macro.specs.declared.field.Field.{Field}
-use Rattle.px_frame.specs.Strips.{HoldsRow, strip_number}
+use Rattle.px_frame.proofs.Words.{bit_at, double_pow, Field, HoldsRow, index_below, IsMemoryWord, lt_true, memory_bit}
+use Rattle.px_frame.proofs.Words.{nat_bit, number_from_bits, number_in, pixel_of, power_grows, power_next, State}
+use Rattle.px_frame.proofs.Words.{strip_number}
 
 -- one of eight bits of a word that is moved down to a place
 pub moved_bit : (state : State) (at place word j : ℕ) → IsMemoryWord state at (place / 64) word → j < 8

@@ -1,9 +1,7 @@
 -- The values at the pixels of a block of eight words, from the one at its first.
 use Rattle.px_num.proofs.Basics.{◌≡◌, ◌∙◌, ℕ, ◌+◌, ◌-◌, ◌*◌, ◌/◌, ◌%◌, ◌^◌, ◌≤◌, ℤ, ◌+ℤ◌, ap, arith, one-le-pow, ints}
 use Rattle.px_num.proofs.Basics.{pow-add}
-use Rattle.px_num.specs.Forms.{value_at}
-use Rattle.px_num.specs.declared.linear.Linear.{Linear}
-use Rattle.px_lanes.specs.Lanes.{offset}
+use Rattle.px_lanes.proofs.Words.{Linear, offset, value_at}
 use Rattle.px_lanes.proofs.OffsetLemmas.{Splits, splits_above, sum_of_values}
 
 -- a block begins at the head of a column

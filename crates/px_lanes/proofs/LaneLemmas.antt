@@ -1,9 +1,8 @@
 -- Words as numbers in lanes.
 use Rattle.px_num.proofs.Basics.{arith, ◌≡◌, ℕ, ℤ, pos, ◌+ℤ◌, Bool, true, false, ◌&&◌, if◌then◌else◌, refl, sym}
 use Rattle.px_num.proofs.Basics.{bit_and, bit_xor}
-use Rattle.px_num.specs.Bits.{bit_of, carry_from, majority, nat_bit}
+use Rattle.px_lanes.proofs.Words.{bit-and, bit-xor, bit_of, bit_of_zero, carry_from, majority, nat_bit}
 use Rattle.px_num.proofs.AdderLaws.{sum_bit}
-use Rattle.px_rows.proofs.BitLaws.{bit-and, bit-xor, bit_of_zero}
 
 pub majority_of_words : (a b c j : ℕ) → nat_bit (bit_xor a (bit_and (bit_xor a b) (bit_xor a c))) j
     ≡ majority (nat_bit a j) (nat_bit b j) (nat_bit c j)

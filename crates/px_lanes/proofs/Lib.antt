@@ -2,3 +2,4 @@ pub mod BlockLaws
 pub mod LaneLemmas
 pub mod OffsetLemmas
 pub mod SignLemmas
+pub mod Words

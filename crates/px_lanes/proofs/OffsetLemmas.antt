@@ -2,11 +2,8 @@
 use Rattle.px_num.proofs.Basics.{◌≡◌, ℕ, ◌+◌, ◌-◌, ◌*◌, ◌/◌, ◌%◌, ◌^◌, ◌<◌, ◌≤◌, ◌==◌, ℤ, pos, ◌+ℤ◌, ◌*ℤ◌}
 use Rattle.px_num.proofs.Basics.{if◌then◌else◌, ap, ◌∙◌, arith, inl, inr, ◌⊎◌, mod-mul, mod-eq_of_lt, one-le-pow}
 use Rattle.px_num.proofs.Basics.{pow-le-pow_right, cases_lt, ints, pow-add}
+use Rattle.px_lanes.proofs.Words.{Linear, nat_bit, offset, value_at}
 use Rattle.std.proofs.Math.Nat.{add-mul-div_left, add-mul-mod_self_left, div-eq_of_lt}
-use Rattle.px_num.specs.Bits.{nat_bit}
-use Rattle.px_num.specs.Forms.{value_at}
-use Rattle.px_num.specs.declared.linear.Linear.{Linear}
-use Rattle.px_lanes.specs.Lanes.{offset}
 
 pub offset_zero : (form : Linear) (ny : ℕ) → offset form ny 0 ≡ pos 0
 offset_zero form ny = grind (arith, one-le-pow, div-eq_of_lt, mod-eq_of_lt)

@@ -2,27 +2,18 @@
 use Rattle.px_num.proofs.Basics.{◌≡◌, ℕ, ℤ, pos, ◌+◌, ◌-◌, ◌^◌, ◌<◌, ◌≤◌, ◌≤ℤ◌, All, List, [], ◌∷◌, ◌++◌, length}
 use Rattle.px_num.proofs.Basics.{Option, Some, None, IfOk, IfSome, Result, Ok, Err, sym, subst, arith, append_assoc}
 use Rattle.px_num.proofs.Basics.{append-nil, option_or, ints, All-nil, All-push, fold-append}
-use lib.IntN.{negsuc}
+use Rattle.px_listing.proofs.Words.{AreApart, AreOfOneLength, end_past, field_of, field_past, fields_past, first_bad}
+use Rattle.px_listing.proofs.Words.{form_past, IsField, IsInTreeRange, IsLawful, Kind, ListForm, listing_keyword_of}
+use Rattle.px_listing.proofs.Words.{ListingView, Macro, negsuc, none_first, none_second, operation, operation_with}
+use Rattle.px_listing.proofs.Words.{overlap, past, plane_of, shape_of, shape_past, size_of, timely_form, value_past}
+use Rattle.px_listing.proofs.Words.{worded, Words}
 use Rattle.px_num.proofs.BitLaws.{pow_above}
-use Rattle.px_num.proofs.TruthLaws.{none_first, none_second}
-use Rattle.px_num.specs.Forms.{IsInTreeRange}
-use Rattle.px_macro.specs.Macros.{AreApart, AreOfOneLength, IsField, IsLawful}
-use Rattle.px_macro.specs.declared.operation.Macro.{Macro}
-use Rattle.px_show.specs.Judged.{first_bad, past}
-use Rattle.px_text.specs.Text.{Words, worded}
 use Rattle.px_show.specs.declared.fault.Cause.{Cause}
 use Rattle.px_show.proofs.JudgedLaws.{none_here, not_memory, not_refused}
-use Rattle.px_scene.specs.Lines.{plane_of, size_of}
 use Rattle.px_listing.specs.AcceptedLaw.{AcceptedListingIsLawful, MemoryIsNoRefusal}
-use Rattle.px_listing.specs.Keywords.{listing_keyword_of}
-use Rattle.px_listing.specs.Kinds.{field_of, operation_with, shape_of}
-use Rattle.px_listing.specs.Limits.{end_past, field_past, fields_past, form_past, overlap, shape_past, value_past}
-use Rattle.px_listing.specs.Lines.{ListForm, operation, timely_form}
-use Rattle.px_listing.specs.Listings.{ListingView}
 use Rattle.px_listing.specs.Reading.{ListingDraft, ListFault, bad_by, bad_in, extended_by, listing_draft_of}
 use Rattle.px_listing.specs.Reading.{listing_fault_behind, listing_of, listing_refusal_of, listing_taken, unwritten}
 use Rattle.px_listing.specs.Reading.{with_operation}
-use Rattle.px_listing.specs.declared.kind.Kind.{Kind}
 use Rattle.px_listing.proofs.LimitLemmas.{within}
 use Rattle.px_macro.specs.declared.operation.Macro.TheVariants as m
 use Rattle.px_listing.specs.declared.kind.Kind.TheVariants as n
@@ -86,7 +77,6 @@ constant_is bits at len number none = grind (arith, field_is, none_first, number
 -- the operation that numbers write which pass no limit; another count of numbers writes none
 pub kind_lawful : (bits : ℕ) (kind : Kind) (zs : List ℤ) → shape_past bits (shape_of kind) zs ≡ None
     → IfSome (operation_with kind zs) (λ op. IsLawful op bits)
-kind_lawful bits n.All [] none = tt
 kind_lawful bits n.KeepSign (a ∷ b ∷ c ∷ []) none = form_in_range a b c none
 kind_lawful bits n.KeepBit (at ∷ v ∷ []) none = bit_is bits at v none
 kind_lawful bits n.SetBit (at ∷ v ∷ []) none = bit_is bits at v none
@@ -97,6 +87,7 @@ kind_lawful bits n.AddLinear (a ∷ b ∷ c ∷ at ∷ len ∷ []) none = linear
 kind_lawful bits n.LoadConst (at ∷ len ∷ number ∷ []) none = constant_is bits at len number none
 kind_lawful bits n.Copy (at ∷ len ∷ to ∷ []) none = copies bits at len to none
 kind_lawful bits n.KeepLess (at ∷ len ∷ to ∷ []) none = of_one_length bits at len to none
+kind_lawful bits kind [] none = tt
 kind_lawful bits kind zs none = tt
 
 pub all_more : (bits : ℕ) (o : Option Macro) (ops : List Macro) → IfSome o (λ op. IsLawful op bits)

@@ -6,3 +6,4 @@ pub mod RoundLemmas
 pub mod RowLaws
 pub mod TextLemmas
 pub mod WordLemmas
+pub mod Words

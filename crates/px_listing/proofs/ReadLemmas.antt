@@ -1,16 +1,9 @@
 -- What a line more says, and what it keeps.
 use Rattle.px_num.proofs.Basics.{◌≡◌, ℕ, ℤ, pos, ◌+◌, ◌≤◌, List, [], ◌∷◌, ◌++◌, length, Option, Some, None, OnOk}
 use Rattle.px_num.proofs.Basics.{Result, Ok, Err, ap, sym, subst, arith, length-append, ints}
-use lib.IntN.{negsuc}
-use Rattle.px_num.proofs.TruthLaws.{none_first, none_second}
-use Rattle.px_macro.specs.declared.operation.Macro.{Macro}
-use Rattle.px_show.specs.Judged.{past}
-use Rattle.px_text.specs.Text.{Words}
-use Rattle.px_tree.specs.Nodes.{IsGrid}
-use Rattle.px_scene.specs.Lines.{size_of}
-use Rattle.px_listing.specs.Drafts.{IsDraft, IsOpened, IsListingDraftOf}
-use Rattle.px_listing.specs.Limits.{grid_past, listing_limit_of}
-use Rattle.px_listing.specs.Lines.{ListForm, grid, operation}
+use Rattle.px_listing.proofs.Words.{grid, grid_past, IsDraft, IsGrid, IsListingDraftOf, IsOpened, ListForm}
+use Rattle.px_listing.proofs.Words.{listing_limit_of, Macro, negsuc, none_first, none_second, operation, past, size_of}
+use Rattle.px_listing.proofs.Words.{Words}
 use Rattle.px_listing.specs.Reading.{ListingDraft, bad_in, extended, listing_fault_behind, listing_taken, unwritten}
 use Rattle.px_listing.specs.Reading.{with_operation}
 use Rattle.px_listing.proofs.AcceptedLemmas.{all_more, draft_more, kind_lawful}

@@ -1,26 +1,16 @@
 -- What is read of the canonical text of a listing.
-use Rattle.px_num.proofs.Basics.{◌≡◌, ℕ, ℤ, pos, ◌+◌, ◌^◌, ◌<◌, ◌≤◌, ◌≤ℤ◌, List, [], ◌∷◌, Bool, true, false, Some, None}
-use Rattle.px_num.proofs.Basics.{Ok, Err, map, length, if◌then◌else◌, not, ◌∙◌, inl, inr, ◌⊎◌, refl, ap, arith}
+use Rattle.px_num.proofs.Basics.{◌≡◌, ℕ, ℤ, pos, ◌+◌, ◌^◌, ◌<◌, ◌≤◌, ◌≤ℤ◌, List, [], ◌∷◌, Bool, true, false, Some}
+use Rattle.px_num.proofs.Basics.{None, Ok, Err, map, length, if◌then◌else◌, not, ◌∙◌, inl, inr, ◌⊎◌, refl, ap, arith}
 use Rattle.px_num.proofs.Basics.{pow_mono, ints, length-map, signed_decimal}
+use Rattle.px_listing.proofs.Words.{are_numbers, are_plain, bit_number, end_past, field_past, form_past, is_plain}
+use Rattle.px_listing.proofs.Words.{is_set, IsField, IsInTreeRange, IsLawful, IsWithin, Kind, kind_of}
+use Rattle.px_listing.proofs.Words.{listing_keyword_of, Macro, number_count, numbers_of, operands_of, operation}
+use Rattle.px_listing.proofs.Words.{operation_form, operation_with, overlap, past, same_true, shape_of, shape_past}
+use Rattle.px_listing.proofs.Words.{signed_plain, signed_read, timely_form, word_of, Words}
 use Rattle.std.specs.Bool.{⊤}
-use Rattle.px_macro.specs.Macros.{IsField, IsLawful}
 use Rattle.px_macro.specs.declared.field.Field.{Field}
-use Rattle.px_macro.specs.declared.operation.Macro.{Macro}
-use Rattle.px_num.specs.Forms.{IsInTreeRange, IsWithin}
 use Rattle.px_num.specs.declared.linear.Linear.{Linear}
-use Rattle.px_num.proofs.TruthLaws.{same_true}
-use Rattle.px_listing.specs.Lines.{are_numbers, numbers_of, operation, operation_form, timely_form}
-use Rattle.px_show.specs.Judged.{past}
-use Rattle.px_text.specs.Text.{Words}
-use Rattle.px_text.specs.Written.{are_plain, is_plain}
-use Rattle.px_text.proofs.DecimalLaws.{signed_read}
 use Rattle.px_text.proofs.LineLaws.{small_size}
-use Rattle.px_text.proofs.PlainLaws.{signed_plain}
-use Rattle.px_listing.specs.Keywords.{listing_keyword_of}
-use Rattle.px_listing.specs.Kinds.{bit_number, is_set, kind_of, number_count, operands_of, operation_with, shape_of}
-use Rattle.px_listing.specs.Kinds.{word_of}
-use Rattle.px_listing.specs.Limits.{end_past, field_past, form_past, overlap, shape_past}
-use Rattle.px_listing.specs.declared.kind.Kind.{Kind}
 use Rattle.px_listing.specs.declared.kind.Shape.{Shape}
 use Rattle.px_listing.specs.declared.limit.ListKind.{ListKind}
 use lib.Signed.{mag}
@@ -118,7 +108,6 @@ module _ (bits : ℕ) (most : bits ≤ 256) where
   apart_fit f g first second same apart = grind (arith, fields_fit, field_none, end_none, apart_none)
 
   fits : (op : Macro) → IsLawful op bits → Fits bits (shape_of (kind_of op)) (operands_of op)
-  fits m.All lawful = record { count = refl; short = tt; good = refl }
   fits (m.KeepSign form) lawful = form_fits form lawful
   fits (m.KeepBit at v) lawful = bit_fits at v lawful
   fits (m.SetBit at v) lawful = bit_fits at v lawful
@@ -129,47 +118,24 @@ module _ (bits : ℕ) (most : bits ≤ 256) where
   fits (m.LoadConst f number) lawful = constant_fits f number lawful.0 lawful.1
   fits (m.Copy f g) lawful = grind (arith, apart_fit)
   fits (m.KeepLess f g) lawful = fields_fit f g lawful.fields.0 lawful.fields.1 lawful.length
+  fits op lawful = record { count = refl; short = tt; good = refl }
 
   -- the numbers of an operation write it
   written : (op : Macro) → IsLawful op bits → operation_with (kind_of op) (operands_of op) ≡ Some op
-  written m.All lawful = refl
-  written (m.KeepSign form) lawful = refl
   written (m.KeepBit at v) lawful = rw (bit_read v) refl
   written (m.SetBit at v) lawful = rw (bit_read v) refl
-  written (m.Toggle at) lawful = refl
-  written (m.LoadLinear form f) lawful = refl
-  written (m.KeepAtMost form f) lawful = refl
-  written (m.AddLinear form f) lawful = refl
-  written (m.LoadConst f number) lawful = refl
   written (m.Copy f g) lawful = ap (λ len. Some (m.Copy f (record { at = g.at; len = len }))) lawful.0.length
   written (m.KeepLess f g) lawful = ap (λ len. Some (m.KeepLess f (record { at = g.at; len = len }))) lawful.length
+  written op lawful = refl
 
 -- the word of an operation is its own, and plain
 word_is : (kind : Kind) → listing_keyword_of (word_of kind) ≡ k.Operation kind
 word_is n.All = refl
-word_is n.KeepSign = refl
-word_is n.KeepBit = refl
-word_is n.LoadLinear = refl
-word_is n.KeepAtMost = refl
-word_is n.AddLinear = refl
-word_is n.LoadConst = refl
-word_is n.SetBit = refl
-word_is n.Toggle = refl
-word_is n.Copy = refl
-word_is n.KeepLess = refl
+word_is kind = refl
 
 plain_word : (kind : Kind) → is_plain (word_of kind) ≡ true
 plain_word n.All = refl
-plain_word n.KeepSign = refl
-plain_word n.KeepBit = refl
-plain_word n.LoadLinear = refl
-plain_word n.KeepAtMost = refl
-plain_word n.AddLinear = refl
-plain_word n.LoadConst = refl
-plain_word n.SetBit = refl
-plain_word n.Toggle = refl
-plain_word n.Copy = refl
-plain_word n.KeepLess = refl
+plain_word kind = refl
 
 -- so many numbers, by which an operation of a kind is due
 counted_by : (counts are : Bool) (kind : Kind) (ws : Words) → counts ≡ true → are ≡ true

@@ -2,20 +2,14 @@
 use Rattle.px_num.proofs.Basics.{suc, ◌≡◌, ℕ, pos, ◌≤◌, All, List, [], ◌∷◌, ◌++◌, true, None, Ok, map, codes, refl, ap}
 use Rattle.px_num.proofs.Basics.{sym, ◌∙◌, arith, append_assoc, ints, list_all-append, signed_decimal, flat_map}
 use Rattle.px_num.proofs.Basics.{list_all}
+use Rattle.px_listing.proofs.Words.{are_plain, both, canonical_listing, end_line, fed, first_bad, grid, grid_form}
+use Rattle.px_listing.proofs.Words.{grid_past, is_no_feed, is_plain, IsGrid, IsLawful, kind_of, ListingView, Macro}
+use Rattle.px_listing.proofs.Words.{macro_line, opening, operands_of, plain_fed, signed_plain, signed_read, spaced}
+use Rattle.px_listing.proofs.Words.{spaced_fed, word_of, worded, Words, words_of}
 use Rattle.std.proofs.lemmas.List.{append-nil}
-use Rattle.px_macro.specs.Macros.{IsLawful}
-use Rattle.px_macro.specs.declared.operation.Macro.{Macro}
-use Rattle.px_show.specs.Judged.{first_bad}
-use Rattle.px_text.specs.Text.{Words, words_of, worded}
-use Rattle.px_text.specs.Written.{are_plain, fed, is_no_feed, is_plain, spaced}
-use Rattle.px_text.proofs.DecimalLaws.{signed_read}
-use Rattle.px_text.proofs.PlainLaws.{both, plain_fed, signed_plain, spaced_fed}
 use Rattle.px_text.proofs.SpacedLaws.{lines_read, words_read}
-use Rattle.px_tree.specs.Nodes.{IsGrid}
-use Rattle.px_listing.specs.Limits.{grid_past}
-use Rattle.px_listing.specs.Lines.{grid, grid_form, number_line, opening}
-use Rattle.px_listing.specs.Listings.{ListingView, canonical_listing, end_line, header_line, macro_line}
-use Rattle.px_listing.specs.Kinds.{kind_of, operands_of, word_of}
+use Rattle.px_listing.specs.Lines.{number_line}
+use Rattle.px_listing.specs.Listings.{header_line}
 use Rattle.px_listing.specs.Reading.{ListingDraft, extended, extended_by, is_listing_over, listing_draft_of}
 use Rattle.px_listing.specs.Reading.{listing_fault_behind, unwritten}
 use Rattle.px_listing.specs.RoundTrip.{TextsAreReadBack}

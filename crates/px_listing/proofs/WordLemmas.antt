@@ -3,11 +3,8 @@ use Rattle.px_num.proofs.Basics.{nat_tests, common_steps, zero, suc, All, true, 
 use Rattle.px_num.proofs.Basics.{pos, ◌+◌, ◌<◌, ◌^◌, ◌∷◌, [], ◌++◌, ◌&&◌, List, Bool, Option, Some, None, length, take}
 use Rattle.px_num.proofs.Basics.{get_or, is_some, unwrap_or, ap, subst, ◌∙◌, arith, ◌≤◌, Bor, ints, get_or-map}
 use Rattle.px_num.proofs.Basics.{length-map, take_all, take_more}
+use Rattle.px_listing.proofs.Words.{are_numbers, IsWithin, negative, now_of, number_of, numbers_of, positive, Words}
 use Rattle.std.proofs.lemmas.List.Folds.{list_all_more}
-use Rattle.px_num.specs.Forms.{IsWithin}
-use Rattle.px_text.specs.Text.{Words, negative, number_of, positive}
-use Rattle.px_text.specs.LentWords.{now_of}
-use Rattle.px_listing.specs.Lines.{are_numbers, numbers_of}
 
 -- whether one more word is a number
 pub numeric_more : (words : List (Bor (List ℕ))) (i : ℕ) (w : Bor (List ℕ)) → i < length words

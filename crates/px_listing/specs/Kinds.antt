@@ -54,6 +54,20 @@ kind_of (m.Toggle at) = k.Toggle
 kind_of (m.Copy f g) = k.Copy
 kind_of (m.KeepLess f g) = k.KeepLess
 
+-- the kinds of operations in the order of docs/MACHINE.md, "Broadcast operations"
+abbrev pub operation_kind : Macro → ℕ
+operation_kind m.All = 1
+operation_kind (m.KeepSign form) = 2
+operation_kind (m.KeepBit at v) = 3
+operation_kind (m.LoadLinear form f) = 4
+operation_kind (m.KeepAtMost form f) = 5
+operation_kind (m.AddLinear form f) = 6
+operation_kind (m.LoadConst f c) = 7
+operation_kind (m.SetBit at v) = 8
+operation_kind (m.Toggle at) = 9
+operation_kind (m.Copy f g) = 10
+operation_kind (m.KeepLess f g) = 11
+
 -- the one whose line begins with a word
 abbrev pub kind_named : List ℕ → Option Kind
 kind_named w =

@@ -3,7 +3,7 @@
 ghost use Rattle.std.specs.Prelude.{◌≡◌, ◌≤◌, IfSome, None, length};
 ghost use Rattle.std.specs.Str.{bytes_eq};
 ghost use Rattle.px_macro.specs.Macros.{IsLawful};
-ghost use Rattle.px_listing.specs.Kinds.{kind_named, kind_of, number_count, operands_of, operation_with};
+ghost use Rattle.px_listing.specs.Kinds.{kind_named, kind_of, number_count, operands_of, operation_kind, operation_with};
 ghost use Rattle.px_listing.specs.Kinds.{shape_of, word_of};
 ghost use Rattle.px_listing.specs.Limits.{shape_past};
 
@@ -159,6 +159,25 @@ impl Shape {
             Shape::Form | Shape::Constant | Shape::FieldsApart | Shape::Fields => 3,
             Shape::FormAndField => 5,
         }
+    }
+}
+
+/// Which operation it is, counted from 1 (docs/MACHINE.md, "Broadcast operations").
+pub fn kind_number(m: &Macro) -> u32
+    ensures { result ≡ operation_kind m.now }
+{
+    match m {
+        Macro::All => 1,
+        Macro::KeepSign(_) => 2,
+        Macro::KeepBit(..) => 3,
+        Macro::LoadLinear(..) => 4,
+        Macro::KeepAtMost(..) => 5,
+        Macro::AddLinear(..) => 6,
+        Macro::LoadConst(..) => 7,
+        Macro::SetBit(..) => 8,
+        Macro::Toggle(_) => 9,
+        Macro::Copy(..) => 10,
+        Macro::KeepLess(..) => 11,
     }
 }
 

@@ -2,8 +2,6 @@
 ghost use Rattle.px_listing.specs.AcceptedLaw.{AcceptedListingIsLawful, MemoryIsNoRefusal};
 ghost use Rattle.px_listing.specs.RoundTrip.{TextsAreReadBack};
 
-use px_macro::laws_of_operations;
-
 /// The laws of listings, for whoever writes and reads them.
 ///
 /// The canonical text of a listing is read as the listing. Pixels for which a text is accepted can carry its operations out, and
@@ -12,6 +10,4 @@ pub fn laws_of_listings()
     ensures read_back { TextsAreReadBack }
     ensures accepted { AcceptedListingIsLawful }
     ensures refusals { MemoryIsNoRefusal }
-{
-    laws_of_operations();
-}
+{}

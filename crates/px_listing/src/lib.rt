@@ -14,7 +14,7 @@ mod piece;
 mod read;
 mod write;
 
-pub use kind::operands_of;
+pub use kind::{kind_number, operands_of};
 pub use law::laws_of_listings;
 pub use limit::ListKind;
 pub use line::Line;

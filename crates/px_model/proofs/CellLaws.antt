@@ -1,5 +1,5 @@
 -- Laws of cells and of the values that planes have there.
-use Rattle.px_num.proofs.Basics.{◌≡◌, ℕ, ◌+◌, ◌-◌, ◌*◌, ◌/◌, ◌^◌, ◌<◌, ◌≤◌, ◌≤ℤ◌, ℤ, pos, negsuc, true, nat_le, nat_lt}
+use Rattle.px_num.proofs.Basics.{◌≡◌, ℕ, ◌+◌, ◌-◌, ◌*◌, ◌/◌, ◌^◌, ◌<◌, ◌≤◌, ◌≤ℤ◌, ℤ, pos, true, nat_le, nat_lt}
 use Rattle.px_num.proofs.Basics.{inl, inr, arith, sym, ◌∙◌, le-div_iff_mul-le, mul-le-mul, pow_mono, pow-add, pow_pos}
 use Rattle.px_num.proofs.Basics.{cases_lt, nat_tests, ints}
 use Rattle.px_num.proofs.TruthLaws.{le_holds, le_true}
@@ -13,8 +13,7 @@ up_is u n z some = grind (arith, le-div_iff_mul-le, cases_lt)
 
 -- the cell of a value is the first that is not below it
 pub cell_is_first : (d : Depths) (v : ℤ) (z : ℕ) → nat_le (cell_of d v) z ≡ le_z v (pos (value_of d z))
-cell_is_first d (pos n) z = up_is (2 ^ d.fraction_bits) n z (pow_pos d.fraction_bits) ∙ grind (arith, nat_tests, ints)
-cell_is_first d (negsuc n) z = grind (arith, nat_tests, ints)
+cell_is_first d x z = grind (arith, up_is, pow_pos, nat_tests, ints)
 
 -- and each before it is below the value
 pub cell_is_least : (d : Depths) (v : ℤ) (z : ℕ) → nat_lt z (cell_of d v) ≡ lt_z (pos (value_of d z)) v
@@ -52,7 +51,6 @@ before_end d z =
       | inl before ↦
           let more : (z + 1) * 2 ^ d.fraction_bits ≤ d.far * 2 ^ d.fraction_bits =
           mul-le-mul (omega arith) (omega arith) in
-          let one : (z + 1) * 2 ^ d.fraction_bits ≡ z * 2 ^ d.fraction_bits + 2 ^ d.fraction_bits = grind arith in
           grind (arith, nat_tests)
       | inr past ↦
           let more : d.far * 2 ^ d.fraction_bits ≤ z * 2 ^ d.fraction_bits = mul-le-mul (omega arith) (omega arith) in

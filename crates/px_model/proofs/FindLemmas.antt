@@ -29,14 +29,12 @@ module _ {A : Type 0} (test : A → Bool) (f : ℕ → List A) where
 
   pub number_first : (n end : ℕ) (o : Option A) → n < end → o ≡ find test (f n) → is_some o ≡ true
       → o ≡ find test (flat_map f (range_with_len n (end - n)))
-  number_first n end None within is some = absurd cc
-  number_first n end (Some a) within is some = sym (each n end within ∙ rw (sym is) refl)
+  number_first n end x within is some = grind (arith, each)
 
   pub number_later : (n end : ℕ) (o : Option A) → n < end → o ≡ find test (f n) → is_some o ≡ false
       → find test (flat_map f (range_with_len n (end - n)))
       ≡ find test (flat_map f (range_with_len (n + 1) (end - (n + 1))))
-  number_later n end (Some a) within is none = absurd cc
-  number_later n end None within is none = each n end within ∙ rw (sym is) refl
+  number_later n end x within is none = grind (arith, each)
 
 pub none_before : {A : Type 0} (test : A → Bool) (xs ys : List A) → find test (xs ++ ys) ≡ None → find test xs ≡ None
 none_before test xs ys none = none_first (find test xs) (find test ys) (sym (find-append test xs ys) ∙ none)

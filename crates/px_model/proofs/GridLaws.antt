@@ -27,9 +27,6 @@ pub exponent_is : (size : ℕ) → size ≤ 512 → IsGridExponent size (exponen
 unfolding exponent_of
 exponent_is size few = exponent_found size 1 8 (omega arith) few (λ m positive fits. positive)
 
-pub grid_exponent_is : (size n : ℕ) → size ≤ 512 → IsGridExponent size n → n ≡ exponent_of size
-grid_exponent_is size n few is = grind (arith, exponent_is)
-
 pub exponent_between : (size : ℕ) → size ≤ 512 → (1 ≤ exponent_of size) × (exponent_of size ≤ 9)
 exponent_between size few =
     let is = exponent_is size few in (is.positive, is.least 9 (omega arith) few)

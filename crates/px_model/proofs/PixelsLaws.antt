@@ -1,6 +1,6 @@
 -- A scene over other pixels keeps the limits of scenes, where no constant there is past its limit.
-use Rattle.px_num.proofs.Basics.{◌≡◌, ℕ, zero, suc, ℤ, pos, negsuc, ◌+◌, ◌-◌, ◌^◌, ◌<◌, ◌==◌, List, [], ◌∷◌, length}
-use Rattle.px_num.proofs.Basics.{map, filter, find, get_or, All, Bool, true, false, cond, not, nat_lt, Option, Some}
+use Rattle.px_num.proofs.Basics.{◌≡◌, ℕ, zero, suc, ℤ, ◌+◌, ◌-◌, ◌^◌, ◌<◌, ◌==◌, List, [], ◌∷◌, length}
+use Rattle.px_num.proofs.Basics.{map, filter, find, get_or, All, Bool, true, false, cond, not, nat_lt, Option}
 use Rattle.px_num.proofs.Basics.{None, refl, ap, sym, subst, ◌∙◌, arith, fun_ext, get_or-map, length-map, All-map}
 use Rattle.px_num.proofs.Basics.{fold-map, get_or-range_with_len, length-range_with_len, range_with_len, option_map}
 use Rattle.std.specs.Int.RustNames.{unsigned_abs}
@@ -20,8 +20,7 @@ IsSmall plane = is_past plane ≡ false
 
 -- a constant that is not past the limit
 within_limit : (z : ℤ) → nat_lt (2 ^ 33) (unsigned_abs z) ≡ false → IsWithin (2 ^ 33) z
-within_limit (pos n) small = grind arith
-within_limit (negsuc n) small = grind arith
+within_limit x small = grind arith
 
 -- a face is among those of its number
 small_among : (faces : List Face) (k : ℕ) (d : Face) (number : ℕ) → k < length faces → (get_or faces k d).number
@@ -145,8 +144,7 @@ module _ (pixels : Pixels) where
       k d (omega arith)
 
   no_plane : {A : Type 0} (f : Linear → A) (o : Option Linear) → option_map f o ≡ None → o ≡ None
-  no_plane f None e = refl
-  no_plane f (Some p) e = cc
+  no_plane f x e = grind arith
 
   pub all_lawful : (solids : List SolidView) → All IsLawfulSolid solids → AreNumberedFrom 1 solids
       → first_past (map (solid_over pixels) solids) ≡ None → AreLawfulOver pixels solids

@@ -1,13 +1,12 @@
 -- One more plane at the end of a solid's list.
-use Rattle.px_num.proofs.Basics.{zero, suc, ℕ, ◌<◌, List, [], ◌∷◌, ◌++◌, length, arith, length-append, All-append}
+use Rattle.px_num.proofs.Basics.{ℕ, ◌<◌, List, [], ◌∷◌, ◌++◌, length, arith, length-append, All-append}
 use Rattle.px_num.proofs.Basics.{all_pairs_push, All}
 use Rattle.px_model.specs.declared.solid.Face.{Face}
 use Rattle.px_model.specs.declared.limits.TheConstants.{MAX_PLANES_OF_A_KIND}
 use Rattle.px_model.specs.Scenes.{AreFaces, IsColour, IsPlane}
 
 all_of_one : {X : Type 0} (P : X → Type 0) (x : X) → P x → All P (x ∷ [])
-all_of_one P x holds zero d lt = holds
-all_of_one P x holds (suc k) d lt = absurd (omega arith)
+all_of_one P x holds y d lt = grind arith
 
 pub All-push : {X : Type 0} (P : X → Type 0) (xs : List X) (x : X) → All P xs → P x → All P (xs ++ x ∷ [])
 All-push P xs x all holds = All-append P xs (x ∷ []) all (all_of_one P x holds)

@@ -1,19 +1,10 @@
 -- The steps of an expression come from its nodes, and build the live lists that are wanted.
 use Rattle.px_num.proofs.Basics.{ℕ, ◌≡◌, ◌+◌, ◌-◌, List, [], ◌∷◌, ◌++◌, length, refl, ap, sym, ◌∙◌, reverse}
 use Rattle.px_num.proofs.Basics.{append_assoc, append-nil, fold, arith, Option, reverse-append}
-use Rattle.px_expr.specs.Tree.{Tree, leaf, join}
+use Rattle.px_normal.proofs.Words.{built, CanBuild, CellBox, crowd, first_past_limit, forms, Forms, join, leaf}
+use Rattle.px_normal.proofs.Words.{newest_lists, Node, nodes_behind, nodes_of, of_left, of_right, of_root, Op, Product}
+use Rattle.px_normal.proofs.Words.{shape_of_op, size, Step, steps_of, Tree, walked, Wanted, wanted_forms, wanted_lists}
 use Rattle.px_expr.specs.Shapes.{op_node}
-use Rattle.px_expr.proofs.OperatorLaws.{shape_of_op}
-use Rattle.px_expr.specs.Postorder.{size, nodes_behind, nodes_of}
-use Rattle.px_expr.specs.declared.node.Node.{Node}
-use Rattle.px_expr.specs.declared.node.Op.{Op}
-use Rattle.px_sets.specs.declared.cell_box.CellBox.{CellBox}
-use Rattle.px_normal.specs.declared.product.Product.{Product}
-use Rattle.px_normal.specs.declared.step.Step.{Step}
-use Rattle.px_normal.specs.declared.step.Wanted.{Wanted}
-use Rattle.px_normal.specs.Forms.{Forms, forms}
-use Rattle.px_normal.specs.Crowd.{of_root, of_left, of_right, wanted_forms, wanted_lists, first_past_limit, crowd}
-use Rattle.px_normal.specs.Building.{steps_of, walked, built, newest_lists, CanBuild}
 use Rattle.px_normal.proofs.CrowdLemmas.{wanted_sides}
 use Rattle.px_normal.specs.declared.step.Step.TheVariants as s
 

@@ -1,19 +1,8 @@
 -- What is wanted of a node is made of what is wanted of its sides, and the first list past the limit.
 use Rattle.px_num.proofs.Basics.{arith, ℕ, ◌≡◌, ◌||◌, Bool, true, false, List, refl, ap, sym, ◌∙◌, Option}
-use Rattle.px_num.proofs.TruthLaws.{or_left, or_right}
-use Rattle.px_expr.specs.declared.node.Op.{Op}
-use Rattle.px_expr.specs.Cells.{complement_of, opposite}
-use Rattle.px_expr.specs.declared.node.Sense.{Sense}
-use Rattle.px_expr.specs.declared.node.Sense.TheVariants.{Plain, Complement}
-use Rattle.px_expr.specs.declared.node.Combination.{Combination}
-use Rattle.px_expr.specs.declared.node.Combination.TheVariants.{Both, Either, EitherWay}
-use Rattle.px_sets.specs.declared.cell_box.CellBox.{CellBox}
-use Rattle.px_normal.specs.declared.product.Product.{Product}
-use Rattle.px_normal.specs.declared.step.Wanted.{Wanted}
-use Rattle.px_normal.specs.Forms.{Forms, combined_forms, sum_in, sum_when}
-use Rattle.px_normal.specs.Live.{live}
-use Rattle.px_normal.specs.Crowd.{of_either, of_left, of_right, left_when, right_when, wanted_in, where_wanted}
-use Rattle.px_normal.specs.Crowd.{wanted_forms}
+use Rattle.px_normal.proofs.Words.{CellBox, Combination, combined_forms, complement_of, Forms, left_when, live}
+use Rattle.px_normal.proofs.Words.{of_either, of_left, of_right, Op, opposite, or_left, or_right, Product, right_when}
+use Rattle.px_normal.proofs.Words.{Sense, sum_in, sum_when, Wanted, wanted_forms, wanted_in, where_wanted}
 use Rattle.px_normal.proofs.LiveLemmas.{live_sides}
 
 abbrev blank : Wanted → Forms → Forms
@@ -25,14 +14,12 @@ blank wanted x = record {
 -- of a side in its sense no product is missing where those of the node are wanted
 own_in : (sense : Sense) (wanted : Wanted) (x : Forms) → wanted.products ≡ true
     → sum_in sense (blank (wanted_in sense wanted) x) ≡ sum_in sense x
-own_in Plain wanted x e = rw e refl
-own_in Complement wanted x e = rw e refl
+own_in y wanted x e = grind arith
 
 -- and in the other sense none where those of the node's complement are
 other_in : (sense : Sense) (wanted : Wanted) (x : Forms) → wanted.complement ≡ true
     → sum_in (opposite sense) (blank (wanted_in sense wanted) x) ≡ sum_in (opposite sense) x
-other_in Plain wanted x e = rw e refl
-other_in Complement wanted x e = rw e refl
+other_in y wanted x e = grind arith
 
 -- where either is wanted, all of the sides is there
 either_is : (wanted : Wanted) (x : Forms) → wanted.products || wanted.complement ≡ true → blank (of_either wanted) x ≡ x
@@ -44,16 +31,12 @@ same_sides k x y more others first second = rw (first, second) refl
 
 products_kept : (k : Combination) (wanted : Wanted) (x y : Forms) → wanted.products ≡ true
     → sum_when k (blank (left_when k wanted) x) (blank (right_when k wanted) y) ≡ sum_when k x y
-products_kept (Both s t) wanted x y e = rw (own_in s wanted x e, own_in t wanted y e) refl
-products_kept (Either s t) wanted x y e = rw (own_in s wanted x e, own_in t wanted y e) refl
-products_kept (EitherWay s) wanted x y e = grind (arith, or_left, same_sides, either_is)
+products_kept z wanted x y e = grind (arith, own_in, or_left, same_sides, either_is)
 
 complement_kept : (k : Combination) (wanted : Wanted) (x y : Forms) → wanted.complement ≡ true
     → sum_when (complement_of k) (blank (left_when k wanted) x) (blank (right_when k wanted) y)
     ≡ sum_when (complement_of k) x y
-complement_kept (Both s t) wanted x y e = rw (other_in s wanted x e, other_in t wanted y e) refl
-complement_kept (Either s t) wanted x y e = rw (other_in s wanted x e, other_in t wanted y e) refl
-complement_kept (EitherWay s) wanted x y e = grind (arith, or_right, same_sides, either_is)
+complement_kept z wanted x y e = grind (arith, other_in, or_right, same_sides, either_is)
 
 where_same : (wanted : Bool) (ps qs : List Product) → (wanted ≡ true → ps ≡ qs)
     → where_wanted wanted ps ≡ where_wanted wanted qs

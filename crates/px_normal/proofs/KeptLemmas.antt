@@ -1,22 +1,15 @@
 -- What is kept of a list with one element more, and of what is crossed with it.
-use Rattle.px_num.proofs.Basics.{arith, ℕ, ◌≡◌, ◌<◌, ◌+◌, Bool, List, [], ◌∷◌, ◌++◌, append_assoc, ap, sym, ◌∙◌, get_or}
-use Rattle.px_num.proofs.Basics.{length, map, take, nat_tests, common_steps, filter, map-append, take_more}
+use Rattle.px_num.proofs.Basics.{arith, ℕ, ◌≡◌, ◌<◌, ◌+◌, Bool, List, [], ◌∷◌, ◌++◌, append_assoc, ap, sym, ◌∙◌}
+use Rattle.px_num.proofs.Basics.{get_or, length, map, take, nat_tests, common_steps, filter, map-append, take_more}
 use Rattle.px_num.proofs.Basics.{filter-append}
-use Rattle.px_normal.specs.declared.product.Product.{Product}
+use Rattle.px_normal.proofs.Words.{both, Product, products_in}
 use Rattle.px_normal.specs.declared.live.Boxed.{Boxed}
-use Rattle.px_normal.specs.Forms.{both}
-use Rattle.px_normal.specs.Boxed.{products_in}
 
 module _ (test : Product → Bool) where
   kept_more : (products : List Product) (i : ℕ) (product : Product) → i < length products
       → filter test (take (i + 1) products)
       ≡ filter test (take i products) ++ filter test (get_or products i product ∷ [])
   kept_more products i product within = grind (arith, nat_tests, common_steps, take_more, filter-append)
-
-  kept_more_with : (p : Product) (list : List Boxed) (i : ℕ) (q : Boxed) → i < length list
-      → filter test (map (both p) (products_in (take (i + 1) list)))
-      ≡ filter test (map (both p) (products_in (take i list))) ++ filter test (both p (get_or list i q).product ∷ [])
-  kept_more_with p list i q within = grind (arith, nat_tests, common_steps, take_more, map-append, filter-append)
 
   appended : (start before now kept one all : List Product) → now ≡ before ++ one → before ≡ start ++ kept
       → all ≡ kept ++ one → now ≡ start ++ all
@@ -35,4 +28,5 @@ module _ (test : Product → Bool) where
       → before ≡ start ++ filter test (map (both p) (products_in (take i list)))
       → now ≡ start ++ filter test (map (both p) (products_in (take (i + 1) list)))
   added_with start before now p list i q within one known =
-      appended start before now _ _ _ one known (kept_more_with p list i q within)
+      appended start before now _ _ _ one known
+      (grind (arith, nat_tests, common_steps, take_more, map-append, filter-append))

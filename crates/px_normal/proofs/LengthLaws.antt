@@ -1,8 +1,7 @@
 -- How long crossed lists are, and what a product of numbers is at least.
 use Rattle.px_num.proofs.Basics.{ℕ, ◌≡◌, ◌≤◌, ◌*◌, List, [], ◌∷◌, length, arith, map, length-append, mul-le-mul}
 use Rattle.px_num.proofs.Basics.{length-map}
-use Rattle.px_normal.specs.declared.product.Product.{Product}
-use Rattle.px_normal.specs.Forms.{both, crossed}
+use Rattle.px_normal.proofs.Words.{both, crossed, Product}
 
 pub length-crossed : (ps qs : List Product) → length (crossed ps qs) ≡ length ps * length qs
 length-crossed [] qs = grind arith

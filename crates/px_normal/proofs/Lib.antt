@@ -6,3 +6,4 @@ pub mod LengthLaws
 pub mod LiveLemmas
 pub mod NormalLemmas
 pub mod ShorterLemmas
+pub mod Words

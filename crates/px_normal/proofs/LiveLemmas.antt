@@ -1,37 +1,20 @@
 -- Live products: a product of both is live only where each is, and one that holds at a place is live.
 use Rattle.px_num.proofs.Basics.{nat_tests, common_steps, ℕ, ◌≡◌, ◌<◌, ◌&&◌, not, Bool, true, false, List, [], ◌∷◌}
-use Rattle.px_num.proofs.Basics.{◌++◌, refl, ap, sym, ◌∙◌, arith, map, fold, max, min, nat_le, Option, Some, None}
-use Rattle.px_num.proofs.Basics.{list_all, list_any, filter, filter-append}
+use Rattle.px_num.proofs.Basics.{◌++◌, refl, ap, sym, ◌∙◌, arith, map, fold, min, nat_le, Option, Some, None, list_all}
+use Rattle.px_num.proofs.Basics.{filter, filter-append}
+use Rattle.px_normal.proofs.Words.{all-each, all-joined, and_left, and_right, both, box_of_all, Cell, CellBox}
+use Rattle.px_normal.proofs.Words.{Combination, combination_of, combined_forms, complement_of, crossed, Forms, has}
+use Rattle.px_normal.proofs.Words.{has-joined, has_some_cell, holds, is_void, live, not_both, not_false, Op, or_left}
+use Rattle.px_normal.proofs.Words.{or_right, Product, Sense, sets_joined, shows, solids, SolidSet, sum_in, sum_when}
 use Rattle.std.proofs.lemmas.Map.Views.{any-filter_same}
-use Rattle.px_num.proofs.TruthLaws.{and_left, and_right, not_both, not_false, not_true, or_left, or_right}
-use Rattle.px_expr.specs.Cells.{Cell, combination_of, complement_of}
-use Rattle.px_expr.specs.declared.node.Op.{Op}
-use Rattle.px_expr.specs.declared.node.Sense.{Sense}
-use Rattle.px_expr.specs.declared.node.Sense.TheVariants.{Plain, Complement}
-use Rattle.px_expr.specs.declared.node.Combination.{Combination}
-use Rattle.px_expr.specs.declared.node.Combination.TheVariants.{Both, Either, EitherWay}
-use Rattle.px_sets.specs.declared.cell_box.CellBox.{CellBox}
-use Rattle.px_sets.specs.declared.set.SolidSet.{SolidSet}
-use Rattle.px_normal.specs.declared.product.Product.{Product}
-use Rattle.px_sets.specs.Sets.{has, sets_joined, solids}
 use Rattle.px_sets.specs.Boxes.{lies_in, has_cell, common_part, everything, narrowed, is_in_box}
-use Rattle.px_normal.specs.Forms.{Forms, both, crossed, combined_forms, sum_in, sum_when}
-use Rattle.px_normal.specs.NormalLaw.{holds, shows}
-use Rattle.px_normal.specs.Live.{is_void, box_of_all, has_some_cell, is_live, live}
+use Rattle.px_normal.specs.Live.{is_live}
 use Rattle.px_normal.specs.LiveLaw.{IsPlaceInBoxes, ShowTheSame}
 use Rattle.px_sets.proofs.BoxLaws.{in_everything, in_narrowed}
-use Rattle.px_sets.proofs.BitsLaws.{has-joined}
 use Rattle.px_sets.proofs.MeetsLaws.{no_void}
-use Rattle.px_sets.proofs.SolidsLaws.{all-each, all-joined}
 
 and_mono : {a b c d : Bool} → (a ≡ true → c ≡ true) → (b ≡ true → d ≡ true) → a && b ≡ true → c && d ≡ true
 and_mono {a = a} {b = b} first second e = rw (first (and_left a b e), second (and_right a b e)) refl
-
-least_past : (m n x : ℕ) → nat_le (max m n) x ≡ true → nat_le m x ≡ true
-least_past m n x e = grind arith
-
-least_other : (m n x : ℕ) → nat_le (max m n) x ≡ true → nat_le n x ≡ true
-least_other m n x e = grind arith
 
 most_past : (m n x : ℕ) → nat_le x (min m n) ≡ true → nat_le x m ≡ true
 most_past m n x e = grind arith
@@ -42,20 +25,17 @@ most_other m n x e = grind arith
 -- cells of a common part
 module _ (x y z : ℕ) where
   in_first : (a b : CellBox) → lies_in (common_part a b) x y z ≡ true → lies_in a x y z ≡ true
-  in_first a b e = grind (arith, and_mono, least_past, most_past)
+  in_first a b e = grind (arith, and_mono, most_past)
 
   in_second : (a b : CellBox) → lies_in (common_part a b) x y z ≡ true → lies_in b x y z ≡ true
-  in_second a b e = grind (arith, and_mono, least_other, most_other)
+  in_second a b e = grind (arith, and_mono, most_other)
 
   of_narrowed : (a b : Option CellBox) → is_in_box (narrowed a b) x y z ≡ true → (is_in_box a x y z ≡ true)
       × (is_in_box b x y z ≡ true)
-  of_narrowed (Some a) (Some b) e = (in_first a b e, in_second a b e)
-  of_narrowed (Some a) None e = absurd cc
-  of_narrowed None b e = absurd cc
+  of_narrowed x y e = grind (arith, in_first, in_second)
 
   has_the_cell : (box : Option CellBox) → is_in_box box x y z ≡ true → has_some_cell box ≡ true
-  has_the_cell None e = e
-  has_the_cell (Some b) e = grind arith
+  has_the_cell x e = grind arith
 
   module _ (boxes : ℕ → Option CellBox) where
     in_all : (start : Option CellBox) (qs : List ℕ) → is_in_box start x y z ≡ true
@@ -151,12 +131,6 @@ unfolding is_live
 live_by_parts boxes p q first second one other =
     rw (one, other) (ap (λ test. not (is_void (both p q)) && test) (part_of_both boxes p.plain q.plain))
 
--- no solid is both plain and barred
-apart_from : (plain barred more others : SolidSet) → ((q : ℕ) → q < 256 → has plain q ≡ true → has more q ≡ true)
-    → ((q : ℕ) → q < 256 → has barred q ≡ true → has others q ≡ true)
-    → list_any (has others) (solids more) ≡ false → list_any (has barred) (solids plain) ≡ false
-apart_from plain barred more others within beyond apart = grind (arith, no_void, all-each, not_false)
-
 module _ (boxes : ℕ → Option CellBox) where
   -- a product of some of the solids of a live one is live
   live_of_more : (p more : Product) → ((q : ℕ) → q < 256 → has p.plain q ≡ true → has more.plain q ≡ true)
@@ -164,9 +138,7 @@ module _ (boxes : ℕ → Option CellBox) where
       → is_live boxes more ≡ true → is_live boxes p ≡ true
   unfolding is_live
   live_of_more p more plain barred live =
-      let apart : is_void p ≡ false = apart_from p.plain p.barred more.plain more.barred plain barred
-      (not_true (is_void more)
-      (and_left (not (is_void more)) (has_some_cell (box_of_all boxes (solids more.plain))) live))
+      let apart : is_void p ≡ false = grind (arith, no_void, all-each, not_false)
       in let some : has_some_cell (box_of_all boxes (solids p.plain)) ≡ true =
       fewer_solids boxes (solids p.plain) (solids more.plain)
       (λ test all. (all-each test p.plain).1 (λ q lt there. (all-each test more.plain).0 all q lt (plain q lt there)))
@@ -228,14 +200,11 @@ module _ (boxes : ℕ → Option CellBox) where
   of_both = kept_crossed (is_live boxes) (live_left boxes) (live_right boxes)
 
   kept_in : (sense : Sense) (x : Forms) → sum_in sense (live boxes x) ≡ filter (is_live boxes) (sum_in sense x)
-  kept_in Plain x = refl
-  kept_in Complement x = refl
+  kept_in y x = grind arith
 
   kept_when : (k : Combination) (x y : Forms) → filter (is_live boxes) (sum_when k x y)
       ≡ filter (is_live boxes) (sum_when k (live boxes x) (live boxes y))
-  kept_when (Both s t) x y = rw (kept_in s x, kept_in t y) (of_both (sum_in s x) (sum_in t y))
-  kept_when (Either s t) x y = rw (kept_in s x, kept_in t y) (of_either (sum_in s x) (sum_in t y))
-  kept_when (EitherWay s) x y = grind (arith, kept_in, kept_both, of_both)
+  kept_when z x y = grind (arith, kept_in, of_both, of_either, kept_both)
 
   forms_are : (a b c d : List Product) → a ≡ c → b ≡ d → ◌≡◌ {A = Forms} (record { products = a; complement = b })
       (record { products = c; complement = d })

@@ -2,33 +2,18 @@
 use Rattle.px_num.proofs.Basics.{ℕ, ◌≡◌, ◌<◌, ◌==◌, ◌||◌, ◌&&◌, not, Bool, true, false, List, [], ◌∷◌, ◌++◌, length}
 use Rattle.px_num.proofs.Basics.{refl, sym, ◌∙◌, arith, inl, inr, list_any, All, list_any-append, All-nil, All-cons}
 use Rattle.px_num.proofs.Basics.{All-append}
-use Rattle.px_num.proofs.TruthLaws.{or_cases, or_true}
-use Rattle.px_expr.specs.Tree.{Tree, leaf, join, HasLeavesBelow}
-use Rattle.px_expr.specs.Cells.{Cell, cell, where_true, has_face, shown_in, shown_when, own_faces}
-use Rattle.px_expr.specs.Cells.{combined as cells_combined, combination_of, complement_of, opposite, truth_in}
-use Rattle.px_expr.specs.Cells.{truth_when}
+use Rattle.px_normal.proofs.Words.{all-empty, all-joined, all-one, any-empty, any-joined, any-one, barred_one, both}
+use Rattle.px_normal.proofs.Words.{Both, Cell, cell, Combination, combination_of, combined_forms, complement_of}
+use Rattle.px_normal.proofs.Words.{crossed, Either, EitherWay, empty, forms, Forms, has, has-empty, has-joined}
+use Rattle.px_normal.proofs.Words.{has-one, has_face, HasLeavesBelow, HasPlain, HasSolidsBelow, holds, IsBelow}
+use Rattle.px_normal.proofs.Words.{IsNormalForm, join, leaf, none_of_none, one, Op, opposite, or_cases, or_true}
+use Rattle.px_normal.proofs.Words.{own_faces, plain_one, Product, Sense, sets_joined, shown_in, shown_when, shows}
+use Rattle.px_normal.proofs.Words.{solids, SolidSet, sum_in, sum_of_products, sum_when, Tree, truth_in, truth_when}
+use Rattle.px_normal.proofs.Words.{where_true}
+use Rattle.px_expr.specs.Cells.{combined as cells_combined}
 use Rattle.px_expr.proofs.CombinationLaws.{truth_of_complement}
-use Rattle.px_expr.proofs.OperatorLaws.{none_of_none}
-use Rattle.px_expr.specs.declared.node.Op.{Op}
-use Rattle.px_expr.specs.declared.node.Sense.{Sense}
 use Rattle.px_expr.specs.declared.node.Sense.TheVariants.{Plain, Complement}
-use Rattle.px_expr.specs.declared.node.Combination.{Combination}
-use Rattle.px_expr.specs.declared.node.Combination.TheVariants.{Both, Either, EitherWay}
-use Rattle.px_sets.specs.declared.set.SolidSet.{SolidSet}
-use Rattle.px_normal.specs.declared.product.Product.{Product}
-use Rattle.px_sets.specs.Sets.{has, empty, one, sets_joined, solids, IsBelow}
-use Rattle.px_normal.specs.Forms.{Forms, forms, combined_forms, both, crossed, sum_in, sum_when, sum_of_products}
-use Rattle.px_normal.specs.Forms.{plain_one, barred_one, HasPlain, HasSolidsBelow}
-use Rattle.px_normal.specs.NormalLaw.{holds, shows, IsNormalForm}
-use Rattle.px_sets.proofs.BitsLaws.{has-joined, has-one, has-empty}
 use Rattle.px_normal.proofs.CrossedLemmas.{any_crossed, shown_crossed, each_crossed}
-use Rattle.px_sets.proofs.SolidsLaws.{all-joined, any-joined, all-empty, any-empty, all-one, any-one}
-
-holds_both : (at : ℕ → Cell) (p q : Product) → holds at (both p q) ≡ holds at p && holds at q
-holds_both at p q = grind (arith, all-joined)
-
-shows_both : (at : ℕ → Cell) (n : ℕ) (p q : Product) → shows at n (both p q) ≡ shows at n p || shows at n q
-shows_both at n p q = grind (arith, any-joined)
 
 face_append : (n : ℕ) (xs ys : List ℕ) → has_face n (xs ++ ys) ≡ has_face n xs || has_face n ys
 face_append n xs ys = list_any-append (λ m. m == n) xs ys
@@ -41,43 +26,29 @@ face_own : (n : ℕ) (c : Cell) → has_face n (own_faces c) ≡ (c.member && ha
     || (not c.member && has_face n c.hidden)
 face_own n c = grind arith
 
-is_of_leaf : (at : ℕ → Cell) (q : ℕ) → q < 256 → IsNormalForm at (forms (leaf q)) (at q)
-is_of_leaf at q lt = grind (arith, all-one, all-empty, any-one, any-empty)
-
 -- what is said of a side is said of it in either sense
 module _ (at : ℕ → Cell) (f : Forms) (c : Cell) (is : IsNormalForm at f c) where
   members_in : (sense : Sense) → list_any (holds at) (sum_in sense f) ≡ truth_in sense c.member
-  members_in Plain = is.members
-  members_in Complement = is.others
+  members_in x = grind arith
 
   shows_in : (sense : Sense) (n : ℕ) → list_any (λ x. holds at x && shows at n x) (sum_in sense f)
       ≡ truth_in sense c.member && has_face n (shown_in sense c)
-  shows_in Plain n = is.shown n
-  shows_in Complement n = is.hidden n
-
-both_show : (a b xs ys : Bool) → ((a && xs) && b) || (a && (b && ys)) ≡ (a && b) && (xs || ys)
-both_show a b xs ys = grind arith
-
-either_shows : (a b xs ys : Bool) → (a && xs) || (b && ys) ≡ (a || b) && ((a && xs) || (b && ys))
-either_shows a b xs ys = grind arith
+  shows_in x n = grind arith
 
 module _ (at : ℕ → Cell) (f g : Forms) (c d : Cell) (p : IsNormalForm at f c) (q : IsNormalForm at g d) where
   -- the products of both, and what they show
   of_both : (ps qs : List Product) → list_any (holds at) (crossed ps qs) ≡ list_any (holds at) ps
       && list_any (holds at) qs
-  of_both = any_crossed (holds at) (shows at 0) (holds_both at) (shows_both at 0)
+  of_both = any_crossed (holds at) (shows at 0) (grind (arith, all-joined)) (grind (arith, any-joined))
 
   shown_of_both : (n : ℕ) (ps qs : List Product) → list_any (λ x. holds at x && shows at n x) (crossed ps qs)
       ≡ (list_any (λ x. holds at x && shows at n x) ps && list_any (holds at) qs)
       || (list_any (holds at) ps && list_any (λ x. holds at x && shows at n x) qs)
-  shown_of_both n = shown_crossed (holds at) (shows at n) (holds_both at) (shows_both at n)
+  shown_of_both n = shown_crossed (holds at) (shows at n) (grind (arith, all-joined)) (grind (arith, any-joined))
 
   -- the products of a combination hold where it has the cell
   members_when : (k : Combination) → list_any (holds at) (sum_when k f g) ≡ truth_when k c.member d.member
-  members_when (Both s t) = of_both (sum_in s f) (sum_in t g) ∙ rw (members_in at f c p s, members_in at g d q t) refl
-  members_when (Either s t) =
-      list_any-append (holds at) (sum_in s f) (sum_in t g) ∙ rw (members_in at f c p s, members_in at g d q t) refl
-  members_when (EitherWay s) = grind (arith, list_any-append, of_both, members_in)
+  members_when x = grind (arith, of_both, members_in, list_any-append)
 
   -- and show the faces that it shows there
   shown_either_way : (s : Sense) (n : ℕ) → list_any (λ x. holds at x && shows at n x) (sum_when (EitherWay s) f g)
@@ -89,19 +60,25 @@ module _ (at : ℕ → Cell) (f g : Forms) (c d : Cell) (p : IsNormalForm at f c
 
   shows_when : (k : Combination) (n : ℕ) → list_any (λ x. holds at x && shows at n x) (sum_when k f g)
       ≡ truth_when k c.member d.member && has_face n (shown_when k c d)
-  shows_when (Both s t) n = grind (arith, shown_of_both, shows_in, members_in, face_append, both_show)
-  shows_when (Either s t) n = grind (arith, list_any-append, shows_in, face_append, face_where, either_shows)
-  shows_when (EitherWay Plain) n =
-      shown_either_way Plain n ∙ rw (face_append n, face_own n c, face_own n d) (grind arith)
-  shows_when (EitherWay Complement) n =
-      shown_either_way Complement n ∙ rw (face_append n, face_own n c, face_own n d) (grind arith)
+  shows_when x n =
+      grind (
+        arith,
+        shown_of_both,
+        shows_in,
+        members_in,
+        face_append,
+        list_any-append,
+        face_where,
+        shown_either_way,
+        face_own,
+      )
 
   is_of_combined : (op : Op) → IsNormalForm at (combined_forms op f g) (cells_combined op c d)
   is_of_combined op = grind (arith, truth_of_complement, members_when, shows_when)
 
 pub is_normal_form : (at : ℕ → Cell) (tree : Tree) → HasLeavesBelow 256 tree
     → IsNormalForm at (forms tree) (cell at tree)
-is_normal_form at (leaf solid) below = is_of_leaf at solid below
+is_normal_form at (leaf solid) below = grind (arith, all-one, all-empty, any-one, any-empty)
 is_normal_form at (join op left right) below =
     is_of_combined at _ _ _ _ (is_normal_form at left below.0) (is_normal_form at right below.1) op
 
@@ -117,9 +94,6 @@ some_any (x ∷ xs) any = omega arith
 plain_both : (p q : Product) → HasPlain p → HasPlain (both p q)
 plain_both p q plain = some_any _ (rw (any-joined (λ _. true) p.plain q.plain, any_some (solids p.plain) plain) refl)
 
-plain_right : (p q : Product) → HasPlain q → HasPlain (both p q)
-plain_right p q plain = grind (arith, some_any, any-joined, any_some, or_true)
-
 anything : (ps : List Product) → All (λ _. Unit {0}) ps
 anything ps = λ i any lt. tt
 
@@ -130,7 +104,8 @@ plain_when (Both Plain t) x y none left right =
     each_crossed HasPlain (λ _. Unit {0}) HasPlain (λ p q plain _. plain_both p q plain) x.products (sum_in t y) left
     (anything (sum_in t y))
 plain_when (Both Complement Plain) x y none left right =
-    each_crossed (λ _. Unit {0}) HasPlain HasPlain (λ p q _ plain. plain_right p q plain) x.complement y.products
+    each_crossed (λ _. Unit {0}) HasPlain HasPlain
+    (λ p q _ plain. grind (arith, some_any, any-joined, any_some, or_true)) x.complement y.products
     (anything x.complement) right
 plain_when (Both Complement Complement) x y none left right = absurd cc
 plain_when (Either Plain Plain) x y none left right = All-append HasPlain x.products y.products left right
@@ -141,7 +116,8 @@ plain_when (EitherWay Complement) x y none left right =
     All-append HasPlain (crossed x.products y.complement) (crossed x.complement y.products)
     (each_crossed HasPlain (λ _. Unit {0}) HasPlain (λ p q plain _. plain_both p q plain) x.products y.complement left
     (anything y.complement))
-    (each_crossed (λ _. Unit {0}) HasPlain HasPlain (λ p q _ plain. plain_right p q plain) x.complement y.products
+    (each_crossed (λ _. Unit {0}) HasPlain HasPlain
+    (λ p q _ plain. grind (arith, some_any, any-joined, any_some, or_true)) x.complement y.products
     (anything x.complement) right)
 
 pub all_plain : (tree : Tree) → HasLeavesBelow 256 tree → All HasPlain (sum_of_products tree)

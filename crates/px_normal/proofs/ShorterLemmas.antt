@@ -2,22 +2,13 @@
 use Rattle.px_num.proofs.Basics.{ℕ, ◌≡◌, ◌≤◌, Bool, true, false, List, [], ◌∷◌, ◌++◌, length, length-append, nat_lt}
 use Rattle.px_num.proofs.Basics.{refl, arith, Option, None, All, filter, nat_tests, All-nil, All-cons, All-append}
 use Rattle.px_num.proofs.Basics.{All-head, All-tail, length-filter, count_by-le-length}
-use Rattle.px_expr.specs.Tree.{Tree, leaf, join}
-use Rattle.px_expr.specs.Cells.{combination_of, complement_of, opposite}
-use Rattle.px_expr.proofs.OperatorLaws.{IsOneWay, one_way}
-use Rattle.px_expr.specs.declared.node.Sense.{Sense}
-use Rattle.px_expr.specs.declared.node.Sense.TheVariants.{Plain, Complement}
-use Rattle.px_expr.specs.declared.node.Combination.{Combination}
-use Rattle.px_expr.specs.declared.node.Combination.TheVariants.{Both, Either, EitherWay}
-use Rattle.px_sets.specs.declared.cell_box.CellBox.{CellBox}
-use Rattle.px_normal.specs.declared.product.Product.{Product}
-use Rattle.px_normal.specs.declared.step.Wanted.{Wanted}
-use Rattle.px_normal.specs.Forms.{Forms, crossed, forms, sum_in, sum_when, sum_of_products}
-use Rattle.px_normal.specs.Crowd.{both_lists, crowd, first_past_limit, of_left, of_right, of_root, wanted_forms}
-use Rattle.px_normal.specs.Crowd.{left_when, right_when, wanted_in, wanted_lists, where_wanted}
+use Rattle.px_normal.proofs.Words.{Both, both_lists, CellBox, Combination, combination_of, complement_of, crossed}
+use Rattle.px_normal.proofs.Words.{crowd, Either, EitherWay, first_past_limit, forms, Forms, IsOneWay, join, leaf}
+use Rattle.px_normal.proofs.Words.{left_when, MAX_PRODUCTS, of_left, of_right, of_root, one_way, opposite, Product}
+use Rattle.px_normal.proofs.Words.{right_when, Sense, sum_in, sum_of_products, sum_when, Tree, Wanted, wanted_forms}
+use Rattle.px_normal.proofs.Words.{wanted_in, wanted_lists, where_wanted}
 use Rattle.px_normal.specs.CrowdLaw.{HasNoDiffer}
 use Rattle.px_normal.proofs.LengthLaws.{at_least, length-crossed}
-use Rattle.px_normal.specs.declared.product.TheConstants.{MAX_PRODUCTS}
 
 left_appended : (n : ℕ) (ps qs : List Product) → length (ps ++ qs) ≤ n → length ps ≤ n
 left_appended n ps qs few = omega (arith, length-append ps qs)
@@ -45,13 +36,10 @@ record HasSome (x : Forms) : Type 0 where
   complement : 1 ≤ length x.complement
 
 some_in : (sense : Sense) (x : Forms) → HasSome x → 1 ≤ length (sum_in sense x)
-some_in Plain x some = some.products
-some_in Complement x some = some.complement
+some_in y x some = grind arith
 
 some_when : (k : Combination) (x y : Forms) → HasSome x → HasSome y → 1 ≤ length (sum_when k x y)
-some_when (Both s t) x y left right = some_crossed _ _ (some_in s x left) (some_in t y right)
-some_when (Either s t) x y left right = some_appended _ _ (some_in s x left)
-some_when (EitherWay s) x y left right = some_appended _ _ (some_crossed _ _ left.products (some_in s y right))
+some_when z x y left right = grind (arith, some_crossed, some_in, some_appended)
 
 some_forms : (tree : Tree) → HasSome (forms tree)
 some_forms (leaf solid) = record { products = omega arith; complement = omega arith }
@@ -67,8 +55,7 @@ within_in : (limit : ℕ) (sense : Sense) (wanted : Wanted) (x : Forms)
     → (wanted.products ≡ true → length (sum_in sense x) ≤ limit)
     → (wanted.complement ≡ true → length (sum_in (opposite sense) x) ≤ limit)
     → IsWithin limit (wanted_in sense wanted) x
-within_in limit Plain wanted x own other = record { products = own; complement = other }
-within_in limit Complement wanted x own other = record { products = other; complement = own }
+within_in limit y wanted x own other = grind arith
 
 -- the wanted lists of a combination of two sides are within a limit
 record IsWithinBy (limit : ℕ) (wanted : Wanted) (k : Combination) (x y : Forms) : Type 0 where
@@ -109,13 +96,9 @@ module _ (boxes : ℕ → Option CellBox) (limit : ℕ) where
   both_short ps qs p q =
       All-cons (IsShort limit) ps (qs ∷ []) p (All-cons (IsShort limit) qs [] q (All-nil (IsShort limit)))
 
-  own_within : (wanted : Wanted) (x : Forms) → IsWithin limit wanted x
-      → All (IsShort limit) (both_lists (wanted_forms boxes wanted x))
-  own_within wanted x is = grind (arith, both_short, kept_within)
-
   all_within : (wanted : Wanted) (tree : Tree) → HasNoDiffer tree → IsWithin limit wanted (forms tree)
       → All (IsShort limit) (wanted_lists boxes wanted tree)
-  all_within wanted (leaf solid) none is = own_within wanted (forms (leaf solid)) is
+  all_within wanted (leaf solid) none is = grind (arith, both_short, kept_within)
   all_within wanted (join op left right) none is =
       let x = forms left in let y = forms right
       in let some_x = some_forms left in let some_y = some_forms right
@@ -126,7 +109,7 @@ module _ (boxes : ℕ → Option CellBox) (limit : ℕ) where
       (All-append (IsShort limit) l r
       (all_within (of_left op wanted) left none.1 (left_within limit x y some_x some_y k wanted one by))
       (all_within (of_right op wanted) right none.2 (right_within limit x y some_x some_y k wanted one by)))
-      (own_within wanted (forms (join op left right)) is)
+      (grind (arith, both_short, kept_within))
 
 none_past : (lists : List (List Product)) → All (IsShort MAX_PRODUCTS) lists → first_past_limit lists ≡ None
 none_past [] all = refl
@@ -135,15 +118,12 @@ none_past (list ∷ lists) all = rw (within (length list) (All-head (IsShort MAX
       within : (n : ℕ) → n ≤ MAX_PRODUCTS → nat_lt MAX_PRODUCTS n ≡ false
       within n few = grind (arith, nat_tests)
 
-root_within : (limit : ℕ) (tree : Tree) → length (sum_of_products tree) ≤ limit → IsWithin limit of_root (forms tree)
-root_within limit tree few = grind arith
-
 pub all_shorter : (boxes : ℕ → Option CellBox) (tree : Tree) → HasNoDiffer tree
     → All (λ list. length list ≤ length (sum_of_products tree)) (wanted_lists boxes of_root tree)
 all_shorter boxes tree none =
-    all_within boxes (length (sum_of_products tree)) of_root tree none (root_within _ tree (omega arith))
+    all_within boxes (length (sum_of_products tree)) of_root tree none (grind arith)
 
 pub never_crowded : (boxes : ℕ → Option CellBox) (tree : Tree) → HasNoDiffer tree → length (sum_of_products tree)
     ≤ MAX_PRODUCTS → crowd boxes tree ≡ None
 never_crowded boxes tree none few =
-    none_past _ (all_within boxes MAX_PRODUCTS of_root tree none (root_within MAX_PRODUCTS tree few))
+    none_past _ (all_within boxes MAX_PRODUCTS of_root tree none (grind arith))

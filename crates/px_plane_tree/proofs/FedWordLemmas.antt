@@ -2,13 +2,8 @@
 use Rattle.px_num.proofs.Basics.{nat_tests, common_steps, ◌≡◌, ℕ, zero, suc, ◌+◌, ◌*◌, ◌/◌, ◌%◌, ◌<◌, ◌≤◌, Bool, true}
 use Rattle.px_num.proofs.Basics.{false, cond, ◌&&◌, eqb, nat_lt, List, length, get_or, refl, sym, ap, ◌∙◌, arith, inl}
 use Rattle.px_num.proofs.Basics.{inr, cases_lt, le-ltb, lt-ltb}
-use Rattle.std.proofs.lemmas.Bool.{ne_eqb}
-use Rattle.px_num.specs.Bits.{nat_bit}
-use Rattle.px_num.proofs.TruthLaws.{and_false, and_true}
-use Rattle.px_tree.specs.declared.node.Node.{Node}
-use Rattle.px_tree.specs.Nodes.{next_node}
-use Rattle.px_rows.specs.Rows.{row_bit}
-use Rattle.px_plane_tree.specs.Heap.{IsFedWord, IsHeap, line_at, line_bit, next_row, node_of, parent_bit}
+use Rattle.px_plane_tree.proofs.Words.{and_false, and_true, IsFedWord, IsHeap, line_at, line_bit, nat_bit, ne_eqb}
+use Rattle.px_plane_tree.proofs.Words.{next_node, next_row, Node, node_of, parent_bit, row_bit}
 
 -- ---- by words
 

@@ -2,11 +2,8 @@
 use Rattle.px_num.proofs.Basics.{◌≡◌, ℕ, ◌+◌, ◌-◌, ◌*◌, ◌/◌, ◌%◌, ◌<◌, ◌≤◌, Bool, true, false, cond, ◌&&◌, eqb, nat_lt}
 use Rattle.px_num.proofs.Basics.{List, get_or, refl, sym, ap, subst, ◌∙◌, arith, inl, inr, bit_and, bit_or, cases_lt}
 use Rattle.px_num.proofs.Basics.{agree_below_at}
-use Rattle.px_num.specs.Bits.{nat_bit}
-use Rattle.px_tree.specs.Nodes.{next_node}
-use Rattle.px_rows.proofs.BitLaws.{bit-and, bit-or}
-use Rattle.px_plane_tree.specs.Lanes.{IsDoubled, IsPart}
-use Rattle.px_plane_tree.specs.Heap.{IsFedWord, IsSameBut, IsFedTwo, IsFed, IsFedFirst, parent_bit, rows}
+use Rattle.px_plane_tree.proofs.Words.{bit-and, bit-or, IsDoubled, IsFed, IsFedFirst, IsFedTwo, IsFedWord, IsPart}
+use Rattle.px_plane_tree.proofs.Words.{IsSameBut, nat_bit, next_node, parent_bit, rows}
 
 pub moved : (line parent : ℕ → Bool) (w a b c x y z : ℕ) → a ≡ x → b ≡ y → c ≡ z → IsFedWord line parent w a b c
     → IsFedWord line parent w x y z
@@ -41,11 +38,6 @@ module _ (line : ℕ → ℕ → Bool) (at : ℕ) (both outputs carries new_outp
             ∙ ap (λ (p : Bool).
             (next_node (eqb (j % 2) 1) p (line (w - at) j) (nat_bit (get_or carries w 0) j)).carry) same));
       }
-
--- two times two words
-pub same_twice : (from middle to : ℕ) (a b c : List ℕ) → from ≤ middle → middle ≤ to → IsSameBut from middle a b
-    → IsSameBut middle to b c → IsSameBut from to a c
-same_twice from middle to a b c h k p q = grind arith
 
 pub pair_law : (line : Bool) (h : ℕ) (outputs carries parents first second o k new_outputs new_carries : List ℕ)
     → IsPart h outputs parents → IsDoubled (get_or parents 0 0) first → IsDoubled (get_or parents 1 0) second
@@ -161,6 +153,6 @@ first_law lines c outputs carries first second part part2 o k new_outputs new_ca
         (parent_bit c outputs (w / 2)) refl
         (λ i j a b. d2.each i j a b ∙ ap (λ n. parent_bit c outputs n (32 * i + j / 2)) (sym half)) w g (omega arith)))
   ];
-  outputs_rest = same_twice 0 2 4 outputs o new_outputs (omega arith) (omega arith) t1.outputs_rest t2.outputs_rest;
-  carries_rest = same_twice 0 2 4 carries k new_carries (omega arith) (omega arith) t1.carries_rest t2.carries_rest;
+  outputs_rest = grind arith;
+  carries_rest = grind arith;
 }

@@ -3,11 +3,8 @@ use Rattle.px_num.proofs.Basics.{◌≡◌, ◌≢◌, ℕ, suc, ◌+◌, ◌-�
 use Rattle.px_num.proofs.Basics.{length-set, get_or, set, zero, refl, sym, ap, subst, ◌∙◌, arith, inl, inr}
 use Rattle.px_num.proofs.Basics.{get_or-set_same, get_or-set_other, cases_eq, cases_lt, le-ltb, lt-ltb, pow-add}
 use Rattle.px_num.proofs.Basics.{one-le-pow}
-use Rattle.px_num.specs.Bits.{nat_bit}
-use Rattle.px_num.proofs.TruthLaws.{double_pow, power_grows}
-use Rattle.px_tree.specs.declared.lines.Lines.{Lines}
-use Rattle.px_plane_tree.specs.Heap.{AreStill, HasLines, HasOdd, IsAtRest, IsFed, IsFedFirst, IsFedHeap, IsFedWord}
-use Rattle.px_plane_tree.specs.Heap.{rows, IsHeap, level_line, parent_bit}
+use Rattle.px_plane_tree.proofs.Words.{AreStill, double_pow, HasLines, IsAtRest, IsFed, IsFedFirst, IsFedHeap}
+use Rattle.px_plane_tree.proofs.Words.{IsFedWord, IsHeap, level_line, Lines, nat_bit, parent_bit, power_grows, rows}
 use Rattle.px_plane_tree.proofs.FedWordLemmas.{WordFed, node_law, place_line, same_line, same_parent, same_word}
 use Rattle.px_plane_tree.proofs.FedWordLemmas.{still_heap}
 use Rattle.px_plane_tree.proofs.HeapLemmas.{moved}
@@ -40,12 +37,6 @@ pub record IsFedDown (nx : ℕ) (now : Lines) (u : ℕ) (old new : Levels) : Typ
   pub carries_stay : (v : ℕ) → u ≤ v → v < length old.still → get_or new.still v false ≡ true → (w : ℕ)
       → 2 ^ (v + 1) ≤ w → w < 2 ^ (v + 2) → get_or new.carries w 0 ≡ get_or old.carries w 0
   pub still_rest : (v : ℕ) → v < u → get_or new.still v false ≡ get_or old.still v false
-
--- the place from which levels were fed, as one more than that of the level that comes next
-pub at_next : (nx : ℕ) (now : Lines) (u : ℕ) (outputs carries : List ℕ) (still : List Bool) (o k : List ℕ)
-    (s : List Bool) → 1 ≤ u → IsFedDown nx now u (levels outputs carries still) (levels o k s)
-    → IsFedDown nx now (u - 1 + 1) (levels outputs carries still) (levels o k s)
-at_next nx now u outputs carries still o k s some before = grind arith
 
 -- the line of a word is that of its level
 pub level_place_line : (nx : ℕ) (lines : Lines) (u w j : ℕ) → 4 ≤ w → 2 ^ (u + 1) ≤ w → w < 2 ^ (u + 2) → j < 64
@@ -224,7 +215,6 @@ module _ (nx : ℕ) (now : Lines) (heads outputs carries : List ℕ) (still : Li
               let in_still : suc u < length still = omega (arith, within, length-set s 0 r, long) in
               let half : 2 ^ (u + 2) ≡ 2 * 2 ^ (u + 1) = power_of (u + 2) (u + 1) (omega arith) in
               let next : 2 ^ (u + 3) ≡ 2 * 2 ^ (u + 2) = power_of (u + 3) (u + 2) (omega arith) in
-              let some : 1 ≤ 2 ^ u = power_some u in
               let first_half : 2 ^ (u + 1) ≡ 2 * 2 ^ u = power_of (u + 1) u (omega arith) in
               let up : u + 1 ≡ suc u = omega arith in
               let low_carry : 2 ^ (suc u + 1) ≡ 2 ^ (u + 2) = ap (λ n. 2 ^ n) (omega arith) in

@@ -6,3 +6,4 @@ pub mod OutputLemmas
 pub mod SetBitLemmas
 pub mod TreeLemmas
 pub mod WeaveLemmas
+pub mod Words

@@ -2,10 +2,7 @@
 use Rattle.px_num.proofs.Basics.{◌≡◌, ℕ, ◌+◌, ◌-◌, ◌*◌, ◌/◌, ◌%◌, ◌^◌, ◌<◌, ◌≤◌, false, cond, nat_lt, List, length}
 use Rattle.px_num.proofs.Basics.{get_or, refl, sym, ap, ◌∙◌, arith, inl, inr, cases_lt, le-ltb, lt-ltb, pow-add}
 use Rattle.px_num.proofs.Basics.{one-le-pow, pow-le-pow_right}
-use Rattle.px_num.specs.Bits.{nat_bit}
-use Rattle.px_tree.specs.Nodes.{node_at}
-use Rattle.px_rows.specs.Rows.{row_bit}
-use Rattle.px_plane_tree.specs.Trees.{seen_tree, AreSmallLevels}
+use Rattle.px_plane_tree.proofs.Words.{AreSmallLevels, nat_bit, node_at, row_bit, seen_tree}
 use Rattle.px_plane_tree.proofs.TreeLemmas.{bit_seen, small_power}
 
 power_at : (level : ℕ) → 6 ≤ level → 2 ^ level ≡ 64 * 2 ^ (level - 6)
@@ -28,8 +25,6 @@ pub large_bits : (level nx ny at : ℕ) (outputs carries part : List ℕ) → 6 
     (node_at (seen_tree nx ny outputs carries) level p).output false
 large_bits level nx ny at outputs carries part h le e long bits p lt =
     let w : 2 ^ level ≡ 64 * at = omega (arith, power_at level h) in
-    let here : p < 2 ^ level = omega arith in
-    let place : 64 * at + p ≡ 2 ^ level + p = omega arith in
     grind (arith, lt-ltb, bit_seen, power_below)
 
 pub small_words : (level : ℕ) → level < 6 → level + 1 - level ≡ (2 ^ level + 63) / 64

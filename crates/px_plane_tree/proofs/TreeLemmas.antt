@@ -1,20 +1,14 @@
 -- Trees of rows: their levels of less than a word, and what a clear and a feed make of them.
-use Rattle.px_num.proofs.Basics.{nat_tests, common_steps, ◌≡◌, ℕ, ◌+◌, ◌-◌, ◌*◌, ◌/◌, ◌^◌, ◌<◌, ◌≤◌, Bool, true, false}
-use Rattle.px_num.proofs.Basics.{cond, nat_lt, List, length, get_or, replicate, refl, sym, ap, subst, ◌∙◌, arith, inl}
-use Rattle.px_num.proofs.Basics.{inr, bit_and, cases_lt, le-ltb, lt-ltb, and_mask, mod_below, pow-add, bit_at_above}
-use Rattle.px_num.proofs.Basics.{bit_at-zero, one-le-pow, pow-le-pow_right, get_or_past}
+use Rattle.px_num.proofs.Basics.{◌≡◌, ℕ, ◌+◌, ◌-◌, ◌*◌, ◌/◌, ◌^◌, ◌<◌, ◌≤◌, Bool, true, false, cond, nat_lt, List}
+use Rattle.px_num.proofs.Basics.{length, get_or, replicate, refl, sym, ap, subst, ◌∙◌, arith, inl, inr, bit_and}
+use Rattle.px_num.proofs.Basics.{cases_lt, le-ltb, lt-ltb, and_mask, mod_below, pow-add, bit_at_above, bit_at-zero}
+use Rattle.px_num.proofs.Basics.{one-le-pow, pow-le-pow_right, get_or_past}
+use Rattle.px_plane_tree.proofs.Words.{after_feed, AreStill, bit_down, bit_of_low, cleared, heights, IsFedHeap, IsGrid}
+use Rattle.px_plane_tree.proofs.Words.{IsTree, Lines, nat_bit, next_at, next_node, Node, node_of, power_grows, row_bit}
+use Rattle.px_plane_tree.proofs.Words.{rows, seen_tree, zero_node}
 use Rattle.std.proofs.lemmas.Simd.{get_or-replicate, length-replicate}
-use Rattle.px_num.specs.Bits.{nat_bit}
 use Rattle.px_num.proofs.ListLaws.{length-tabulate, get_or-tabulate, is_tabulate}
 use Rattle.px_num.specs.Lists.{tabulate}
-use Rattle.px_num.proofs.TruthLaws.{power_grows}
-use Rattle.px_tree.specs.declared.lines.Lines.{Lines}
-use Rattle.px_tree.specs.declared.node.Node.{Node}
-use Rattle.px_tree.specs.Nodes.{IsGrid, after_feed, cleared, next_at, next_node, zero_node}
-use Rattle.px_plane_tree.specs.Heap.{AreStill, IsFedHeap, level_line, node_of, rows}
-use Rattle.px_rows.specs.Rows.{row_bit}
-use Rattle.px_plane_tree.specs.Trees.{AreSmallLevels, IsTree, heights, seen_tree}
-use Rattle.px_rows.proofs.BitLaws.{bit_down, bit_of_low}
 
 pub level_law : (word m j : ℕ) → nat_bit (bit_and (word / 2 ^ m) (2 ^ m - 1)) j
     ≡ cond (nat_lt j m) (nat_bit word (m + j)) false
@@ -78,20 +72,9 @@ both_false : (b : Bool) → false ≡ cond b false false
 both_false true = refl
 both_false false = refl
 
-zero_small : (w : ℕ) → AreSmallLevels (replicate w 0) (replicate 6 0)
-zero_small w = grind (arith, zero_word_bit, both_false, cond)
-
 none_next : (odd : Bool) → next_node odd false false false ≡ zero_node
 none_next true = refl
 none_next false = refl
-
-no_line : (nx u : ℕ) → level_line nx (record { a = false; b = false; c = false }) u ≡ false
-no_line nx u = grind (arith, cond)
-
--- a tree whose latches are all 0 is at rest where its lines are 0
-pub zero_still : (nx m n : ℕ) (still : List Bool) → AreStill nx (record { a = false; b = false; c = false }) still
-    (replicate m 0) (replicate n 0)
-zero_still nx m n still = grind (arith, zero_word_bit, no_line, none_next)
 
 pub zero_tree : (nx ny w : ℕ) (still : List Bool) → IsGrid nx ny → length still ≡ heights (nx + ny)
     → w ≡ 2 ^ (length still + 1) → IsTree nx ny (rows (replicate w 0) (replicate w 0))
@@ -115,15 +98,9 @@ zero_tree nx ny w still grid tall words =
       tall = tall;
       words = length-replicate w 0 ∙ words;
       enough = omega (arith, length-replicate {A = ℕ} w 0, size.enough);
-      low = zero_small w;
-      rest = zero_still nx w w still;
+      low = grind (arith, zero_word_bit, both_false, cond);
+      rest = grind (arith, zero_word_bit, none_next, cond);
     }
-
-pub cleared_tree : (nx ny : ℕ) (outputs carries small : List ℕ) (still new_still : List Bool) (last : Lines)
-    → IsTree nx ny (rows outputs carries) small still last → length new_still ≡ length still
-    → IsTree nx ny (rows (replicate (length outputs) 0) (replicate (length carries) 0)) (replicate (length small) 0)
-    new_still (record { a = false; b = false; c = false })
-cleared_tree nx ny outputs carries small still new_still last t long = grind (arith, nat_tests, common_steps, zero_tree)
 
 pub fed_tree : (nx ny : ℕ) (last now : Lines) (outputs carries small : List ℕ) (still : List Bool)
     (new_outputs new_carries new_small : List ℕ) (new_still : List Bool) (word : ℕ)

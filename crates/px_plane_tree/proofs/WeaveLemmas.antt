@@ -1,20 +1,17 @@
 -- Bytes and words, lane by lane and bit by bit.
-use Rattle.px_num.proofs.Basics.{◌≡◌, ℕ, zero, suc, ◌+◌, ◌-◌, ◌*◌, ◌/◌, ◌%◌, ◌^◌, ◌<◌, ◌≤◌, true, eqb, nat_lt, List, []}
-use Rattle.px_num.proofs.Basics.{◌∷◌, ◌++◌, length, get_or, replicate, refl, sym, ap, ◌∙◌, arith, inl, inr, ◌⊎◌, w64}
-use Rattle.px_num.proofs.Basics.{bit_and, subst, cases_lt, agree_below_at, and_mask, mod_below, pow-add, bit_at_cat_low}
-use Rattle.px_num.proofs.Basics.{bit_at_cat_high, get_or_append_left, get_or-append-add, get_or-map, length-map}
-use Rattle.px_num.proofs.Basics.{length-zip2, get_or-zip2, get_or-chunk, zip2}
-use Rattle.std.proofs.Common.{w8}
-use Rattle.std.proofs.Common.{Fits}
-use Rattle.std.proofs.lemmas.Bool.{agree_below, eqb-true, ltb-true}
-use Rattle.std.proofs.lemmas.Simd.{Each1-get_or, Each1-from_get_or, below_from_Fits}
-use Rattle.std.proofs.lemmas.Simd.{get_or-replicate, swz_l, SwzOk, SwzOk-from_below, length-swz_l, get_or-swz_l_below}
-use Rattle.std.proofs.lemmas.Simd.{get_or_wider, get_or_narrower, Each1-chunk}
+use Rattle.px_num.proofs.Basics.{◌≡◌, ℕ, zero, suc, ◌+◌, ◌-◌, ◌*◌, ◌/◌, ◌%◌, ◌^◌, ◌<◌, ◌≤◌, true, eqb, nat_lt, List}
+use Rattle.px_num.proofs.Basics.{[], ◌∷◌, ◌++◌, length, get_or, replicate, refl, sym, ap, ◌∙◌, arith, inl, inr, ◌⊎◌}
+use Rattle.px_num.proofs.Basics.{w64, bit_and, subst, cases_lt, agree_below_at, and_mask, mod_below, pow-add}
+use Rattle.px_num.proofs.Basics.{bit_at_cat_low, bit_at_cat_high, get_or_append_left, get_or-append-add, get_or-map}
+use Rattle.px_num.proofs.Basics.{length-map, length-zip2, get_or-zip2, get_or-chunk, zip2}
+use Rattle.px_plane_tree.proofs.Words.{agree_below, bit_down, bit_of_low, bit_of_zero, eqb-true, HasBytes, IsDoubled}
+use Rattle.px_plane_tree.proofs.Words.{IsTwice, ltb-true, nat_bit}
+use Rattle.std.proofs.Common.{w8, Fits}
+use Rattle.std.proofs.lemmas.Simd.{Each1-get_or, Each1-from_get_or, below_from_Fits, get_or-replicate, swz_l, SwzOk}
+use Rattle.std.proofs.lemmas.Simd.{SwzOk-from_below, length-swz_l, get_or-swz_l_below, get_or_wider, get_or_narrower}
+use Rattle.std.proofs.lemmas.Simd.{Each1-chunk}
 use Rattle.std.proofs.Math.Nat.{pow-suc}
 use Rattle.std.specs.Simd.Lanes.{Each1, chunk, number_l, digits_l, pick_l}
-use Rattle.px_num.specs.Bits.{nat_bit}
-use Rattle.px_rows.proofs.BitLaws.{bit_down, bit_of_low, bit_of_zero}
-use Rattle.px_plane_tree.specs.Lanes.{IsTwice, HasBytes, IsDoubled}
 
 -- ---- the table
 
@@ -46,8 +43,6 @@ looked_up from bytes js g long is small bits = record {
   where
     at : (k : ℕ) → k < 16 → get_or (swz_l w8 16 table 0 js) k 0 ≡ get_or table (g k) 0
     at k h =
-        let e = is k h in
-        let s = small k h in
         get_or-swz_l_below w8 16 table 0 js k (omega arith) (omega arith) ∙ ap (λ m. get_or table m 0) (omega arith)
 
 abbrev pub low_of : List ℕ → List ℕ
@@ -168,7 +163,6 @@ woven_law at from words bytes lows highs ks e two b lo hi long evens odds = reco
     small = λ k h. digit_small (2 ^ 64) 2 (number_l 256 (woven lows highs ks)) k (omega arith) h;
   };
   each = λ i j h l.
-      let within : 8 * i + 8 ≤ length (woven lows highs ks) = omega (arith, v_long) in
       let in8 : j / 8 < 8 = omega arith in
       ap (λ n. nat_bit n j) (get_or_wider 256 8 (2 ^ 64) 2 (woven lows highs ks) i refl all_small h)
       ∙ (number_bit (chunk (8 * i) 8 (woven lows highs ks))
@@ -183,7 +177,6 @@ woven_law at from words bytes lows highs ks e two b lo hi long evens odds = reco
     even_is : (k : ℕ) → k < 8 → get_or (woven lows highs ks) (2 * k) 0 ≡ get_or lows (from + k) 0
     even_is k h =
         let l : 2 * k < length ks = omega arith in
-        let m = lo.lanes.long in
         let n : from + k < length lows = omega arith in
         get_or-map (λ k. get_or (lows ++ highs) k 0) ks (2 * k) 0 0 l
         ∙ (ap (λ n. get_or (lows ++ highs) n 0) (evens k h) ∙ get_or_append_left lows highs 0 (from + k) n)
@@ -219,7 +212,6 @@ woven_law at from words bytes lows highs ks e two b lo hi long evens odds = reco
     at_bit : (i j : ℕ) → i < 2 → j < 64 → nat_bit (get_or (woven lows highs ks) (8 * i + j / 8) 0) (j % 8)
         ≡ nat_bit (get_or words at 0) (32 * i + j / 2)
     at_bit i j h l =
-        let m : 8 * i + j / 8 < 16 = omega arith in
         let k : (8 * i + j / 8) / 2 < 8 = omega arith in
         elim (parity (8 * i + j / 8)) [
           | inl p ↦

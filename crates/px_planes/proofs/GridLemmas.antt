@@ -2,21 +2,13 @@
 use Rattle.px_num.proofs.Basics.{◌≡◌, ℕ, zero, suc, ◌+◌, ◌-◌, ◌*◌, ◌%◌, ◌^◌, ◌<◌, ◌≤◌, Bool, true, false, cond, nat_lt}
 use Rattle.px_num.proofs.Basics.{List, [], length, get_or, map, replicate, refl, sym, ap, ◌∙◌, arith, inl, inr}
 use Rattle.px_num.proofs.Basics.{cases_lt, le-ltb, lt-ltb, get_or_past, pow-add}
-use Rattle.std.proofs.lemmas.Simd.{get_or-replicate, length-replicate}
-use Rattle.px_array.specs.Arrays.{no_pixel, registers_of}
-use Rattle.px_array.specs.Clocks.{acted}
+use Rattle.px_planes.proofs.Words.{Act, acted, acted_at, AddTree, after_act, and_false, and_true, bit_at, CarryLatch}
+use Rattle.px_planes.proofs.Words.{CarryTree, Fetch, get_or-replicate, get_or-tabulate, HasPixels, is_tabulate}
+use Rattle.px_planes.proofs.Words.{IsActed, IsZero, leaf_output, length-tabulate, nat_bit, no_pixel, pixel_in}
+use Rattle.px_planes.proofs.Words.{pixels_in, PixelState, Planes, power_grows, registers_of, row_bit, SetCarry}
+use Rattle.px_planes.proofs.Words.{TreeState, words_for, zero_pixel}
+use Rattle.std.proofs.lemmas.Simd.{length-replicate}
 use Rattle.px_array.specs.declared.micro.Registers.{Registers}
-use Rattle.px_num.specs.Bits.{bit_at, nat_bit}
-use Rattle.px_num.proofs.ListLaws.{get_or-tabulate, is_tabulate, length-tabulate}
-use Rattle.px_num.proofs.TruthLaws.{and_false, and_true, power_grows}
-use Rattle.px_pixel.specs.Acts.{after_act}
-use Rattle.px_pixel.specs.Pixels.{PixelState, zero_pixel}
-use Rattle.px_pixel.specs.declared.act.Act.{Act}
-use Rattle.px_pixel.specs.declared.act.Act.TheVariants.{SetCarry, Fetch, CarryTree, CarryLatch, AddTree}
-use Rattle.px_planes.specs.Pixels.{HasPixels, IsActed, IsZero, acted_at, pixel_in, pixels_in}
-use Rattle.px_rows.specs.Rows.{words_for, row_bit}
-use Rattle.px_planes.specs.declared.planes.Planes.{Planes}
-use Rattle.px_tree.specs.Nodes.{TreeState, leaf_output}
 use Rattle.px_planes.proofs.StoredLemmas.{bit_of_rows}
 use Rattle.px_plane_tree.proofs.TreeLemmas.{zero_bit}
 

@@ -1,9 +1,10 @@
 pub mod AloneLemmas
 pub mod GridLemmas
+pub mod IdleLemmas
+pub mod OperatedLemmas
+pub mod OperationLemmas
 pub mod ShelfLemmas
 pub mod StepLemmas
 pub mod StoredLemmas
+pub mod Words
 pub mod WorkLemmas
-pub mod OperatedLemmas
-pub mod OperationLemmas
-pub mod IdleLemmas

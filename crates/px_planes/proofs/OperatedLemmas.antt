@@ -1,16 +1,10 @@
 -- Grids of planes on which an operation was made at once.
 use Rattle.px_num.proofs.Basics.{arith, ◌≡◌, ℕ, ◌+◌, ◌/◌, ◌^◌, ◌<◌, ◌%◌, length-map, div-mul-add, mod-mul-add}
-use Rattle.px_array.specs.Arrays.{Device}
+use Rattle.px_planes.proofs.Words.{after_macro, bits_of, Device, get_or-tabulate, HasPixels, length-tabulate, Macro}
+use Rattle.px_planes.proofs.Words.{pixel_in, pixels_in, Planes, TreeState}
 use Rattle.px_asm.specs.Making.{cycles_on}
-use Rattle.px_asm.specs.Microprograms.{bits_of}
 use Rattle.px_asm.specs.Operated.{IsOperated}
-use Rattle.px_macro.specs.Macros.{after_macro}
-use Rattle.px_macro.specs.declared.operation.Macro.{Macro}
-use Rattle.px_num.proofs.ListLaws.{get_or-tabulate, length-tabulate}
-use Rattle.px_tree.specs.Nodes.{TreeState}
 use Rattle.px_tree.proofs.PlaceLaws.{index_below}
-use Rattle.px_planes.specs.Pixels.{HasPixels, pixel_in, pixels_in}
-use Rattle.px_planes.specs.declared.planes.Planes.{Planes}
 
 abbrev pub device_of : TreeState → Planes → (clocks : ℕ) → Device
 device_of tree planes clocks = record {

@@ -2,26 +2,12 @@
 use Rattle.px_num.proofs.Basics.{◌≡◌, ℕ, zero, suc, ◌+◌, ◌*◌, ◌/◌, ◌^◌, ◌<◌, ◌≤◌, ◌%◌, ℤ, pos, Bool, true, false, not}
 use Rattle.px_num.proofs.Basics.{cond, List, [], length, get_or, refl, sym, ap, ◌∙◌, arith, ◌&&◌, ◌+ℤ◌, ◌≤ℤ◌, ◌<ℤ◌}
 use Rattle.px_num.proofs.Basics.{with_item, length-map, is_negative}
+use Rattle.px_planes.proofs.Words.{after_macro, and_true, bit_at, bit_of_zero, bits_of, HasWords, IsDone, IsWordDone}
+use Rattle.px_planes.proofs.Words.{IsWorked, KeepSign, kept, Linear, Macro, nat_bit, offset, pixel_in, PixelState}
+use Rattle.px_planes.proofs.Words.{Planes, row_bit, StoreConst, stored, stored_bits, value_at, with_field}
 use Rattle.px_asm.proofs.ActingLemmas.{after_acts}
 use Rattle.px_asm.proofs.StoringLemmas.{put_by_stores}
-use Rattle.px_asm.specs.Microprograms.{bits_of}
-use Rattle.px_macro.specs.Macros.{after_macro, with_field}
 use Rattle.px_macro.specs.declared.field.Field.{Field}
-use Rattle.px_macro.specs.declared.operation.Macro.{Macro}
-use Rattle.px_num.specs.Bits.{bit_at, nat_bit}
-use Rattle.px_num.specs.Forms.{value_at}
-use Rattle.px_num.specs.declared.linear.Linear.{Linear}
-use Rattle.px_pixel.specs.Acts.{kept, stored}
-use Rattle.px_pixel.specs.Pixels.{PixelState}
-use Rattle.px_pixel.specs.declared.act.Act.TheVariants.{StoreConst}
-use Rattle.px_lanes.specs.Lanes.{offset}
-use Rattle.px_macro.specs.declared.operation.Macro.TheVariants.{KeepSign}
-use Rattle.px_num.proofs.TruthLaws.{and_true}
-use Rattle.px_rows.proofs.BitLaws.{bit_of_zero}
-use Rattle.px_rows.specs.Rows.{row_bit}
-use Rattle.px_planes.specs.Operations.{IsDone, IsWordDone, IsWorked, stored_bits}
-use Rattle.px_planes.specs.Pixels.{HasWords, pixel_in}
-use Rattle.px_planes.specs.declared.planes.Planes.{Planes}
 use Rattle.px_planes.proofs.StoredLemmas.{bit_of_rows, stored_row}
 use Rattle.px_planes.proofs.WorkLemmas.{like_stored}
 

@@ -2,14 +2,10 @@
 use Rattle.px_num.proofs.Basics.{◌≡◌, ℕ, ◌+◌, ◌*◌, ◌%◌, ◌<◌, ◌≤◌, nat_lt, Bool, true, false, cond, None, Some, IsSome}
 use Rattle.px_num.proofs.Basics.{List, [], ◌++◌, length, get_or, map, refl, sym, ap, ◌∙◌, arith, get_or-append-add}
 use Rattle.px_num.proofs.Basics.{get_or-map, get_or_append_left, length-map, mul-le-mul}
-use Rattle.px_num.specs.Bits.{nat_bit}
-use Rattle.px_num.proofs.ListLaws.{get_or-tabulate, is_tabulate, length-tabulate}
+use Rattle.px_planes.proofs.Words.{Device, get_or-tabulate, HasPixels, HasWords, is_tabulate, length-tabulate, nat_bit}
+use Rattle.px_planes.proofs.Words.{no_pixel, pixel_in, pixels_in, Planes, row_bit, words_for}
 use Rattle.px_num.specs.Lists.{tabulate}
-use Rattle.px_array.specs.Arrays.{Device, no_pixel}
-use Rattle.px_planes.specs.Pixels.{HasPixels, HasWords, pixel_in, pixels_in}
-use Rattle.px_rows.specs.Rows.{words_for, row_bit}
 use Rattle.px_planes.specs.Shelves.{IsFilled, IsShelved, pixel_on}
-use Rattle.px_planes.specs.declared.planes.Planes.{Planes}
 
 pub rows_fit : (k count n : ℕ) → k < count → k * n + n ≤ count * n
 rows_fit k count n below = grind (arith, mul-le-mul)

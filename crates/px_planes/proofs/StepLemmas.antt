@@ -1,14 +1,8 @@
 -- Values that grow by a step from block to block, bit by bit.
 use Rattle.px_num.proofs.Basics.{◌≡◌, ℕ, zero, suc, ℤ, false, ◌+ℤ◌, ◌+◌, ◌*◌, ◌/◌, ◌%◌, ◌^◌, ◌<◌, ◌≤◌, List, get_or}
 use Rattle.px_num.proofs.Basics.{arith}
-use Rattle.px_lanes.specs.Lanes.{offset}
+use Rattle.px_planes.proofs.Words.{bit_of, carry_from, Linear, nat_bit, offset, row_bit, sum_bit, value_at, value_in}
 use Rattle.px_lanes.proofs.BlockLaws.{value_behind}
-use Rattle.px_num.specs.Bits.{bit_of, carry_from, nat_bit}
-use Rattle.px_num.specs.Forms.{value_at}
-use Rattle.px_num.specs.declared.linear.Linear.{Linear}
-use Rattle.px_num.proofs.AdderLaws.{sum_bit}
-use Rattle.px_rows.specs.Rows.{row_bit}
-use Rattle.px_rows.specs.Sums.{value_in}
 
 stepped_bit : (a carry : List ℕ) (step : ℤ) (t n : ℕ) (v : ℕ → ℕ → ℤ)
     → ((i : ℕ) → i < 512 → nat_bit (get_or a (i / 64) 0) (i % 64) ≡ bit_of (v 0 i) t)

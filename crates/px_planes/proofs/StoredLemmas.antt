@@ -2,15 +2,8 @@
 use Rattle.px_num.proofs.Basics.{◌≡◌, ℕ, ◌*◌, ◌/◌, ◌<◌, ◌%◌, Bool, true, false, cond, List, [], length, length-set}
 use Rattle.px_num.proofs.Basics.{get_or, get_or-set_other, get_or-set_same, set, map, replicate, sym, ap, ◌∙◌, arith}
 use Rattle.px_num.proofs.Basics.{cases_eq, get_or-map, length-replicate, with_item}
-use Rattle.std.proofs.lemmas.List.{map-set, set-get_or}
-use Rattle.std.proofs.lemmas.Simd.{get_or-replicate}
-use Rattle.px_num.specs.Bits.{majority, nat_bit, xor}
-use Rattle.px_pixel.specs.Acts.{stored}
-use Rattle.px_pixel.specs.declared.act.Act.{Act}
-use Rattle.px_pixel.specs.declared.act.Act.TheVariants.{AddTree}
-use Rattle.px_planes.specs.Pixels.{HasWords, IsActed, acted_at, pixel_in}
-use Rattle.px_rows.specs.Rows.{row_bit}
-use Rattle.px_planes.specs.declared.planes.Planes.{Planes}
+use Rattle.px_planes.proofs.Words.{Act, acted_at, AddTree, get_or-replicate, HasWords, IsActed, majority, map-set}
+use Rattle.px_planes.proofs.Words.{nat_bit, pixel_in, Planes, row_bit, set-get_or, stored, xor}
 
 -- a row that is written is one bit of each pixel
 pub stored_row : (rows : List (List ℕ)) (at p : ℕ) (new : List ℕ) (e v : Bool) → at < length rows

@@ -1,16 +1,10 @@
 -- What is done to the pixels of one word.
 use Rattle.px_num.proofs.Basics.{◌≡◌, ◌≢◌, ℕ, zero, suc, ◌+◌, ◌*◌, ◌/◌, ◌<◌, ◌%◌, ◌≤◌, Bool, false, cond, List, []}
-use Rattle.px_num.proofs.Basics.{length, length-set, get_or, get_or-set_other, get_or-set_same, set, refl, sym, ap, ◌∙◌}
-use Rattle.px_num.proofs.Basics.{arith, bit_and, with_item}
-use Rattle.px_num.specs.Bits.{bit_at, nat_bit}
+use Rattle.px_num.proofs.Basics.{length, length-set, get_or, get_or-set_other, get_or-set_same, set, refl, sym, ap}
+use Rattle.px_num.proofs.Basics.{◌∙◌, arith, bit_and, with_item}
+use Rattle.px_planes.proofs.Words.{bit-and, bit_at, HasWords, IsLike, IsWorked, IsWorkedIn, kept, nat_bit, pixel_in}
+use Rattle.px_planes.proofs.Words.{PixelState, Planes, row_bit, stored, stored_bits}
 use Rattle.px_asm.proofs.WrittenLemmas.{other_bit}
-use Rattle.px_pixel.specs.Acts.{kept, stored}
-use Rattle.px_pixel.specs.Pixels.{PixelState}
-use Rattle.px_rows.specs.Rows.{row_bit}
-use Rattle.px_rows.proofs.BitLaws.{bit-and}
-use Rattle.px_planes.specs.Operations.{IsLike, IsWorked, IsWorkedIn, stored_bits}
-use Rattle.px_planes.specs.Pixels.{HasWords, pixel_in}
-use Rattle.px_planes.specs.declared.planes.Planes.{Planes}
 use Rattle.px_planes.proofs.StoredLemmas.{stored_row, words_stored}
 
 -- a row of which one word was set

@@ -97,26 +97,14 @@ fn operate_words(planes: &mut Planes, reach: Reach, m: &Macro, ny: u32)
     requires wordwise { IsWordwise m.now }
     ensures { IsDone m.now ny (length planes.old.enable) planes.old planes.new }
 {
-    if reach.from < reach.to {
-        operate_enabled(planes, reach, m, ny);
+    if reach.from >= reach.to {
+        return;
     }
-}
-
-fn operate_enabled(planes: &mut Planes, reach: Reach, m: &Macro, ny: u32)
-    requires words { HasWords (length planes.old.enable) planes.old }
-    requires reach { IsReach reach planes.old }
-    requires rows { ny ≤ 9 }
-    requires grid { 64 * length planes.old.enable ≤ 2 ^ (9 + ny) }
-    requires lawful { IsLawful m.now (length planes.old.memory.items) }
-    requires part { IsPartial m.now }
-    requires wordwise { IsWordwise m.now }
-    ensures { IsDone m.now ny (length planes.old.enable) planes.old planes.new }
-{
     let mut room = [0; 40];
     let offsets = &mut room[..offset_bits(m)];
     make_offsets(m, ny, offsets);
     for w in reach.from..reach.to {
-        work_word(planes, m, offsets, w, ny);
+        operate_word(planes, m, offsets, w, ny);
     }
 }
 
@@ -154,7 +142,7 @@ fn make_offsets(m: &Macro, ny: u32, words: &mut [u64])
 
 /// Makes an operation in the pixels of a word, if one of them is enabled.
 #[inline(always)]
-fn work_word(planes: &mut Planes, m: &Macro, offsets: &[u64], w: usize, ny: u32)
+fn operate_word(planes: &mut Planes, m: &Macro, offsets: &[u64], w: usize, ny: u32)
     requires words { HasWords (length planes.old.enable) planes.old }
     requires rows { ny ≤ 9 }
     requires grid { 64 * length planes.old.enable ≤ 2 ^ (9 + ny) }
@@ -166,22 +154,9 @@ fn work_word(planes: &mut Planes, m: &Macro, offsets: &[u64], w: usize, ny: u32)
     requires word { w < length planes.old.enable }
     ensures { IsWordDone m.now ny w (length planes.old.enable) planes.old planes.new }
 {
-    if planes.enable.word(w) != 0 {
-        operate_word(planes, m, offsets, w, ny);
+    if planes.enable.word(w) == 0 {
+        return;
     }
-}
-
-fn operate_word(planes: &mut Planes, m: &Macro, offsets: &[u64], w: usize, ny: u32)
-    requires words { HasWords (length planes.old.enable) planes.old }
-    requires rows { ny ≤ 9 }
-    requires grid { 64 * length planes.old.enable ≤ 2 ^ (9 + ny) }
-    requires lawful { IsLawful m.now (length planes.old.memory.items) }
-    requires wordwise { IsWordwise m.now }
-    requires offsets { HaveOffsets m.now ny offsets.now }
-    requires long { length offsets.now ≡ bits_needed m.now }
-    requires word { w < length planes.old.enable }
-    ensures { IsWordDone m.now ny w (length planes.old.enable) planes.old planes.new }
-{
     match m {
         Macro::LoadLinear(form, field) => load_linear(planes, form, field, offsets, w, ny),
         Macro::KeepAtMost(form, field) => keep_at_most(planes, form, field, offsets, w, ny),

@@ -162,7 +162,7 @@ impl<const N: usize> RowGrid for PlaneGrid<N> {
 }
 
 impl<const N: usize> OperatingGrid for PlaneGrid<N> {
-    fn operate(&mut self, m: &Macro) -> bool {
+    fn try_operate(&mut self, m: &Macro) -> bool {
         if is_faster_by_clocks(&self.planes, self.reach, m) {
             return false;
         }

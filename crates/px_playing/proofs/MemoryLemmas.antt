@@ -1,9 +1,8 @@
 -- Lines of the same bits, pixel by pixel.
 use Rattle.px_num.proofs.Basics.{◌≡◌, ℕ, ◌^◌, ◌<◌, arith}
+use Rattle.px_playing.proofs.Words.{memory_lines, PixelBits}
 use Rattle.px_num.proofs.RangeLaws.{same_parts}
-use Rattle.px_macro.specs.Macros.{PixelBits}
 use Rattle.px_playing.specs.Laws.{MemoriesShowThePlayed}
-use Rattle.px_playing.specs.Memories.{memory_lines}
 
 same_lines : (bits nx ny : ℕ) (f g : (x y : ℕ) → PixelBits) → ((x y : ℕ) → x < 2 ^ nx → y < 2 ^ ny → f x y ≡ g x y)
     → memory_lines bits nx ny f ≡ memory_lines bits nx ny g

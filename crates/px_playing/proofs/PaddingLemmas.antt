@@ -4,17 +4,12 @@ use Rattle.px_num.proofs.Basics.{◌≡◌, ℕ, suc, ◌+◌, ◌-◌, ◌<◌,
 use Rattle.px_num.proofs.Basics.{◌++◌, length, replicate, slice_set, inl, inr, refl, ap, sym, subst, ◌∙◌, arith}
 use Rattle.px_num.proofs.Basics.{length-append, cases_lt, nat_tests, get_or-append_right, get_or-replicate}
 use Rattle.px_num.proofs.Basics.{get_or_append_left, get_or_past, length-replicate}
-use Rattle.std.proofs.lemmas.List.{set-append_left}
-use Rattle.px_num.specs.Bits.{bit_at, nat_bit}
-use Rattle.px_num.proofs.ListLaws.{is_tabulate, length-tabulate}
+use Rattle.px_playing.proofs.Words.{after_macro, after_macros, bit_at, HasSight, is_tabulate, IsLawful, LayoutView}
+use Rattle.px_playing.proofs.Words.{length-tabulate, Macro, MemoryStaysLong, nat_bit, PixelBits, set-append_left}
+use Rattle.px_playing.proofs.Words.{Sight}
 use Rattle.px_macro.specs.Fields.{is_in, number_in, with_number}
-use Rattle.px_macro.specs.Macros.{IsLawful, MemoryStaysLong, PixelBits, after_macro, after_macros}
 use Rattle.px_macro.specs.declared.field.Field.{Field}
-use Rattle.px_macro.specs.declared.operation.Macro.{Macro}
 use Rattle.px_macro.proofs.NumberLaws.{number_same, places_are_written}
-use Rattle.px_model.specs.Cells.{Sight}
-use Rattle.px_sched.specs.Layouts.{LayoutView}
-use Rattle.px_sched.specs.PassesLaw.{HasSight}
 use Rattle.px_macro.specs.declared.operation.Macro.TheVariants as m
 
 -- a pixel with more bits of memory
@@ -63,8 +58,6 @@ holding enable memory = record { memory = memory; enable = enable }
 
 after_padded : (op : Macro) (x y : ℕ) (p : PixelBits) (more : List Bool) → IsLawful op (length p.memory)
     → after_macro op x y (padded p more) ≡ padded (after_macro op x y p) more
-after_padded m.All x y p more lawful = refl
-after_padded (m.KeepSign form) x y p more lawful = refl
 after_padded (m.KeepBit at v) x y p more lawful = rw (bit_padded p.memory more at lawful) refl
 after_padded (m.LoadLinear form f) x y p more lawful =
     ap (holding p.enable) (put_padded p.enable f _ p.memory more lawful.1.within)
@@ -82,6 +75,7 @@ after_padded (m.Copy f g) x y p more lawful =
     (ap (holding p.enable) (put_padded p.enable g _ p.memory more lawful.0.fields.1.within))
 after_padded (m.KeepLess f g) x y p more lawful =
     rw (number_padded f p.memory more lawful.fields.0.within, number_padded g p.memory more lawful.fields.1.within) refl
+after_padded op x y p more lawful = refl
 
 pub all_padded : MemoryStaysLong → (ops : List Macro) (x y : ℕ) (p : PixelBits) (more : List Bool)
     → All (λ op. IsLawful op (length p.memory)) ops

@@ -3,29 +3,20 @@ use Rattle.px_num.proofs.Basics.{nat_tests, common_steps, ◌≡◌, ℕ, ◌+�
 use Rattle.px_num.proofs.Basics.{length, take, drop, slice_get, ap, sym, ◌∙◌, arith, subst, append_assoc, Result, OnOk}
 use Rattle.px_num.proofs.Basics.{OnErr, replicate, length-append, length-replicate, get_or_from_slice_get}
 use Rattle.px_num.proofs.Basics.{slice_get_within, flat_map}
-use Rattle.std.proofs.lemmas.List.{append-nil}
+use Rattle.px_playing.proofs.Words.{after_macros, append-nil, err_cut, exponent_of, front_before, HasSight, IsLawful}
+use Rattle.px_playing.proofs.Words.{layout_of, listed_cut, listed_more, Macro, macro_line, need_of, ok_all, passes}
+use Rattle.px_playing.proofs.Words.{passes_lawful, passes_leave_the_picture, picture, PixelBits, played, Puts}
+use Rattle.px_playing.proofs.Words.{puts_both, puts_cut, puts_none, zero_bits}
 use Rattle.px_io.specs.Told.{SinkState, TakesAll, TakesFront}
-use Rattle.px_io.proofs.ToldLaws.{front_before}
-use Rattle.px_macro.specs.Macros.{IsLawful, IsLawfulInMore, MemoryStaysLong, PixelBits, after_macros}
-use Rattle.px_macro.specs.declared.operation.Macro.{Macro}
-use Rattle.px_model.specs.Grids.{exponent_of}
+use Rattle.px_macro.proofs.MacroLemmas.{is_lawful_in_more, memory_stays_long}
 use Rattle.px_model.proofs.GridLaws.{exponent_between, exponent_is}
 use Rattle.px_model.specs.Scenes.{IsLawfulScene, SceneView, IsLawfulSolid}
-use Rattle.px_model.specs.Cells.{picture}
-use Rattle.px_sched.specs.Layouts.{layout_of, need_of}
-use Rattle.px_sched.specs.Passes.{passes}
-use Rattle.px_sched.specs.PassesFacts.{LayoutsAreLawful, PassesAreLawful}
-use Rattle.px_sched.specs.PassesLaw.{HasSight, PassesLaw}
-use Rattle.px_sched.proofs.LawfulLaws.{passes_lawful}
-use Rattle.px_listing.specs.Listings.{macro_line}
-use Rattle.px_listing.specs.Pieces.{Puts}
+use Rattle.px_sched.proofs.LayoutLaws.{scene_layout}
+use Rattle.px_sched.proofs.PassesLaws.{passes_are_lawful}
 use Rattle.px_playing.proofs.PaddingLemmas.{all_padded, padded, sight_same}
-use Rattle.px_listing.proofs.PieceLaws.{err_cut, ok_all, puts_both, puts_cut, puts_none}
-use Rattle.px_listing.proofs.RowLaws.{listed_cut, listed_more}
 use Rattle.px_playing.specs.PassesText.{PassesAreReadBack, PassesHaveTheScenesGrid, PlayedPassesShowThePicture}
 use Rattle.px_playing.specs.PassesText.{passes_listing}
-use Rattle.px_playing.specs.Played.{played, zero_bits}
-use Rattle.px_listing.specs.RoundTrip.{TextsAreReadBack}
+use Rattle.px_listing.proofs.TextLemmas.{read_back}
 
 -- each operation that is given is one of them
 pub lawful_here : (bits : ℕ) (ops : List Macro) (i : ℕ) (op : Macro) → slice_get ops i ≡ Some op
@@ -91,17 +82,17 @@ err_to_last r a b c d piece v w first middle last empty one two front =
     (puts_both a b c [] v w first middle (rw empty at one) two) front
 
 -- no scene needs more than 74 bits
-few_bits : LayoutsAreLawful → (scene : SceneView) → IsLawfulScene scene → need_of (layout_of scene) ≤ 256
-few_bits layouts scene lawful = let is = layouts scene lawful in omega (arith, is.depth, is.number)
+few_bits : (scene : SceneView) → IsLawfulScene scene → need_of (layout_of scene) ≤ 256
+few_bits scene lawful = let is = scene_layout scene lawful in omega (arith, is.depth, is.number)
 
-pub passes_lawful_in_all : IsLawfulInMore → LayoutsAreLawful → PassesAreLawful → (scene : SceneView)
-    → IsLawfulScene scene → All IsLawfulSolid scene.solids → All (λ m. IsLawful m 256) (passes scene)
-passes_lawful_in_all more layouts lawful scene h solids =
-    passes_lawful more lawful 256 scene h solids (few_bits layouts scene h)
+pub passes_lawful_in_all : (scene : SceneView) → IsLawfulScene scene → All IsLawfulSolid scene.solids
+    → All (λ m. IsLawful m 256) (passes scene)
+passes_lawful_in_all scene h solids =
+    passes_lawful is_lawful_in_more passes_are_lawful 256 scene h solids (few_bits scene h)
 
-pub passes_read_back : TextsAreReadBack → PassesAreReadBack
-passes_read_back texts bits scene can few =
-    texts bits (passes_listing scene) few (
+pub passes_read_back : PassesAreReadBack
+passes_read_back bits scene can few =
+    read_back bits (passes_listing scene) few (
       exponent_between scene.width can.scene_is.sizes.width_limit,
       exponent_between scene.height can.scene_is.sizes.height_limit,
     )
@@ -112,8 +103,8 @@ scenes_grid scene lawful = grind (arith, exponent_is)
 
 -- the picture law holds of a memory with as many zeros behind it as the layout may need, whose first bits come out
 -- as those of the memory
-pub show_the_picture : MemoryStaysLong → PassesLaw → PlayedPassesShowThePicture
-show_the_picture stays law bits scene state can has x y left above =
+pub show_the_picture : PlayedPassesShowThePicture
+show_the_picture bits scene state can has x y left above =
     let grid = scenes_grid scene can.scene_is in
     let column : x < 2 ^ exponent_of scene.width = omega (arith, left, grid.columns.enough) in
     let row : y < 2 ^ exponent_of scene.height = omega (arith, above, grid.rows.enough) in
@@ -126,11 +117,11 @@ show_the_picture stays law bits scene state can has x y left above =
     omega (arith, length-append start.memory zeros, length-replicate need false) in
     let alike : after_macros (passes scene) x y (padded start zeros) ≡ padded (played bits (passes_listing scene) x y)
     zeros =
-    all_padded stays (passes scene) x y start zeros
+    all_padded memory_stays_long (passes scene) x y start zeros
     (subst (λ n. All (λ m. IsLawful m n) (passes scene)) (sym long) can.lawful) in
     let shown : HasSight (layout_of scene) (padded (played bits (passes_listing scene) x y) zeros).memory
     (picture scene x y) =
     subst (λ (p : PixelBits). HasSight (layout_of scene) p.memory (picture scene x y)) alike
-    (law scene can.scene_is can.solids x y left above (padded start zeros) room) in
+    (passes_leave_the_picture scene can.scene_is can.solids x y left above (padded start zeros) room) in
     subst (λ memory. HasSight (layout_of scene) memory (picture scene x y)) (sym same)
     (sight_same (layout_of scene) (played bits (passes_listing scene) x y).memory need (picture scene x y) shown)

@@ -1,16 +1,12 @@
 -- The clocks of a listing, one operation after another.
 use Rattle.px_num.proofs.Basics.{◌≡◌, ℕ, ◌+◌, ◌^◌, ◌<◌, List, length, refl, ap, ◌∙◌, arith, length-append, sum_by}
 use Rattle.px_num.proofs.Basics.{get_or-replicate, mul-add-lt, pow-add}
-use Rattle.px_num.proofs.ListLaws.{length-tabulate}
+use Rattle.px_playing.proofs.Words.{bits_of, grid_after_clocks, grid_of_zero_state, HasGrid, length-tabulate, Macro}
+use Rattle.px_playing.proofs.Words.{opened, pixel_of, zero_bits, zero_state}
 use Rattle.std.proofs.lemmas.List.Recursion.{is_sum_by}
-use Rattle.px_array.specs.Arrays.{HasGrid, opened, pixel_of, zero_state}
-use Rattle.px_array.proofs.ClockLaws.{grid_after_clocks, grid_of_zero_state}
 use Rattle.px_array.specs.Clocks.{all_clocked}
 use Rattle.px_array.specs.declared.micro.Micro.{Micro}
 use Rattle.px_asm.specs.Micros.{all_micros, cycles, micro_at, micros}
-use Rattle.px_asm.specs.Microprograms.{bits_of}
-use Rattle.px_macro.specs.declared.operation.Macro.{Macro}
-use Rattle.px_playing.specs.Played.{zero_bits}
 
 -- the clocks of operations are the sum of theirs
 pub clocks_of_all : (ops : List Macro) (nx ny : ℕ) → length (all_micros ops nx ny) ≡ sum_by (λ m. cycles m nx ny) ops

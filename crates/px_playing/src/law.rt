@@ -6,10 +6,6 @@ ghost use Rattle.px_playing.specs.PassesText.{
   PlayedPassesShowThePicture,
 };
 
-use px_listing::laws_of_listings;
-use px_macro::laws_of_operations;
-use px_sched::laws_of_passes;
-
 /// The laws of playing, for whoever lists the passes of a scene, and plays listings.
 ///
 /// What is printed of an array that has played a listing is what the listing's operations mean. The text of a scene's passes is
@@ -20,8 +16,4 @@ pub fn laws_of_playing()
     ensures passes { PassesAreReadBack }
     ensures picture { PlayedPassesShowThePicture }
     ensures grid { PassesHaveTheScenesGrid }
-{
-    laws_of_listings();
-    laws_of_operations();
-    laws_of_passes();
-}
+{}

@@ -13,10 +13,9 @@ ghost use Rattle.px_sched.specs.Passes.{passes};
 
 use px_io::{Failed, Sink};
 use px_listing::{Piece, macro_line, put, put_end, put_first_lines};
-use px_macro::laws_of_operations;
 use px_model::{Scene, laws_of_scenes};
 use px_prune::{MAX_PRODUCTS, Plan};
-use px_sched::{Cursor, Layout, laws_of_passes};
+use px_sched::{Cursor, Layout};
 
 /// Writes the canonical text of a scene's grid and passes (docs/LISTINGS.md, "Canonical text").
 ///
@@ -36,8 +35,6 @@ pub fn write_passes<O: Sink>(
     ensures cause { HasCause (O.state out.old).faults (O.state out.new).faults result }
 {
     laws_of_scenes(scene);
-    laws_of_passes();
-    laws_of_operations();
     let mut piece = Piece::new();
     let (nx, ny) = scene.grid();
     put_first_lines(out, &mut piece, nx, ny)?;

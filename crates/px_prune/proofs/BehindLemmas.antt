@@ -1,9 +1,6 @@
 -- What a box owes a solid at a cell: its members lie in it, and the faces that it hides in it or just behind it.
 use Rattle.px_num.proofs.Basics.{ℕ, ◌≡◌, Bool, true, false, Option, Some, None}
-use Rattle.px_expr.specs.Cells.{Cell, has_face}
-use Rattle.px_sets.specs.declared.cell_box.CellBox.{CellBox}
-use Rattle.px_sets.specs.Boxes.{lies_in, is_in_box}
-use Rattle.px_prune.specs.Boxes.{with_cells_behind}
+use Rattle.px_prune.proofs.Words.{Cell, CellBox, has_face, is_in_box, lies_in, with_cells_behind}
 
 -- a box is there and has the cell, or the one before it along the ray
 abbrev pub is_in_or_behind : Option CellBox → ℕ → ℕ → ℕ → Bool

@@ -1,12 +1,9 @@
 -- The values of a form in a block, and blocks cut in two.
 use Rattle.px_num.proofs.Basics.{ℕ, ℤ, pos, suc, ◌≡◌, ◌≤◌, ◌≤ℤ◌, ◌+ℤ◌, ◌*ℤ◌, nat_lt, Bool, true, false, refl, arith}
 use Rattle.px_num.proofs.Basics.{if◌then◌else◌, mul-le-mul_left, ints}
-use lib.IntN.{negsuc}
-use lib.Signed.{lt_z}
+use Rattle.px_prune.proofs.Words.{Block, has_pixel, is_one_pixel, lt_z, negsuc, value_at}
 use Rattle.px_num.specs.declared.linear.Linear.{Linear}
-use Rattle.px_num.specs.Forms.{value_at}
-use Rattle.px_prune.specs.declared.block.Block.{Block}
-use Rattle.px_prune.specs.Blocks.{greatest_in, has_pixel, is_one_pixel, least_in}
+use Rattle.px_prune.specs.Blocks.{greatest_in, least_in}
 
 -- a multiple of a place is least at the first or at the last one, by its sign, and greatest at the other
 not_below : (a : ℕ) → nat_lt a 0 ≡ false

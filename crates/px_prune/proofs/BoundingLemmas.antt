@@ -1,13 +1,9 @@
 -- The boxes of a picture's cells, joined, are the one least box that holds them.
-use Rattle.px_num.proofs.Basics.{ℕ, suc, zero, ◌≡◌, ◌+◌, ◌-◌, ◌==◌, ◌||◌, ◌&&◌, nat_le, nat_lt, Bool, true, false, refl}
-use Rattle.px_num.proofs.Basics.{ap, sym, arith, Option, Some, None, slice_get, fun_ext, option_map_or}
-use Rattle.px_model.specs.Cells.{Depths, depths_of, far_of, leaf_cell, no_cell, solid_cell}
-use Rattle.px_model.proofs.CellLaws.{before_end}
-use Rattle.px_model.specs.Scenes.{SceneView, SolidView}
-use Rattle.px_sets.specs.declared.cell_box.CellBox.{CellBox}
-use Rattle.px_prune.specs.Boxes.{is_part}
-use Rattle.px_prune.specs.Bounding.{IsBoxOf, IsBoundingBox, in_rows, cells_of, cell_box, pixel_hull, row_hull}
-use Rattle.px_prune.specs.Bounding.{rows_hull, bounding_box}
+use Rattle.px_num.proofs.Basics.{ℕ, suc, zero, ◌≡◌, ◌+◌, ◌-◌, ◌==◌, ◌||◌, ◌&&◌, nat_le, nat_lt, Bool, true, false}
+use Rattle.px_num.proofs.Basics.{refl, ap, sym, arith, Option, Some, None, slice_get, fun_ext, option_map_or}
+use Rattle.px_prune.proofs.Words.{before_end, bounding_box, cell_box, CellBox, cells_of, Depths, depths_of, far_of}
+use Rattle.px_prune.proofs.Words.{in_rows, is_part, IsBoundingBox, IsBoxOf, leaf_cell, no_cell, pixel_hull, row_hull}
+use Rattle.px_prune.proofs.Words.{rows_hull, SceneView, solid_cell, SolidView}
 use Rattle.px_prune.proofs.HullLemmas.{at_pixel, in_row, joined_box, same_box, no_box, no_row, no_rows, pixel_box}
 use Rattle.px_prune.proofs.HullLemmas.{no_pixel, next_pixel, next_row}
 

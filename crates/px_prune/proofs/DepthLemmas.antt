@@ -1,13 +1,9 @@
 -- The depths that the greatest front and the least back leave.
-use Rattle.px_num.proofs.Basics.{ℕ, ℤ, pos, ◌≡◌, ◌<◌, ◌≤◌, ◌*◌, ◌^◌, ◌≤ℤ◌, ◌<ℤ◌, ◌&&◌, true, nat_le, nat_lt, List, refl}
-use Rattle.px_num.proofs.Basics.{ap, sym, ◌∙◌, arith, map, fold, w64, to_z, of_z, int_max, int_min, list_all, ints}
-use Rattle.px_num.proofs.Basics.{mul-le-mul, pow_mono}
-use Rattle.px_model.specs.Cells.{Depths, cell_of, depths}
-use Rattle.px_model.proofs.CellLaws.{cell_is_first, cell_is_least, cells_end, cells_grow}
-use Rattle.px_num.proofs.MostLaws.{all_max, all_min}
-use Rattle.px_num.proofs.TruthLaws.{lt_of_ints}
-use lib.Signed.{lt_z, le_z}
-use lib.IntN.{nat_abs}
+use Rattle.px_num.proofs.Basics.{ℕ, ℤ, pos, ◌≡◌, ◌<◌, ◌≤◌, ◌*◌, ◌^◌, ◌≤ℤ◌, ◌<ℤ◌, ◌&&◌, true, nat_le, nat_lt, List}
+use Rattle.px_num.proofs.Basics.{refl, ap, sym, ◌∙◌, arith, map, fold, w64, to_z, of_z, int_max, int_min, list_all}
+use Rattle.px_num.proofs.Basics.{ints, mul-le-mul, pow_mono}
+use Rattle.px_prune.proofs.Words.{all_max, all_min, cell_is_first, cell_is_least, cell_of, cells_end, cells_grow}
+use Rattle.px_prune.proofs.Words.{depths, Depths, le_z, lt_of_ints, lt_z, nat_abs}
 
 -- a depth keeps in 64 bits
 in_bits : (m : ℤ) → pos 0 ≤ℤ m → m <ℤ pos (2 ^ 39) → nat_abs (to_z w64 (of_z w64 m)) ≡ nat_abs m

@@ -1,11 +1,8 @@
 -- Boxes of cells that are joined to one.
 use Rattle.px_num.proofs.Basics.{ℕ, ◌≡◌, ◌<◌, ◌≤◌, ◌+◌, ◌-◌, ◌==◌, ◌||◌, ◌&&◌, nat_le, nat_lt, Bool, true, false, refl}
 use Rattle.px_num.proofs.Basics.{sym, ◌∙◌, arith, inl, inr, Option, Some, None}
-use Rattle.px_num.proofs.TruthLaws.{or_cases, or_left, or_right}
-use Rattle.px_sets.specs.declared.cell_box.CellBox.{CellBox}
-use Rattle.px_sets.specs.Boxes.{lies_in, is_in_box}
-use Rattle.px_prune.specs.Boxes.{hull, is_part}
-use Rattle.px_prune.specs.Bounding.{IsBoxOf, in_rows}
+use Rattle.px_prune.proofs.Words.{CellBox, hull, in_rows, is_in_box, is_part, IsBoxOf, lies_in, or_cases, or_left}
+use Rattle.px_prune.proofs.Words.{or_right}
 
 -- the cells of a pixel, and of the first pixels of a row
 abbrev pub at_pixel : (ℕ → ℕ → ℕ → Bool) → ℕ → ℕ → ℕ → ℕ → ℕ → Bool

@@ -3,8 +3,10 @@ pub mod BlockLemmas
 pub mod BoundingLemmas
 pub mod DepthLemmas
 pub mod HullLemmas
+pub mod KeptLaws
 pub mod PictureLemmas
 pub mod PruningLemmas
 pub mod ReachLemmas
 pub mod StayingLemmas
 pub mod WithinLemmas
+pub mod Words

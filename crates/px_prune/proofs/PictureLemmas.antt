@@ -1,20 +1,13 @@
 -- The bounding boxes of a scene's solids at the cells of its picture.
-use Rattle.px_num.proofs.Basics.{ℕ, suc, zero, ◌≡◌, ◌<◌, ◌≤◌, ◌-◌, ◌^◌, ◌&&◌, Bool, true, false, List, [], nat_lt, refl}
-use Rattle.px_num.proofs.Basics.{arith, Option, Some, None, ◌+◌, ◌∷◌, ◌++◌, length, get_or, slice_index_or, inl, inr}
-use Rattle.px_num.proofs.Basics.{ap, ◌∙◌, if◌then◌else◌, slice_get, option_map_or, pow_mono, get_or-append_seam}
+use Rattle.px_num.proofs.Basics.{ℕ, suc, zero, ◌≡◌, ◌<◌, ◌≤◌, ◌-◌, ◌^◌, ◌&&◌, Bool, true, false, List, [], nat_lt}
+use Rattle.px_num.proofs.Basics.{refl, arith, Option, Some, None, ◌+◌, ◌∷◌, ◌++◌, length, get_or, slice_index_or, inl}
+use Rattle.px_num.proofs.Basics.{inr, ap, ◌∙◌, if◌then◌else◌, slice_get, option_map_or, pow_mono, get_or-append_seam}
 use Rattle.px_num.proofs.Basics.{cases_eq, cases_lt, slice_get_past}
+use Rattle.px_prune.proofs.Words.{Block, CellBox, cells_of, depths, Depths, depths_of, far_of, has_face, has_pixel}
+use Rattle.px_prune.proofs.Words.{is_in_box, is_inside, IsBoundingBox, IsBoxOf, kept_of, kept_products, leaf_cell}
+use Rattle.px_prune.proofs.Words.{no_cell, Product, SceneView, solid_cell, SolidView, with_block}
 use Rattle.std.proofs.Math.ListN.{get_or-append, get_or-eq_default}
 use Rattle.std.proofs.lemmas.Option.{slice_get_read}
-use Rattle.px_expr.specs.Cells.{has_face}
-use Rattle.px_model.specs.Cells.{Depths, depths, depths_of, far_of, is_inside, leaf_cell, no_cell, solid_cell}
-use Rattle.px_model.specs.Scenes.{SceneView, SolidView}
-use Rattle.px_sets.specs.declared.cell_box.CellBox.{CellBox}
-use Rattle.px_sets.specs.Boxes.{is_in_box}
-use Rattle.px_normal.specs.declared.product.Product.{Product}
-use Rattle.px_prune.specs.Kept.{kept_of, kept_products}
-use Rattle.px_prune.specs.declared.block.Block.{Block}
-use Rattle.px_prune.specs.Blocks.{has_pixel, with_block}
-use Rattle.px_prune.specs.Bounding.{IsBoundingBox, IsBoxOf, cells_of}
 use Rattle.px_prune.proofs.HullLemmas.{no_box, same_box}
 use Rattle.px_prune.proofs.BoundingLemmas.{bounding_boxes}
 use Rattle.px_prune.proofs.BehindLemmas.{HasCells, is_in_or_behind}

@@ -2,17 +2,11 @@
 use Rattle.px_num.proofs.Basics.{arith, ℕ, ◌≡◌, ◌<◌, ◌≤◌, ◌^◌, length, ◌&&◌, not, Bool, true, false, List, [], ◌∷◌}
 use Rattle.px_num.proofs.Basics.{refl, sym, ◌∙◌, Option, Some, None, nat_tests, common_steps, list_all, list_any}
 use Rattle.px_num.proofs.Basics.{filter, filter_map}
-use Rattle.px_num.proofs.TruthLaws.{filtered_few}
-use Rattle.px_expr.specs.Cells.{Cell, has_face}
-use Rattle.px_normal.specs.declared.product.Product.{Product}
-use Rattle.px_sets.specs.Sets.{solids}
-use Rattle.px_sets.specs.SetLaws.{LawsOfSets}
+use Rattle.px_prune.proofs.Words.{box_of_all, Cell, CellBox, everything, filtered_few, has_face, has_some_cell}
+use Rattle.px_prune.proofs.Words.{in_everything, is_in_box, is_void, kept_products, LawsOfSets, lies_in, meets}
+use Rattle.px_prune.proofs.Words.{Product, pruned, pruned_within, set_of, solids}
 use Rattle.px_normal.specs.NormalLaw.{holds, shows, some_holds, some_shows}
-use Rattle.px_sets.specs.declared.cell_box.CellBox.{CellBox}
-use Rattle.px_sets.specs.Boxes.{lies_in, everything, is_in_box}
-use Rattle.px_normal.specs.Live.{box_of_all, has_some_cell, is_live, is_void}
-use Rattle.px_sets.proofs.BoxLaws.{in_everything}
-use Rattle.px_prune.specs.Kept.{meets, set_of, pruned, pruned_within, kept_products}
+use Rattle.px_normal.specs.Live.{is_live}
 use Rattle.px_prune.proofs.BehindLemmas.{HasCells}
 use Rattle.px_prune.proofs.WithinLemmas.{in_fold, inside_has, in_or_behind, meets_cell, all_filter, any_filter}
 use Rattle.px_prune.proofs.WithinLemmas.{filtered_solids, all-set_of, any-set_of, void_solids}

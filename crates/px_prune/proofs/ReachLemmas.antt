@@ -1,18 +1,10 @@
 -- What a solid can have in a block: depths from the least that its fronts allow to the greatest that its backs do.
 use Rattle.px_num.proofs.Basics.{ℕ, ℤ, pos, ◌≡◌, ◌<◌, ◌≤◌, ◌-◌, ◌≤ℤ◌, ◌&&◌, ◌||◌, ◌==◌, Bool, true, false, nat_le}
 use Rattle.px_num.proofs.Basics.{nat_lt, List, [], ◌∷◌, refl, ◌∙◌, arith, Some, None, Option, list_all, ints}
-use lib.Signed.{lt_z, le_z}
-use Rattle.px_num.specs.Forms.{value_at}
-use Rattle.px_num.proofs.MostLaws.{all_same}
-use Rattle.px_model.specs.Scenes.{SolidView}
-use Rattle.px_model.specs.Cells.{Depths, end_of, is_inside, value_of}
-use Rattle.px_prune.specs.declared.block.Block.{Block}
-use Rattle.px_sets.specs.declared.cell_box.CellBox.{CellBox}
-use Rattle.px_sets.specs.Boxes.{is_in_box}
-use Rattle.px_prune.specs.Boxes.{hull}
+use Rattle.px_prune.proofs.Words.{all_same, Block, CellBox, Depths, end_of, greatest_in, has_pixel, hull, in_block}
+use Rattle.px_prune.proofs.Words.{is_in_box, is_inside, is_one_pixel, IsBoxOf, IsReachOf, le_z, least_in, lt_z}
+use Rattle.px_prune.proofs.Words.{SolidView, value_at, value_of, with_block}
 use Rattle.px_prune.specs.Covered.{is_covered}
-use Rattle.px_prune.specs.Blocks.{IsReachOf, greatest_in, has_pixel, in_block, is_one_pixel, least_in, with_block}
-use Rattle.px_prune.specs.Bounding.{IsBoxOf}
 use Rattle.px_prune.proofs.BlockLemmas.{greatest_at_pixel, greatest_bounds, least_at_pixel, least_bounds, one_column}
 use Rattle.px_prune.proofs.BlockLemmas.{one_row}
 use Rattle.px_prune.proofs.HullLemmas.{at_pixel, covered_box, in_part, joined_box, no_box, pixel_box, same_box}

@@ -1,17 +1,11 @@
 -- What is kept of a product has no solid that the product has not, and none both plain and barred.
 use Rattle.px_num.proofs.Basics.{ℕ, suc, zero, ◌≡◌, ◌<◌, ◌≤◌, ◌==◌, ◌||◌, ◌&&◌, nat_lt, Bool, true, false, List, []}
-use Rattle.px_num.proofs.Basics.{◌∷◌, refl, sym, ◌∙◌, subst, arith, Option, Some, None, All, list_all, list_any, filter}
-use Rattle.px_num.proofs.Basics.{filter_map, cases_eq, All-cons, All-nil, filter-append, list_all-append}
-use Rattle.px_num.proofs.TruthLaws.{and_right}
-use Rattle.px_sets.specs.declared.set.SolidSet.{SolidSet}
-use Rattle.px_normal.specs.declared.product.Product.{Product}
-use Rattle.px_sets.specs.Sets.{has, solids, below}
+use Rattle.px_num.proofs.Basics.{◌∷◌, refl, sym, ◌∙◌, subst, arith, Option, Some, None, All, list_all, list_any}
+use Rattle.px_num.proofs.Basics.{filter, filter_map, cases_eq, All-cons, All-nil, filter-append, list_all-append}
+use Rattle.px_prune.proofs.Words.{and_right, any_last, below, box_of_all, CellBox, has, is_void, kept_products}
+use Rattle.px_prune.proofs.Words.{LawsOfSets, meets, Product, pruned, pruned_within, set_of, SolidSet, staying}
+use Rattle.px_sets.specs.Sets.{solids}
 use Rattle.px_normal.specs.Forms.{HasPlain, HasSolidsBelow}
-use Rattle.px_sets.specs.SetLaws.{LawsOfSets}
-use Rattle.px_sets.specs.declared.cell_box.CellBox.{CellBox}
-use Rattle.px_normal.specs.Live.{box_of_all, is_void}
-use Rattle.px_sets.proofs.SolidsLaws.{any_last}
-use Rattle.px_prune.specs.Kept.{kept_products, meets, pruned, pruned_within, set_of, staying}
 use Rattle.px_prune.proofs.WithinLemmas.{any-set_of, filtered_solids, is_solid}
 
 are_solids : (f : ℕ → Bool) (n : ℕ) → n ≤ 256 → list_all is_solid (filter f (below n)) ≡ true

@@ -1,16 +1,10 @@
 -- Cells in boxes, and solids of filtered sets.
-use Rattle.px_num.proofs.Basics.{ℕ, ◌≡◌, ◌<◌, ◌||◌, ◌&&◌, not, nat_lt, Bool, true, false, List, [], ◌∷◌, refl, sym, ◌∙◌}
-use Rattle.px_num.proofs.Basics.{arith, Option, Some, None, fold, list_all, list_any, filter}
-use Rattle.px_num.proofs.TruthLaws.{and_both, and_left, and_right, and_true, not_both, or_false}
-use Rattle.px_sets.specs.declared.set.SolidSet.{SolidSet}
-use Rattle.px_sets.specs.Sets.{has, empty, one, sets_joined, solids}
-use Rattle.px_sets.specs.SetLaws.{LawsOfSets}
-use Rattle.px_sets.specs.declared.cell_box.CellBox.{CellBox}
-use Rattle.px_sets.specs.Boxes.{lies_in, has_cell, common_part, narrowed, is_in_box}
-use Rattle.px_sets.proofs.BoxLaws.{in_common_part, in_narrowed}
-use Rattle.px_prune.specs.Boxes.{with_cells_behind}
+use Rattle.px_num.proofs.Basics.{ℕ, ◌≡◌, ◌<◌, ◌||◌, ◌&&◌, not, nat_lt, Bool, true, false, List, [], ◌∷◌, refl, sym}
+use Rattle.px_num.proofs.Basics.{◌∙◌, arith, Option, Some, None, fold, list_all, list_any, filter}
+use Rattle.px_prune.proofs.Words.{and_both, and_left, and_right, and_true, CellBox, common_part, empty, has, has_cell}
+use Rattle.px_prune.proofs.Words.{in_common_part, in_narrowed, is_in_box, LawsOfSets, lies_in, meets, narrowed}
+use Rattle.px_prune.proofs.Words.{not_both, one, or_false, set_of, sets_joined, solids, SolidSet, with_cells_behind}
 use Rattle.px_prune.proofs.BehindLemmas.{is_in_or_behind}
-use Rattle.px_prune.specs.Kept.{meets, set_of}
 
 module _ (x y z : ℕ) where
   pub inside_has : (a : CellBox) → lies_in a x y z ≡ true → has_cell a ≡ true

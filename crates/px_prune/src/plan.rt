@@ -14,7 +14,7 @@ use crate::{CellBox, MAX_PRODUCTS};
 use px_model::Scene;
 use px_normal::{NormalFault, Product, Products, normalise};
 use px_num::Memory;
-use px_sets::{SolidSet, laws_of_sets};
+use px_sets::SolidSet;
 use std::alloc::Global;
 
 /// The products of a scene that can show anything.
@@ -72,9 +72,7 @@ pub fn laws_of_pruning()
         All (HasSolidsBelow count) products → All (HasSolidsBelow count) (kept_of scene products) }
     ensures live { (scene : SceneView) (products : List Product) →
         kept_of scene (filter (is_live (bounding_box scene)) products) ≡ kept_of scene products }
-{
-    laws_of_sets();
-}
+{}
 
 fn kept_products(
     alloc: Global,

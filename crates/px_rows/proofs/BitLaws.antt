@@ -1,25 +1,19 @@
 -- The bits of words that are joined, turned over, moved and cut.
 use Rattle.px_num.proofs.Basics.{◌≡◌, ℕ, suc, ◌+◌, ◌-◌, ◌*◌, ◌/◌, ◌%◌, ◌^◌, ◌==◌, ◌<◌, false, ◌&&◌, ◌||◌, refl, ap, ◌∙◌}
-use Rattle.px_num.proofs.Basics.{arith, ◌⊎◌, bit_and, bit_or, bit_xor, agree_below_at, pow-add, shr_split, shr-shr}
+use Rattle.px_num.proofs.Basics.{arith, bit_and, bit_or, bit_xor, agree_below_at, pow-add, shr_split, shr-shr}
 use Rattle.px_num.proofs.Basics.{bit_at_and, bit_at_or, bit_at-zero}
 use Rattle.std.proofs.lemmas.Nat.{field_of}
 use Rattle.std.proofs.lemmas.Nat.Bits.{bit_at_xor}
 use Rattle.px_num.specs.Bits.{nat_bit, xor}
 
-zero_or_one : (x : ℕ) → x < 2 → (x ≡ 0) ⊎ (x ≡ 1)
-zero_or_one x below = grind arith
-
-two_bits : (P : ℕ → ℕ → Type 0) → P 0 0 → P 0 1 → P 1 0 → P 1 1 → (x y : ℕ) → x < 2 → y < 2 → P x y
-two_bits P a b c d x y hx hy = grind (arith, zero_or_one)
-
 pub bit-and : (a b i : ℕ) → nat_bit (bit_and a b) i ≡ (nat_bit a i && nat_bit b i)
-bit-and a b i = grind (arith, bit_at_and, two_bits)
+bit-and a b i = grind (arith, bit_at_and)
 
 pub bit-or : (a b i : ℕ) → nat_bit (bit_or a b) i ≡ (nat_bit a i || nat_bit b i)
-bit-or a b i = grind (arith, bit_at_or, two_bits)
+bit-or a b i = grind (arith, bit_at_or)
 
 pub bit-xor : (a b i : ℕ) → nat_bit (bit_xor a b) i ≡ xor (nat_bit a i) (nat_bit b i)
-bit-xor a b i = grind (arith, bit_at_xor, two_bits)
+bit-xor a b i = grind (arith, bit_at_xor)
 
 pub bit_of_zero : (i : ℕ) → nat_bit 0 i ≡ false
 bit_of_zero i = ap (λ b. b == 1) (bit_at-zero i)

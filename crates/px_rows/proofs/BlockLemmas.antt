@@ -1,15 +1,8 @@
 -- Blocks of eight words that are read and written.
-use Rattle.px_num.proofs.Basics.{◌≡◌, ℕ, ◌+◌, ◌-◌, ◌*◌, ◌<◌, ◌≤◌, Bool, List, length, get_or, ap, ◌∙◌, arith, cases_lt}
-use Rattle.px_num.proofs.Basics.{get_or-put_chunk_at, get_or-put_chunk_below, get_or-put_chunk_above}
-use Rattle.std.specs.Simd.Lanes.{put_chunk}
+use Rattle.px_num.proofs.Basics.{◌≡◌, ℕ, ◌+◌, ◌-◌, ◌*◌, ◌<◌, ◌≤◌, Bool, List, get_or, ap, ◌∙◌, arith, cases_lt}
 use Rattle.px_num.specs.Bits.{nat_bit}
 use Rattle.px_rows.specs.Rows.{row_bit}
 use Rattle.px_rows.specs.Words.{IsBlock, IsWritten}
-
-pub written_law : (at : ℕ) (row words : List ℕ) → at + 8 ≤ length row → length words ≡ 8
-    → IsWritten (λ k word. (i : ℕ) → k ≡ at + i → word ≡ get_or words i 0) at row (put_chunk at row words)
-written_law at row words within long =
-    grind (arith, get_or-put_chunk_at, get_or-put_chunk_below, get_or-put_chunk_above)
 
 -- the words that are written, and those that were read
 pub word_written : (at k : ℕ) (old new words : List ℕ) → IsWritten (λ k word. (i : ℕ) → k ≡ at + i

@@ -1,36 +1,22 @@
 -- The bits of what the calls on rows make of words, and of the words in vectors.
-use Rattle.px_num.proofs.Basics.{◌≡◌, ℕ, ◌-◌, ◌^◌, ◌==◌, ◌<◌, Bool, true, false, cond, ◌&&◌, List, length, get_or}
+use Rattle.px_num.proofs.Basics.{◌≡◌, ℕ, ◌-◌, ◌^◌, ◌==◌, ◌<◌, Bool, true, cond, ◌&&◌, List, length, get_or}
 use Rattle.px_num.proofs.Basics.{replicate, sym, ap, ◌∙◌, arith, bit_and, bit_xor, bit_at_ones, get_or-zip2}
 use Rattle.px_num.proofs.Basics.{length-zip2, zip2}
 use Rattle.std.proofs.lemmas.Simd.{get_or-replicate, length-replicate}
 use Rattle.px_num.specs.Bits.{majority, nat_bit, xor}
 use Rattle.px_rows.specs.Rows.{HasAll}
 use Rattle.px_rows.specs.Words.{IsAdded, IsCarried, IsChosen, IsKeptWord, IsMajority, IsSummed}
-use Rattle.px_rows.proofs.BitLaws.{bit-and, bit-xor, bit_of_zero}
+use Rattle.px_rows.proofs.BitLaws.{bit-and, bit-xor}
 
 pub all_ones : HasAll (2 ^ 64 - 1) true
 all_ones = record { each = λ i in_word. ap (λ b. b == 1) (bit_at_ones 64 i in_word) }
-
-pub all_zeros : HasAll 0 false
-all_zeros = record { each = λ i in_word. bit_of_zero i }
-
-pub kept_law : (mask other turn : ℕ) → IsKeptWord (bit_and mask (bit_xor other turn)) mask other turn
-kept_law mask other turn = grind (arith, bit-and, bit_xor, bit-xor)
 
 chosen : (t v m : Bool) → xor t (xor t v && m) ≡ cond m v t
 chosen t v m = grind arith
 
 pub chosen_law : (target value mask : ℕ) → IsChosen (bit_xor target (bit_and (bit_xor target value) mask)) target
     value mask
-chosen_law target value mask = grind (arith, bit-xor, bit_and, bit_xor, bit-and, chosen)
-
-outvoted : (a b c : Bool) → xor a (xor a b && xor a c) ≡ majority a b c
-outvoted a b c = grind arith
-
-pub majority_law : (carry other value turn : ℕ)
-    → IsMajority (bit_xor carry (bit_and (bit_xor carry other) (bit_xor carry (bit_xor value turn)))) carry other
-    value turn
-majority_law carry other value turn = grind (arith, bit-xor, bit_and, bit_xor, bit-and, outvoted)
+chosen_law target value mask = grind (arith, bit-xor, bit_and, bit_xor, bit-and)
 
 added : (t k v m : Bool) → xor t (xor v k && m) ≡ cond m (xor v (xor t k)) t
 added t k v m = grind arith
@@ -64,7 +50,7 @@ module _ (n : ℕ) where
     -- a & (b ^ t)
     pub kept_lane : (t : ℕ) → IsKeptWord (get_or (zip2 bit_and a (zip2 bit_xor b (replicate n t))) i 0) (get_or a i 0)
         (get_or b i 0) t
-    kept_lane t = grind (arith, length-replicate, lane, bit_and, bit_xor, long, get_or-replicate, kept_law)
+    kept_lane t = grind (arith, length-replicate, lane, bit_and, bit_xor, long, get_or-replicate, bit-and, bit-xor)
 
     -- a ^ ((a ^ b) & c)
     pub chosen_lane : IsChosen (get_or (zip2 bit_xor a (zip2 bit_and (zip2 bit_xor a b) c)) i 0) (get_or a i 0)
@@ -76,7 +62,7 @@ module _ (n : ℕ) where
         → IsMajority
         (get_or (zip2 bit_xor a (zip2 bit_and (zip2 bit_xor a b)
         (zip2 bit_xor a (zip2 bit_xor c (replicate n t))))) i 0) (get_or a i 0) (get_or b i 0) (get_or c i 0) t
-    majority_lane t = grind (arith, length-replicate, long, bit_xor, lane, bit_and, get_or-replicate, majority_law)
+    majority_lane t = grind (arith, length-replicate, long, bit_xor, lane, bit_and, get_or-replicate, bit-xor, bit-and)
 
     -- a ^ ((c ^ b) & d)
     pub added_lane : IsAdded (get_or (zip2 bit_xor a (zip2 bit_and (zip2 bit_xor c b) d)) i 0) (get_or a i 0)

@@ -24,7 +24,7 @@ use px_answers::four_lines;
 use px_array::Array;
 use px_asm::Operating;
 use px_control::{Job, law_of_grids};
-use px_deliver::draw;
+use px_deliver::draw_job;
 use px_frame::stored;
 use px_io::{Failed, Sink};
 use px_model::MAX_PICTURE_SIZE;
@@ -155,7 +155,7 @@ fn measures<A: Operating>(
         (array_view (A.device array.old) (A.slots array.old) (A.work array.old))
         → IsRunOnce (array_view (A.device array.new) (A.slots array.new) (A.work array.new)) }
 {
-    let layout = draw(job, scene, array);
+    let layout = draw_job(job, scene, array);
     let shown = count_shown(array, &layout, scene);
     four_lines(shown.pixels, shown.depths, products, job.total_clocks())
 }

@@ -1,32 +1,21 @@
 -- The scene of a text that is accepted: line by line its draft is lawful.
 use Rattle.px_num.proofs.Basics.{◌≡◌, ℕ, ◌+◌, ◌-◌, ◌≤◌, List, [], ◌∷◌, ◌++◌, length, Bool, true, false, Option, Some}
-use Rattle.px_num.proofs.Basics.{None, Result, All, IsSomeAnd, refl, subst, sym, arith, nat_lt, unwrap_or, append_assoc}
+use Rattle.px_num.proofs.Basics.{None, Result, All, IsSomeAnd, subst, sym, arith, nat_lt, unwrap_or, append_assoc}
 use Rattle.px_num.proofs.Basics.{append-nil, if◌then◌else◌, slice_get, option_or}
-use Rattle.px_num.proofs.TruthLaws.{none_first, none_second}
+use Rattle.px_scene.proofs.Words.{All-push, blank, Cause, colour_of, colour_past, draft_of, DraftView, Due}
+use Rattle.px_scene.proofs.Words.{fault_behind, fault_by, fault_in, first_bad, Form, form_of, fresh_solid, is_among}
+use Rattle.px_scene.proofs.Words.{is_due, is_ended, is_nothing, IsLawfulDraft, IsLawfulSolid, Keyword, keyword_of}
+use Rattle.px_scene.proofs.Words.{lines_of, most, names_of, none_first, none_second, plane_past, refused, SceneFault}
+use Rattle.px_scene.proofs.Words.{taken, taken_by, tally_of, worded, Words}
 use Rattle.px_expr.specs.Tree.{HasLeavesBelow, Tree, leaf}
-use Rattle.px_model.specs.Scenes.{IsLawfulScene, IsLawfulSolid, names_of}
-use Rattle.px_model.proofs.SolidLemmas.{All-push}
-use Rattle.px_show.specs.Judged.{SceneFault, first_bad, refused}
-use Rattle.px_text.specs.Text.{Words, lines_of, worded}
 use Rattle.px_show.proofs.JudgedLaws.{none_here, not_refused}
-use Rattle.px_show.specs.declared.fault.LimitKind.TheVariants as kind
-use Rattle.px_scene.specs.declared.line.Due.{Due}
-use Rattle.px_scene.specs.declared.line.Due.TheVariants as d
-use Rattle.px_scene.specs.declared.line.Keyword.{Keyword}
 use Rattle.px_scene.specs.AcceptedLaw.{AcceptedIsLawful}
-use Rattle.px_scene.specs.Drafts.{DraftView, blank, colour_of, draft_of, drawn, fault_by, fault_in, fresh_solid}
-use Rattle.px_scene.specs.Drafts.{taken, taken_by, tally_of}
-use Rattle.px_show.specs.Expressions.{is_among}
-use Rattle.px_show.specs.declared.fault.Cause.{Cause}
-use Rattle.px_scene.specs.LawfulDrafts.{IsLawfulDraft, is_ended}
-use Rattle.px_scene.specs.Lines.{Form, colour_past, form_of, is_due, keyword_of, most, plane_past}
 use Rattle.px_scene.proofs.FormLemmas.{HoldsOfForms, by_form}
-use Rattle.px_scene.specs.Reading.{fault_behind, is_nothing}
 use Rattle.px_scene.proofs.DraftLaws.{draft_more}
 use Rattle.px_scene.proofs.LawfulLemmas.{can_be_taken, lawful_line, new_name, with_due}
-use Rattle.px_scene.proofs.ReadLemmas.{lawful_blank}
 use Rattle.px_scene.proofs.SolidLemmas.{head_lawful, last_back, last_front, last_side, lawful_last}
 use Rattle.px_scene.proofs.TakenLemmas.{at_most, begun_back, begun_front, face_room}
+use Rattle.px_show.specs.declared.fault.LimitKind.TheVariants as kind
 
 -- a line that is due and has no fault leaves the solids lawful
 module _ (draft : DraftView) (is : IsLawfulDraft draft) (all : All IsLawfulSolid draft.solids) where
@@ -90,16 +79,11 @@ kept_all before (l ∷ ls) kept none =
     subst (λ ls. IsKept (draft_of ls)) (append_assoc before (l ∷ []) ls) (kept_all (before ++ l ∷ []) ls one here.1)
 
 ended_nothing : (due : Due) → is_nothing due ≡ true → is_ended due ≡ true
-ended_nothing d.Nothing e = refl
-ended_nothing due e = cc
+ended_nothing x e = grind arith
 
 shown_leaves : (n : ℕ) (show : Option Tree) → IsSomeAnd show (HasLeavesBelow n)
     → HasLeavesBelow n (unwrap_or show (leaf 0))
-shown_leaves n None is = absurd is
-shown_leaves n (Some tree) is = is
-
-drawn_lawful : (draft : DraftView) → IsLawfulDraft draft → is_nothing draft.due ≡ true → IsLawfulScene (drawn draft)
-drawn_lawful draft is ended = grind (arith, shown_leaves, ended_nothing)
+shown_leaves n x is = grind arith
 
 past_limit : (long : Bool) (why : SceneFault) (later : Option SceneFault) → (if long then Some why else later) ≡ None
     → later ≡ None
@@ -113,6 +97,6 @@ accepted_lawful text none =
     (refused (first_bad fault_behind [] lines) (is_nothing (draft_of lines).due) (length (lines_of text))) none in
     let good = not_refused (first_bad fault_behind [] lines) (is_nothing (draft_of lines).due) (length (lines_of text))
     later in
-    let start : IsKept blank = record { lawful = lawful_blank; solids = λ i e lt. absurd (omega arith) } in
+    let start : IsKept blank = record { lawful = grind arith; solids = λ i e lt. absurd (omega arith) } in
     let all = kept_all [] lines start good.0 in
-    record { scene_is = drawn_lawful (draft_of lines) all.lawful good.1; solids = all.solids }
+    record { scene_is = grind (arith, shown_leaves, ended_nothing); solids = all.solids }

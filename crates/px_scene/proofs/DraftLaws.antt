@@ -1,9 +1,7 @@
 -- What lines say with one more, why the next one is bad, and a text within its limit.
 use Rattle.px_num.proofs.Basics.{◌≡◌, ℕ, ◌≤◌, ◌^◌, List, [], ◌∷◌, ◌++◌, length, nat_lt, false, ap, sym, ◌∙◌, arith}
 use Rattle.px_num.proofs.Basics.{nat_tests, fold-append}
-use Rattle.px_text.specs.Text.{Words}
-use Rattle.px_scene.specs.Drafts.{DraftView, blank, draft_of, fault_in, taken}
-use Rattle.px_scene.specs.Reading.{fault_behind}
+use Rattle.px_scene.proofs.Words.{blank, draft_of, DraftView, fault_behind, fault_in, taken, Words}
 
 pub draft_more : (before : List Words) (l : Words) → draft_of (before ++ l ∷ []) ≡ taken (draft_of before) l
 draft_more before l = fold-append taken blank before (l ∷ [])

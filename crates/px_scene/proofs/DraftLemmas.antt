@@ -1,7 +1,6 @@
 -- The last solid of a draft, changed in place.
 use Rattle.px_num.proofs.Basics.{zero, suc, ◌≡◌, ℕ, ◌+◌, List, [], ◌∷◌, length, get_or, slice_set, ap, arith}
-use Rattle.px_model.specs.Scenes.{SolidView}
-use Rattle.px_scene.specs.Drafts.{with_last}
+use Rattle.px_scene.proofs.Words.{SolidView, with_last}
 
 pub last_set : (change : SolidView → SolidView) (ss : List SolidView) (n : ℕ) (d s : SolidView) → n + 1 ≡ length ss
     → s ≡ change (get_or ss n d) → slice_set ss n s ≡ with_last change ss

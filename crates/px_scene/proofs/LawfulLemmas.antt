@@ -2,33 +2,21 @@
 use Rattle.px_num.proofs.Basics.{suc, ◌≡◌, ℕ, ℤ, ◌+◌, ◌≤◌, List, [], ◌∷◌, length, Bool, true, false, refl, ap, arith}
 use Rattle.px_num.proofs.Basics.{length-append, Option, Some, None, Result, Err, subst, add-zero, if◌then◌else◌}
 use Rattle.px_num.proofs.Basics.{length-map, map-append, sum_by-append}
-use Rattle.px_show.specs.declared.fault.Cause.{Cause}
-use Rattle.px_show.specs.declared.fault.LimitKind.{LimitKind}
-use Rattle.px_show.specs.declared.fault.LimitKind.TheVariants as kind
-use Rattle.px_show.specs.declared.fault.LineFault.{LineFault}
-use Rattle.px_scene.specs.declared.line.Due.TheVariants as d
-use Rattle.px_scene.specs.declared.line.Keyword.{Keyword}
-use Rattle.px_scene.specs.declared.line.Paint.{Paint}
-use Rattle.px_scene.specs.declared.line.Plane.{Plane}
-use Rattle.px_show.specs.Expressions.{is_among, show_cause, show_tree}
+use Rattle.px_scene.proofs.Words.{CanBeTaken, Cause, depth, depth_past, DraftView, face_of, faces_in, fault_by}
+use Rattle.px_scene.proofs.Words.{fault_in, Form, form_of, is_among, is_begun, is_due, is_name, IsLawfulDraft}
+use Rattle.px_scene.proofs.Words.{IsNumberedFrom, Keyword, keyword_of, LimitKind, LineFault, names_of, none_first}
+use Rattle.px_scene.proofs.Words.{none_second, not_due, Paint, Plane, show_cause, show_tree, solid, SolidView, taken}
+use Rattle.px_scene.proofs.Words.{taken_by, tally_of, with_back, with_form, with_front, with_last, with_side, Words}
 use Rattle.px_show.proofs.FaultLaws.{good_form}
 use Rattle.px_show.proofs.ShowLaws.{shown_lawful, named_show}
-use Rattle.px_num.specs.declared.linear.Linear.{Linear}
-use Rattle.px_num.proofs.TruthLaws.{none_first, none_second}
-use Rattle.px_text.specs.Text.{Words, is_name}
-use Rattle.px_scene.specs.Lines.{Form, depth, solid, picture_past, depth_past, keyword_of, is_due}
-use Rattle.px_scene.specs.Lines.{form_of, not_due, size_of}
-use Rattle.px_model.specs.Scenes.{SolidView, faces_in, names_of, IsNumberedFrom}
-use Rattle.px_scene.specs.Drafts.{DraftView, face_of, with_last, with_front, with_back, with_side, with_form}
-use Rattle.px_scene.specs.Drafts.{fault_by, fault_in, taken, taken_by, tally_of}
-use Rattle.px_scene.specs.LawfulDrafts.{IsLawfulDraft, is_begun, CanBeTaken}
 use Rattle.px_scene.proofs.FormLemmas.{HoldsOfForms, by_form}
 use Rattle.px_scene.proofs.NameLaws.{names_push}
 use Rattle.px_scene.proofs.NumberLemmas.{numbered_front, numbered_back, numbered_push}
-use Rattle.px_scene.proofs.TakenLemmas.{numbered_last, faces_of-with_last, names_with_last}
-use Rattle.px_scene.proofs.TakenLemmas.{SolidRoom, size_within, fraction_within}
-use Rattle.px_scene.proofs.TakenLemmas.{numbered_fresh, face_room, solid_room, begun_front, begun_back, begun_side}
-use Rattle.px_scene.proofs.TakenLemmas.{begun_end, ended_end, last_can_take}
+use Rattle.px_scene.proofs.TakenLemmas.{numbered_last, faces_of-with_last, names_with_last, SolidRoom, size_within}
+use Rattle.px_scene.proofs.TakenLemmas.{fraction_within, face_room, begun_front, begun_back, begun_side, begun_end}
+use Rattle.px_scene.proofs.TakenLemmas.{ended_end, last_can_take, at_most}
+use Rattle.px_show.specs.declared.fault.LimitKind.TheVariants as kind
+use Rattle.px_scene.specs.declared.line.Due.TheVariants as d
 
 pub length-with_last : (change : SolidView → SolidView) (ss : List SolidView) → length (with_last change ss) ≡ length ss
 length-with_last change [] = refl
@@ -82,29 +70,15 @@ back_grows number p = record {
   numbers = λ first s e is. numbered_back first s (face_of s.colour number p) is (omega arith);
 }
 
-side_grows : (number : ℕ) (form : Linear) → Grows number 0 (with_side form)
-side_grows number form = grind arith
-
-lawful_picture : (draft : DraftView) (w h : ℤ) → IsLawfulDraft draft → picture_past w h ≡ None
-    → IsLawfulDraft (record draft { width = size_of w; height = size_of h; due = d.Depth })
-lawful_picture draft w h is e = grind (arith, size_within, none_first, none_second)
-
--- the bits of a depth and of its fraction
-lawful_bits : (draft : DraftView) (bits fraction : ℕ) → IsLawfulDraft draft → 1 ≤ bits → bits + fraction ≤ 24
-    → fraction ≤ 8 → IsLawfulDraft (record draft { depth_bits = bits; fraction_bits = fraction; due = d.Solid })
-lawful_bits draft bits fraction is some most few = grind arith
-
 lawful_depth : (draft : DraftView) (bits : ℤ) (fraction : Option ℤ) → IsLawfulDraft draft
     → depth_past bits fraction ≡ None → IsLawfulDraft (record (with_form draft (depth bits fraction)) { due = d.Solid })
-lawful_depth draft bits None is e = grind (arith, size_within, none_first, lawful_bits)
-lawful_depth draft bits (Some fraction) is e =
-    grind (arith, size_within, none_first, fraction_within, none_second, lawful_bits)
+lawful_depth draft bits x is e = grind (arith, size_within, none_first, fraction_within, none_second)
 
 lawful_solid : (draft : DraftView) (name : List ℕ) (paint : Paint) → IsLawfulDraft draft → is_name name ≡ true
     → is_among (names_of draft.solids) name ≡ false → SolidRoom (length draft.solids) draft.numbered
     → IsLawfulDraft (record (with_form draft (solid name paint)) { due = d.Plane })
 lawful_solid draft name paint is lawful other room =
-    grind (arith, names_push, map-append, length-append, numbered_push, numbered_fresh, sum_by-append)
+    grind (arith, names_push, map-append, length-append, numbered_push, sum_by-append)
 
 pub lawful_show : (draft : DraftView) (ws : Words) → IsLawfulDraft draft
     → show_cause draft.version (names_of draft.solids) ws ≡ None
@@ -135,11 +109,11 @@ module _ (draft : DraftView) (is : IsLawfulDraft draft) where
   forms = record {
     bad = λ key cause due none. cc;
     header = grind arith;
-    picture = λ w h due none. lawful_picture draft w h is none;
+    picture = λ w h due none. grind (arith, size_within, none_first, none_second);
     depth = λ bits fraction due none. lawful_depth draft bits fraction is none;
     solid = λ name paint named due none.
         let good = new_name (is_among (names_of draft.solids) name) _ _ none in
-        lawful_solid draft name paint is named good.0 (solid_room _ _ _ good.1);
+        lawful_solid draft name paint is named good.0 (grind (arith, none_first, at_most, none_second));
     front = λ plane due none.
         let room = face_room kind.Fronts (tally_of draft).fronts draft.numbered plane none in
         lawful_plane draft 1 (with_front (draft.numbered + 1) plane) is (begun_front draft.due due)
@@ -153,7 +127,7 @@ module _ (draft : DraftView) (is : IsLawfulDraft draft) where
         (subst (λ (n : ℕ). Grows n 1 (with_back (draft.numbered + 1) plane)) (omega arith)
         (back_grows (draft.numbered + 1) plane));
     side = λ form due none. rw (← add-zero draft.numbered) (lawful_plane draft 0 (with_side form) is
-        (begun_side draft.due due) (let faces = is.solids.faces in omega arith) (side_grows _ form));
+        (begun_side draft.due due) (let faces = is.solids.faces in omega arith) (grind arith));
     show = λ ws due none. lawful_show draft ws is (good_form _ _ none);
     end = grind (arith, begun_end, ended_end);
   }

@@ -10,3 +10,4 @@ pub mod ParseLemmas
 pub mod ReadLemmas
 pub mod SolidLemmas
 pub mod TakenLemmas
+pub mod Words

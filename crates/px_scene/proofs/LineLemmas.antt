@@ -1,7 +1,6 @@
 -- A test of what each element is mapped to.
 use Rattle.px_num.proofs.Basics.{◌≡◌, ℕ, List, [], ◌∷◌, Bool, ◌||◌, map, refl, ap, list_any, bytes_eq}
-use Rattle.px_show.specs.Expressions.{is_among}
-use Rattle.px_model.specs.Scenes.{SolidView, names_of}
+use Rattle.px_scene.proofs.Words.{is_among, names_of, SolidView}
 
 list_any-map : {X Y : Type 0} (p : Y → Bool) (f : X → Y) (xs : List X) → list_any p (map f xs)
     ≡ list_any (λ x. p (f x)) xs

@@ -1,9 +1,8 @@
 -- One name more, which is none of those before.
 use Rattle.px_num.proofs.Basics.{nat_tests, common_steps, zero, suc, ◌≡◌, ◌≢◌, ℕ, ◌<◌, List, [], ◌∷◌, ◌++◌, length}
 use Rattle.px_num.proofs.Basics.{get_or, Bool, true, false, ◌||◌, refl, sym, arith, bytes_eq, all_pairs_push}
+use Rattle.px_scene.proofs.Words.{is_among, is_name, Words}
 use Rattle.std.specs.Cmp.Lexicographic.{other_text}
-use Rattle.px_text.specs.Text.{Words, is_name}
-use Rattle.px_show.specs.Expressions.{is_among}
 use Rattle.px_show.specs.Printed.{AreDistinctNames}
 
 neither : (a b : Bool) → a || b ≡ false → (a ≡ false) × (b ≡ false)

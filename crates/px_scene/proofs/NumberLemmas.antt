@@ -1,9 +1,8 @@
 -- Face numbers run on when a solid or a face comes behind the others.
 use Rattle.px_num.proofs.Basics.{common_steps, suc, nat_tests, ◌≡◌, ℕ, ◌+◌, ◌<◌, ◌≤◌, ◌==◌, List, [], ◌∷◌, ◌++◌, false}
 use Rattle.px_num.proofs.Basics.{◌||◌, refl, arith, length-append, inl, inr, ◌⊎◌, subst, cases_eq, All}
-use Rattle.px_model.specs.declared.solid.Face.{Face}
-use Rattle.px_model.specs.Scenes.{SolidView, faces_in, has_number, IsNumberedFrom, AreNumberedFrom, faces_of}
-use Rattle.px_model.proofs.FaceLaws.{faces_of-cons}
+use Rattle.px_scene.proofs.Words.{AreNumberedFrom, Face, faces_in, faces_of, faces_of-cons, has_number, IsNumberedFrom}
+use Rattle.px_scene.proofs.Words.{SolidView}
 
 has_number-push : (faces : List Face) (f : Face) (n : ℕ) → has_number (faces ++ f ∷ []) n
     ≡ (has_number faces n || f.number == n)

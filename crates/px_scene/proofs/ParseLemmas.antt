@@ -1,20 +1,13 @@
 -- A line without a fault, as it is judged in two steps, leaves the draft lawful.
-use Rattle.px_scene.specs.declared.line.Due.{Due}
-use Rattle.px_scene.specs.LawfulDrafts.{IsLawfulDraft}
-use Rattle.px_scene.proofs.LawfulLemmas.{lawful_line}
 use Rattle.px_num.proofs.Basics.{◌≡◌, ℕ, List, ◌∷◌, Option, Some, None, Ok, Bool, true, false, if◌then◌else◌, refl, ap}
 use Rattle.px_num.proofs.Basics.{sym, ◌∙◌, subst, option_or}
-use Rattle.px_text.specs.Text.{Words}
-use Rattle.px_model.specs.Scenes.{names_of}
-use Rattle.px_show.specs.Expressions.{is_among}
-use Rattle.px_show.specs.declared.fault.Cause.{Cause}
-use Rattle.px_show.specs.declared.fault.Cause.TheVariants as c
-use Rattle.px_show.specs.declared.fault.LimitKind.{LimitKind}
-use Rattle.px_show.specs.declared.fault.LineFault.{LineFault}
-use Rattle.px_show.specs.declared.fault.LineFault.TheVariants as f
-use Rattle.px_scene.specs.Lines.{Form, header, picture, depth, solid, front, back, side, show, end, due_after}
-use Rattle.px_scene.specs.Drafts.{DraftView, fault_by, fault_in, form_in, taken, taken_by, with_form}
+use Rattle.px_scene.proofs.Words.{back, Cause, depth, DraftView, Due, due_after, end, fault_by, fault_in, Form}
+use Rattle.px_scene.proofs.Words.{form_in, front, header, is_among, IsLawfulDraft, LimitKind, LineFault, names_of}
+use Rattle.px_scene.proofs.Words.{picture, show, side, solid, taken, taken_by, with_form, Words}
+use Rattle.px_scene.proofs.LawfulLemmas.{lawful_line}
 use Rattle.px_scene.specs.Parsed.{fault_left, fault_shown, malformed_or}
+use Rattle.px_show.specs.declared.fault.Cause.TheVariants as c
+use Rattle.px_show.specs.declared.fault.LineFault.TheVariants as f
 
 or_none : {A : Type 0} (x : Option A) → option_or x None ≡ x
 or_none None = refl

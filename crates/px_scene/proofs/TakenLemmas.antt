@@ -1,23 +1,10 @@
 -- What a draft keeps over a good line.
 use Rattle.px_num.proofs.Basics.{nat_tests, common_steps, ◌≡◌, ℕ, ℤ, pos, ◌≤ℤ◌, ◌+◌, ◌-◌, ◌<◌, ◌≤◌, List, [], ◌∷◌}
-use Rattle.px_num.proofs.Basics.{length, true, refl, ap, arith, slice_get, IfSome, Option, None, add-zero, ints}
-use Rattle.px_num.proofs.Basics.{option_or}
-use Rattle.px_show.specs.Judged.{past}
-use Rattle.px_show.specs.declared.fault.LimitKind.{LimitKind}
-use Rattle.px_show.specs.declared.fault.LimitKind.TheVariants as kind
-use Rattle.px_show.specs.declared.fault.LineFault.{LineFault}
-use Rattle.px_scene.specs.declared.line.Due.{Due}
-use Rattle.px_scene.specs.declared.line.Due.TheVariants as d
+use Rattle.px_num.proofs.Basics.{length, true, refl, ap, arith, slice_get, IfSome, None, add-zero, ints}
+use Rattle.px_scene.proofs.Words.{AreNumberedFrom, CanTakeFace, Due, face_limit, face_past, faces_in, faces_of}
+use Rattle.px_scene.proofs.Words.{faces_of-cons, fraction_past, is_begun, is_due, is_ended, IsNumberedFrom, LimitKind}
+use Rattle.px_scene.proofs.Words.{most, names_of, none_first, none_second, past, Plane, size_of, SolidView, with_last}
 use Rattle.px_scene.specs.declared.line.Keyword.TheVariants as k
-use Rattle.px_scene.specs.declared.line.Plane.{Plane}
-use Rattle.px_scene.specs.Lines.{most, fraction_past, face_past, face_limit, is_due, size_of}
-use Rattle.px_scene.specs.Drafts.{fresh_solid, with_last}
-use lib.IntN.{negsuc}
-use Rattle.px_model.specs.declared.solid.Colour.{Colour}
-use Rattle.px_model.specs.Scenes.{SolidView, faces_in, names_of, IsNumberedFrom, AreNumberedFrom, faces_of}
-use Rattle.px_scene.specs.LawfulDrafts.{CanTakeFace, is_begun, is_ended}
-use Rattle.px_num.proofs.TruthLaws.{none_first, none_second}
-use Rattle.px_model.proofs.FaceLaws.{faces_of-cons}
 
 pub at_most : (limit : LimitKind) (high found : ℕ) → most limit high found ≡ None → found ≤ high
 at_most limit high found e = grind (arith, ints)
@@ -37,11 +24,6 @@ pub record SolidRoom (before numbered : ℕ) : Type 0 where
   pub solids : before < 255
   pub numbers : numbered < 4095
 
-pub solid_room : (before numbered : ℕ) (past : Option (LineFault LimitKind))
-    → option_or (option_or past (most kind.Solids 255 (before + 1))) (most kind.Faces 4095 (numbered + 1)) ≡ None
-    → SolidRoom before numbered
-solid_room before numbered past e = grind (arith, none_first, at_most, none_second)
-
 -- the last solid can take the number behind all the faces
 pub last_can_take : (first : ℕ) (ss : List SolidView) → AreNumberedFrom first ss → 0 < length ss
     → IfSome (slice_get ss (length ss - 1)) (CanTakeFace (first + faces_of ss))
@@ -52,28 +34,19 @@ last_can_take first (s ∷ t ∷ ss) are some =
 
 -- lines that come only after a solid's
 pub begun_front : (due : Due) → is_due due k.Front ≡ true → is_begun due ≡ true
-begun_front d.Plane e = refl
-begun_front due e = cc
+begun_front x e = grind arith
 
 pub begun_back : (due : Due) → is_due due k.Back ≡ true → is_begun due ≡ true
-begun_back d.Plane e = refl
-begun_back due e = cc
+begun_back x e = grind arith
 
 pub begun_side : (due : Due) → is_due due k.Side ≡ true → is_begun due ≡ true
-begun_side d.Plane e = refl
-begun_side due e = cc
+begun_side x e = grind arith
 
 pub ended_end : (due : Due) → is_due due k.End ≡ true → is_ended due ≡ true
-ended_end d.End e = refl
-ended_end due e = cc
+ended_end x e = grind arith
 
 pub begun_end : (due : Due) → is_due due k.End ≡ true → is_begun due ≡ true
-begun_end d.End e = refl
-begun_end due e = cc
-
-pub numbered_fresh : (name : List ℕ) (number : ℕ) (colour : Colour)
-    → IsNumberedFrom number (fresh_solid name number colour)
-numbered_fresh name number colour = grind arith
+begun_end x e = grind arith
 
 pub names_with_last : (change : SolidView → SolidView) → ((s : SolidView) → (change s).name ≡ s.name)
     → (ss : List SolidView) → names_of (with_last change ss) ≡ names_of ss
@@ -113,11 +86,9 @@ past_none limit least most z e = record { above = grind (arith, ints); below = g
 -- a size within a limit
 pub size_within : (limit : LimitKind) (most : ℕ) (z : ℤ) → past limit (pos 1) (pos most) z ≡ None → (1 ≤ size_of z)
     × (size_of z ≤ most)
-size_within limit most (pos n) e = grind (arith, past_none)
-size_within limit most (negsuc n) e = grind (arith, past_none)
+size_within limit most x e = grind (arith, past_none)
 
 -- fraction bits within their limit, beside the bits of a depth within theirs
 pub fraction_within : (bits fraction : ℤ) → fraction_past bits fraction ≡ None → 1 ≤ size_of bits → size_of bits ≤ 24
     → (size_of bits + size_of fraction ≤ 24) × (size_of fraction ≤ 8)
-fraction_within bits (pos n) e some most = grind (arith, past_none)
-fraction_within bits (negsuc n) e some most = (omega arith, omega arith)
+fraction_within bits x e some most = grind (arith, past_none)

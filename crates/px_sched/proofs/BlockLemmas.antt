@@ -2,24 +2,15 @@
 use Rattle.px_num.proofs.Basics.{◌≡◌, ◌<◌, ◌≤◌, ◌+◌, ◌+ℤ◌, ◌-◌, ◌*◌, ◌^◌, ◌||◌, ◌==◌, pos, ℕ, Bool, true, false, ◌&&◌}
 use Rattle.px_num.proofs.Basics.{nat_lt, min, List, [], ◌∷◌, ◌++◌, length, eqb, map, refl, ap, sym, ◌∙◌, arith, inl}
 use Rattle.px_num.proofs.Basics.{inr, if◌then◌else◌, fold, flat_map, list_all, range_with_len, fold-map, cases_Bool}
-use Rattle.px_num.proofs.Basics.{cases_lt, nat_tests, fold-append}
-use Rattle.px_num.specs.Bits.{modulo}
-use Rattle.px_num.specs.Forms.{plus}
-use Rattle.px_num.proofs.FormLaws.{value_at-plus}
-use Rattle.px_num.proofs.TruthLaws.{and_both, and_false, and_left, and_true, lt_fails, lt_false, lt_holds, lt_true}
-use Rattle.px_model.specs.Scenes.{SolidView, SceneView}
-use Rattle.px_model.specs.Cells.{Depths, cell_of, depths_of, end_of, enters_at, is_inside, is_inside_before, leaves_at}
-use Rattle.px_model.specs.Cells.{value_of}
-use Rattle.px_face.specs.Covering.{CoveringLaw, ValueParityLaw, covering_back, covering_front, is_met}
-use Rattle.px_face.specs.Edges.{covers}
-use Rattle.px_face.specs.Faces.{face_number, face_plane}
-use Rattle.px_normal.specs.declared.product.Product.{Product}
-use Rattle.px_sched.specs.declared.literal.Literal.{Literal}
-use Rattle.px_sched.specs.declared.step.Step.TheVariants.{Candidate, Merge}
-use Rattle.px_sched.specs.Passes.{candidate_faces, confirm, judge, literal_at, literal_steps, literals, no_literal}
-use Rattle.px_sched.specs.Passes.{others, product_steps, solid_of, steps_with, where_fraction}
-use Rattle.px_sched.specs.Numbers.{Keys, KeyedPixel, after_step, after_steps, dropped, key, loaded, residue}
-use Rattle.px_sched.specs.Numbers.{without_fraction}
+use Rattle.px_num.proofs.Basics.{cases_lt, fold-append}
+use Rattle.px_sched.proofs.Words.{after_step, after_steps, and_both, and_false, and_left, and_true, Candidate}
+use Rattle.px_sched.proofs.Words.{candidate_faces, cell_of, confirm, covering_back, covering_front, CoveringLaw}
+use Rattle.px_sched.proofs.Words.{covers, Depths, depths_of, dropped, end_of, enters_at, face_number, face_plane}
+use Rattle.px_sched.proofs.Words.{is_inside, is_inside_before, is_met, judge, key, KeyedPixel, Keys, leaves_at}
+use Rattle.px_sched.proofs.Words.{Literal, literal_at, literal_steps, literals, loaded, lt_fails, lt_false, lt_holds}
+use Rattle.px_sched.proofs.Words.{lt_true, Merge, modulo, no_literal, others, plus, Product, product_steps, residue}
+use Rattle.px_sched.proofs.Words.{SceneView, solid_of, SolidView, steps_with, value_at-plus, value_of, ValueParityLaw}
+use Rattle.px_sched.proofs.Words.{where_fraction, without_fraction}
 use Rattle.px_sched.proofs.MemberLaws.{by_places}
 use Rattle.px_sched.proofs.RunLemmas.{HasRoom, classified, end_small, judge_keys, part_along, rounded, suits}
 use Rattle.px_sched.proofs.CoverLaws.{enters_depth, leaves_depth}
@@ -85,14 +76,6 @@ merge_best : (scene : SceneView) (l : KeyedPixel) (k : Keys) → (after_step sce
 merge_best scene l k =
     pick (k.alive && nat_lt (key l k.deep k.number) k.best) (record k { best = key l k.deep k.number }) k
 
-merged_is : (l : KeyedPixel) (k : Keys) (a : Bool) (b d n : ℕ) → k.alive ≡ a → k.best ≡ b → k.deep ≡ d → k.number ≡ n
-    → merged l k ≡ (if a && nat_lt (key l d n) b then key l d n else b)
-merged_is l k a b d n p q r t = rw (p, q, r, t) refl
-
-least_of : (a : Bool) (b c : ℕ) → (if a && nat_lt c b then c else b) ≡ fold min b (if a then c ∷ [] else [])
-least_of true b c = grind (arith, nat_tests)
-least_of false b c = refl
-
 never : (a b : Bool) → a ≡ false → (a && b) ≡ true → ⊥
 never a b p q = cc
 
@@ -157,8 +140,8 @@ module _ (covering : CoveringLaw) (parity : ValueParityLaw) (scene : SceneView) 
   ended : (new : Keys) (b deep n : ℕ) (alive a : Bool) (rs : List Literal) → new.best ≡ b → new.alive ≡ alive
       → (alive ≡ true → HasKey new deep n) → list_all (suited_at scene l deep) rs ≡ a
       → merged l (fold classified_by new rs) ≡ fold min b (if alive && a then key l deep n ∷ [] else [])
-  ended new b deep n false a rs best dead has tested = grind (arith, judged, merged_is)
-  ended new b deep n true a rs best live has tested = grind (arith, judged, merged_is, least_of)
+  ended new b deep n false a rs best dead has tested = grind (arith, judged)
+  ended new b deep n true a rs best live has tested = grind (arith, judged)
 
   -- the depth of a candidate is that of its cell
   loaded_deep : (s : SolidView) (plain : Bool) → is_covered s plain far l.x l.y ≡ true

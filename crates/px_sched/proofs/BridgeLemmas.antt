@@ -1,32 +1,21 @@
 -- What the operations of each step do to the bits of a pixel is what the step does to the numbers.
 use Rattle.px_num.proofs.Basics.{rules, ◌≡◌, ℕ, ◌+◌, ◌-◌, ◌*◌, ◌/◌, ◌%◌, ◌^◌, ◌<◌, ◌≤◌, ◌==◌, Bool, true, false, ◌&&◌}
-use Rattle.px_num.proofs.Basics.{not, nat_lt, List, [], ◌∷◌, ◌++◌, length, map, slice_set, inl, inr, refl, ap, sym, ◌∙◌}
-use Rattle.px_num.proofs.Basics.{arith, get_or-set_same, get_or-set_other, if◌then◌else◌, beq, is_negative, flat_map}
-use Rattle.px_num.proofs.Basics.{cases_Bool, nat_tests, div-mul-add}
+use Rattle.px_num.proofs.Basics.{not, nat_lt, List, [], ◌∷◌, ◌++◌, length, map, slice_set, inl, inr, refl, ap, sym}
+use Rattle.px_num.proofs.Basics.{◌∙◌, arith, get_or-set_same, get_or-set_other, if◌then◌else◌, beq, is_negative}
+use Rattle.px_num.proofs.Basics.{flat_map, cases_Bool, nat_tests, div-mul-add}
+use Rattle.px_sched.proofs.Words.{after_step, after_steps, and_both, and_true, Begin, beq_true, bit_at, Candidate}
+use Rattle.px_sched.proofs.Words.{Clear, Confirm, covers, deep_part, depth_part, Depths, depths_of, Drop, end_of}
+use Rattle.px_sched.proofs.Words.{face_number, face_plane, Field, fraction_part, Front, hold_at, keep_covered, key}
+use Rattle.px_sched.proofs.Words.{KeyedPixel, Keys, layout_with, LayoutView, Linear, loaded, Macro, Merge}
+use Rattle.px_sched.proofs.Words.{modulo_below, number_part, Open, operations, plus, pow_above, residue, SceneView}
+use Rattle.px_sched.proofs.Words.{solid_of, SolidView, Step, Turn, value_at, where_fraction, where_passed}
+use Rattle.px_sched.proofs.Words.{where_passing, without_fraction}
 use Rattle.std.proofs.lemmas.Nat.{mod_low}
-use Rattle.px_num.proofs.BitLaws.{modulo_below, pow_above}
-use Rattle.px_num.proofs.TruthLaws.{and_both, and_true, beq_true}
-use Rattle.px_num.specs.Bits.{bit_at}
-use Rattle.px_num.specs.Forms.{plus, value_at}
-use Rattle.px_num.specs.declared.linear.Linear.{Linear}
-use Rattle.px_model.specs.Scenes.{SceneView, SolidView}
-use Rattle.px_model.specs.Cells.{Depths, depths_of, end_of}
-use Rattle.px_face.specs.Edges.{covers, hold_at}
-use Rattle.px_face.specs.Faces.{face_number, face_plane}
 use Rattle.px_macro.specs.FieldLaws.{BitBesideIsKept, NumberBesideIsKept, NumberIsBelow, NumberIsKept, NumberIsRead}
 use Rattle.px_macro.specs.FieldLaws.{NumberOfParts}
 use Rattle.px_macro.specs.Fields.{is_in, number_in, with_number}
 use Rattle.px_macro.specs.Macros.{MeaningsJoin, MemoryStaysLong, PixelBits, after_macro, after_macros}
-use Rattle.px_macro.specs.declared.field.Field.{Field}
-use Rattle.px_macro.specs.declared.operation.Macro.{Macro}
-use Rattle.px_sched.specs.declared.step.Step.{Step}
-use Rattle.px_sched.specs.declared.step.Step.TheVariants.{Start, Open, Candidate, Drop, Clear, Front, Confirm, Begin}
-use Rattle.px_sched.specs.declared.step.Step.TheVariants.{Turn, Close, Merge}
-use Rattle.px_sched.specs.Layouts.{LayoutView, deep_part, depth_part, fraction_part, layout_with, number_part}
-use Rattle.px_sched.specs.Numbers.{Keys, KeyedPixel, after_step, after_steps, key, loaded, residue, where_passing}
-use Rattle.px_sched.specs.Numbers.{without_fraction}
-use Rattle.px_sched.specs.Passes.{keep_covered, operations, solid_of, where_fraction, where_passed}
-use Rattle.px_sched.proofs.CoverLaws.{not_negative}
+use Rattle.px_sched.specs.declared.step.Step.TheVariants.{Start}
 use Rattle.px_macro.specs.declared.operation.Macro.TheVariants as m
 
 -- the laws of fields that the bridge stands on
@@ -190,8 +179,7 @@ pixel memory e = record { memory = memory; enable = e }
 pub signed : (forms : List Linear) (x y : ℕ) (memory : List Bool) (e : Bool)
     → after_macros (map m.KeepSign forms) x y (pixel memory e) ≡ pixel memory (e && hold_at forms x y)
 signed [] x y memory e = ap (pixel memory) (sym (and_true e))
-signed (f ∷ fs) x y memory e =
-    grind (arith, and_both, not_negative, signed fs x y memory (e && not (is_negative (value_at f x y))))
+signed (f ∷ fs) x y memory e = grind (arith, signed fs x y memory (e && not (is_negative (value_at f x y))))
 
 stays_long : MemoryStaysLong → (ms : List Macro) (x y : ℕ) (p : PixelBits)
     → length (after_macros ms x y p).memory ≡ length p.memory
@@ -225,11 +213,6 @@ module _ (laws : FieldLaws) (scene : SceneView) (w i x y : ℕ)
 
   abbrev IsLong : List Bool → Type 0
   IsLong memory = need w f i ≤ length memory
-
-  -- the number of key T by those of its parts
-  t_key : (memory : List Bool) → number_in (t_field w f i) memory ≡ key place (number_in (t_deep w f i) memory)
-      (number_in (t_number w f i) memory)
-  t_key memory = grind arith
 
   -- operations behind those of the edges of a face
   covered : (s : SolidView) (face : ℕ) (behind : List Macro) (memory : List Bool) (e : Bool)
@@ -307,8 +290,7 @@ module _ (laws : FieldLaws) (scene : SceneView) (w i x y : ℕ)
       ≡ (if e then change (keys memory) else keys memory))
       → keys (after_macros (where_passed l (end_of d) s face form operation) x y (pixel memory true)).memory
       ≡ where_passing place (end_of d) s face form change (keys memory)
-  passing s face form operation change memory done =
-      search (rules, covered, beq_true, and_both, alive_at, t_deep, m.KeepAtMost, done, keys)
+  passing s face form operation change memory done = search (rules, covered, beq_true, and_both, done, keys)
 
   raised : (v : Bool) (memory : List Bool) → IsLong memory → (e : Bool)
       → keys (if e then slice_set memory (alive_at w f i) v else memory)
@@ -331,7 +313,7 @@ module _ (laws : FieldLaws) (scene : SceneView) (w i x y : ℕ)
       either ((true && beq a true) && nat_lt t b) (with_number (b_field w f i) t memory) memory _
       (best_written laws w f i t memory long (laws.below (t_field w f i) memory))
       ∙ ap (λ n. if (true && beq a true) && nat_lt n b then record (keys memory) { best = n } else keys memory)
-      (t_key memory)
+      (grind arith)
       ∙ ap (λ v. if v && nat_lt (key place (keys memory).deep (keys memory).number) b
       then record (keys memory) { best = key place (keys memory).deep (keys memory).number } else keys memory)
       (beq_true a)
@@ -349,14 +331,12 @@ module _ (laws : FieldLaws) (scene : SceneView) (w i x y : ℕ)
   by_step Confirm memory long = raised false memory long (beq (bit_at memory (par_at w f i)) false)
   by_step (Begin other) memory long = par_written laws w f i false memory long
   by_step (Turn other solid face) memory long = search (rules, passing, turned, m.Toggle)
-  by_step (Close other plain) memory long = raised false memory long (beq (bit_at memory (par_at w f i)) (not plain))
-  by_step Merge memory long = merged memory long
+  by_step x memory long = grind (arith, raised, beq, merged)
 
   -- whether a pixel was enabled before a step does not matter
   anew : (step : Step) (p : PixelBits) → after_macros (operations scene l step) x y p
       ≡ after_macros (operations scene l step) x y (pixel p.memory true)
-  anew Start p = refl
-  anew other p = refl
+  anew x p = grind arith
 
   -- steps one after another
   pub all_steps : (steps : List Step) (p : PixelBits) → IsLong p.memory

@@ -2,25 +2,16 @@
 use Rattle.px_num.proofs.Basics.{◌≡◌, ◌<◌, ◌+◌, ◌^◌, ◌+ℤ◌, ◌<ℤ◌, ◌≤ℤ◌, ℕ, zero, suc, ℤ, pos, Bool, true, false, ◌&&◌}
 use Rattle.px_num.proofs.Basics.{◌||◌, ◌==◌, ◌*◌, inl, inr, not, nat_le, nat_lt, List, [], ◌∷◌, ◌++◌, length, eqb, map}
 use Rattle.px_num.proofs.Basics.{refl, ap, sym, ◌∙◌, arith, if◌then◌else◌, fold, range_with_len, fold-map, fold-append}
-use Rattle.px_num.proofs.Basics.{ints, nat_tests, cases_Bool, pow_pos}
-use lib.Signed.{le_z, lt_z}
-use Rattle.px_num.specs.Bits.{modulo}
-use Rattle.px_num.specs.Forms.{plus, value_at}
-use Rattle.px_num.proofs.FormLaws.{value_at-plus}
-use Rattle.px_num.proofs.TruthLaws.{and_true, eqb_holds, le_same, lt_fails, lt_false, lt_holds, lt_is_not_le, lt_true}
-use Rattle.px_num.proofs.TruthLaws.{turned_from_false}
-use Rattle.px_model.specs.Scenes.{SceneView, SolidView}
-use Rattle.px_model.specs.Cells.{Depths, cell_of, depths_of, end_of, enters_at, is_inside, is_inside_before, leaves_at}
-use Rattle.px_model.specs.Cells.{value_of}
-use Rattle.px_model.proofs.CellLaws.{cell_is_first, cell_is_least}
-use Rattle.px_face.specs.Covering.{CoveringLaw, covering_back, covering_front, is_met}
-use Rattle.px_face.specs.Edges.{covers}
-use Rattle.px_face.specs.Faces.{face_plane}
-use Rattle.px_sched.specs.declared.step.Step.{Step}
-use Rattle.px_sched.specs.declared.step.Step.TheVariants.{Clear, Confirm, Drop, Front}
-use Rattle.px_sched.specs.Numbers.{Keys, KeyedPixel, after_step, after_steps, dropped, is_passing, residue}
-use Rattle.px_sched.specs.Passes.{solid_of, where_fraction}
-use Rattle.px_sched.proofs.RunLemmas.{HasRoom, end_room, end_small, ended, flips, keys_of, more_at_most}
+use Rattle.px_num.proofs.Basics.{ints, nat_tests, cases_Bool, pow_pos, mul-le-mul, pow-add}
+use Rattle.px_sched.proofs.Words.{after_step, after_steps, and_true, cell_is_first, cell_is_least, cell_of, Clear}
+use Rattle.px_sched.proofs.Words.{Confirm, covering_back, covering_front, CoveringLaw, covers, Depths, depths_of, Drop}
+use Rattle.px_sched.proofs.Words.{dropped, end_of, enters_at, eqb_holds, face_plane, Front, is_inside}
+use Rattle.px_sched.proofs.Words.{is_inside_before, is_met, is_passing, KeyedPixel, Keys, le_z, leaves_at, lt_fails}
+use Rattle.px_sched.proofs.Words.{lt_false, lt_holds, lt_is_not_le, lt_true, lt_z, modulo, plus, residue, SceneView}
+use Rattle.px_sched.proofs.Words.{solid_of, SolidView, Step, turned_from_false, value_at, value_at-plus, value_of}
+use Rattle.px_sched.proofs.Words.{where_fraction}
+use Rattle.px_num.proofs.TruthLaws.{le_same}
+use Rattle.px_sched.proofs.RunLemmas.{HasRoom, end_small, ended, flips, keys_of, more_at_most}
 use Rattle.px_sched.proofs.CoverLaws.{at_most_is, enters_depth, leaves_depth}
 use Rattle.px_sched.proofs.FoldLemmas.{fold_single, where_test}
 
@@ -39,17 +30,10 @@ drop_step t k i = if k.alive && t k.deep i then dropped k else k
 abbrev off : (ℕ → Bool) → Bool → ℕ → Bool
 off t = where_test t (λ alive i. false)
 
-drop_is : (a t : Bool) (k : Keys) → k.alive ≡ a → (if a && t then dropped k else k)
-    ≡ record k { alive = if t then false else a }
-drop_is true true k e = refl
-drop_is true false k e = rw (← e) refl
-drop_is false true k e = rw (← e) refl
-drop_is false false k e = rw (← e) refl
-
 drops : (t : ℕ → ℕ → Bool) (k : Keys) (is : List ℕ) → fold (drop_step t) k is
     ≡ record k { alive = fold (off (t k.deep)) k.alive is }
 drops t k [] = refl
-drops t k (i ∷ is) = grind (arith, drop_is, drops t (record k { alive = (if t k.deep i then false else k.alive) }) is)
+drops t k (i ∷ is) = grind (arith, drops t (record k { alive = (if t k.deep i then false else k.alive) }) is)
 
 and_not : (g a : Bool) → (if g then false else a) ≡ (a && not g)
 and_not true true = refl
@@ -74,9 +58,6 @@ whole_value d n none = grind (arith, no_fraction)
 
 one_unit : (d : Depths) → (d.fraction_bits == 0) ≡ true → 2 ^ d.fraction_bits ≡ 1
 one_unit d none = ap (λ f. 2 ^ f) (no_fraction d.fraction_bits none)
-
-first_unit : (n u : ℕ) → 0 < u → false ≡ le_z (pos n +ℤ pos u) (pos (0 * u))
-first_unit n u some = grind (arith, ints)
 
 one_more : (v : ℤ) (z u : ℕ) → (le_z v (pos (z * u)) && true) ≡ le_z (v +ℤ pos u) (pos (suc z * u))
 one_more v z u = grind (arith, ints)
@@ -133,7 +114,7 @@ module _ (covering : CoveringLaw) (scene : SceneView) (l : KeyedPixel) (room : H
       ap (λ w. nat_le (modulo w bits) v) (value_at-plus (face_plane s end i) unit l.x l.y
       ∙ ap (λ w. w +ℤ pos unit) (ap (λ j. value_at (face_plane s end j) l.x l.y)
       (eqb_holds i (covering_front s l.x l.y) here) ∙ (covering s end l.x l.y).front.value))
-      ∙ more_at_most enters end bits v e unit (omega (arith, less, end_room l d room))))
+      ∙ more_at_most enters end bits v e unit (grind (arith, less, mul-le-mul, pow-add))))
 
   abbrev drop_steps : List Step
   drop_steps = map (Drop solid) (range_with_len (length s.fronts + 1) (length s.backs + 1))
@@ -239,7 +220,7 @@ module _ (covering : CoveringLaw) (scene : SceneView) (l : KeyedPixel) (room : H
     where
       before : (c : ℕ) → cell_of d leaves ≡ c → is_inside_before s d l.x l.y c
           ≡ (met && le_z (enters +ℤ pos unit) (pos (value_of d c)))
-      before zero e = grind (arith, enters_depth, first_unit, pow_pos)
+      before zero e = grind (arith, enters_depth, pow_pos, ints)
       before (suc z) e =
           let high : lt_z (pos (value_of d z)) leaves ≡ true = sym (cell_is_least d leaves z) ∙ ap (λ n. nat_lt z n) e
           ∙ lt_next z in

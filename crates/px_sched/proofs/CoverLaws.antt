@@ -1,16 +1,9 @@
 -- The value of a face that covers a pixel: it is a depth, and the bits of one keep it.
-use Rattle.px_num.proofs.Basics.{common_steps, ◌≡◌, ◌<◌, ◌≤◌, ◌≤ℤ◌, ◌+◌, ◌*◌, ◌%◌, ◌^◌, ℕ, ℤ, pos, negsuc, Bool, true}
-use Rattle.px_num.proofs.Basics.{false, ◌&&◌, not, nat_le, eqb, refl, ap, sym, ◌∙◌, arith, is_negative, nat_tests, ints}
+use Rattle.px_num.proofs.Basics.{common_steps, ◌≡◌, ◌<◌, ◌≤◌, ◌≤ℤ◌, ◌+◌, ◌*◌, ◌%◌, ◌^◌, ℕ, ℤ, pos, Bool, true, false}
+use Rattle.px_num.proofs.Basics.{◌&&◌, not, nat_le, refl, ap, sym, ◌∙◌, arith, is_negative, nat_tests, ints}
 use Rattle.px_num.proofs.Basics.{mod-mul-add}
-use lib.Signed.{le_z}
-use Rattle.px_num.specs.Bits.{modulo}
-use Rattle.px_num.specs.Forms.{value_at}
-use Rattle.px_num.proofs.TruthLaws.{and_left, and_right, eqb_holds}
-use Rattle.px_model.specs.Scenes.{SolidView}
-use Rattle.px_model.specs.Cells.{enters_at, leaves_at}
-use Rattle.px_face.specs.Covering.{CoveringLaw, covering_back, covering_front, is_met}
-use Rattle.px_face.specs.Edges.{covers}
-use Rattle.px_face.specs.Faces.{face_count, face_plane}
+use Rattle.px_sched.proofs.Words.{and_left, and_right, CoveringLaw, covers, enters_at, eqb_holds, face_count}
+use Rattle.px_sched.proofs.Words.{face_plane, is_met, le_z, leaves_at, modulo, SolidView, value_at}
 
 pub and_same : (c a b : Bool) → (c ≡ true → a ≡ b) → (c && a) ≡ (c && b)
 and_same true a b h = h refl
@@ -26,8 +19,7 @@ pub record IsDepth (v : ℤ) (end : ℕ) : Type 0 where
   pub below : depth ≤ end
 
 depth_of : (v : ℤ) (end : ℕ) → pos 0 ≤ℤ v → v ≤ℤ pos end → IsDepth v end
-depth_of (pos n) end low high = record { depth = n; is = refl; below = omega (arith, ints) }
-depth_of (negsuc n) end low high = absurd (omega (arith, ints))
+depth_of x end low high = grind (arith, ints)
 
 pub mod_small : (n m : ℕ) → n < m → n % m ≡ n
 mod_small n m h = let e : 0 * m + n ≡ n = omega arith in ap (λ k. k % m) (sym e) ∙ mod-mul-add 0 m n h
@@ -54,15 +46,7 @@ module _ (covering : CoveringLaw) (end : ℕ) (s : SolidView) (x y : ℕ) where
       let d = (covering s end x y).depths met in
       depth_of (leaves_at s end x y) end (omega (arith, ints, d.0, d.1)) d.2
 
-  front_value : (i : ℕ) → (is_met s end x y && eqb i (covering_front s x y)) ≡ true
-      → IsDepth (value_at (face_plane s end i) x y) end
-  front_value i e = grind (arith, enters_depth, and_left, eqb_holds, and_right)
-
-  back_value : (i : ℕ) → (is_met s end x y && eqb i (covering_back s end x y)) ≡ true
-      → IsDepth (value_at (face_plane s end i) x y) end
-  back_value i e = grind (arith, leaves_depth, and_left, eqb_holds, and_right)
-
   -- the value of a face that covers is a depth
   pub covering_value : (i : ℕ) → i < face_count s → covers s end i x y ≡ true
       → IsDepth (value_at (face_plane s end i) x y) end
-  covering_value i there c = grind (arith, nat_tests, common_steps, front_value, back_value)
+  covering_value i there c = grind (arith, common_steps, leaves_depth, and_left, eqb_holds, and_right, enters_depth)

@@ -1,22 +1,14 @@
 -- The kept products of a scene have literals, and these are of solids of the scene.
 use Rattle.px_num.proofs.Basics.{◌≡◌, ℕ, ◌<◌, All, List, [], ◌∷◌, get_or, length, refl, sym, subst, arith, inl, inr}
 use Rattle.px_num.proofs.Basics.{length-append, length-map, All-cons, All-nil}
-use Rattle.px_expr.specs.Tree.{HasLeavesBelow, Tree}
-use Rattle.px_expr.proofs.LeafLaws.{leaves_below}
-use Rattle.px_normal.specs.declared.product.Product.{Product}
-use Rattle.px_normal.specs.Forms.{HasPlain, HasSolidsBelow, sum_of_products}
-use Rattle.px_prune.specs.Kept.{kept_of}
-use Rattle.px_prune.specs.PruningLaw.{PlainIsKept}
-use Rattle.px_model.specs.Scenes.{IsLawfulScene, SceneView}
-use Rattle.px_sched.specs.Onward.{HasKnownLiterals}
-use Rattle.px_sched.specs.Passes.{literals}
+use Rattle.px_sched.proofs.Words.{HasKnownLiterals, HasPlain, HasSolidsBelow, IsLawfulScene, kept_of}
+use Rattle.px_sched.proofs.Words.{leaves_below, literals, Product, SceneView, sum_of_products}
+use Rattle.px_normal.proofs.NormalLemmas.{all_below, all_plain}
+use Rattle.px_prune.specs.Bounding.{bounding_box}
+use Rattle.px_prune.proofs.StayingLemmas.{kept_below, kept_plain}
+use Rattle.px_sets.proofs.SolidsLaws.{solids_laws}
 use Rattle.px_sched.proofs.MemberLaws.{In}
 use Rattle.px_sched.proofs.ProductLaws.{each_literal, in_solids}
-
--- the kept products have no solids but those of the products
-abbrev pub KnownAreKept : Type 0
-KnownAreKept = (count : ℕ) (scene : SceneView) (products : List Product) →
-    All (HasSolidsBelow count) products → All (HasSolidsBelow count) (kept_of scene products)
 
 all_members : {X : Type 0} (P : X → Type 0) (xs : List X) → ((x : X) → In x xs → P x) → All P xs
 all_members P [] each = All-nil P
@@ -32,17 +24,13 @@ drawn scene p plain known = record {
       (λ q h. let i = in_solids p.barred q h in known.1 q i.0 i.1));
 }
 
--- by the laws of the lower crates
-pub kept_drawn : PlainIsKept → KnownAreKept
-    → ((tree : Tree) → HasLeavesBelow 256 tree → All HasPlain (sum_of_products tree))
-    → ((count : ℕ) (tree : Tree) → HasLeavesBelow 256 tree → HasLeavesBelow count tree
-    → All (HasSolidsBelow count) (sum_of_products tree))
-    → (scene : SceneView) → IsLawfulScene scene → (ps : List Product) → ps ≡ kept_of scene (sum_of_products scene.show)
-    → All (HasKnownLiterals scene) ps
-kept_drawn keeps_plain keeps_known plain known scene lawful ps is =
+pub kept_drawn : (scene : SceneView) → IsLawfulScene scene → (ps : List Product)
+    → ps ≡ kept_of scene (sum_of_products scene.show) → All (HasKnownLiterals scene) ps
+kept_drawn scene lawful ps is =
     let count = length scene.solids in
     let sum = sum_of_products scene.show in
+    let boxes = bounding_box scene in
     let leaves = leaves_below count 256 (omega (arith, lawful.solids)) scene.show lawful.shown in
     subst (All (HasKnownLiterals scene)) (sym is) (λ k d low. drawn scene (get_or (kept_of scene sum) k d)
-    (keeps_plain scene sum (plain scene.show leaves) k d low)
-    (keeps_known count scene sum (known count scene.show leaves lawful.shown) k d low))
+    (kept_plain boxes sum (all_plain scene.show leaves) k d low)
+    (kept_below solids_laws count boxes sum (all_below count scene.show leaves lawful.shown) k d low))

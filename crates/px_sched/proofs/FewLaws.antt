@@ -2,21 +2,11 @@
 use Rattle.px_num.proofs.Basics.{◌≡◌, ℕ, zero, suc, ◌+◌, ◌^◌, ◌≤◌, All, Bool, true, false, List, [], ◌∷◌, filter}
 use Rattle.px_num.proofs.Basics.{get_or, length, refl, ap, arith, length-append, sum_by, length-map, length-flat_map}
 use Rattle.px_num.proofs.Basics.{All-weaker, length-range_with_len, count_by-le-length, length-filter, sum_by-le}
-use Rattle.px_face.specs.EdgeLaws.{EdgesAreCounted}
-use Rattle.px_face.specs.Edges.{edge_count}
-use Rattle.px_normal.specs.declared.product.Product.{Product}
-use Rattle.px_sets.specs.declared.set.SolidSet.{SolidSet}
+use Rattle.px_sched.proofs.Words.{bare, candidate_faces, confirm_worth, depths_of, edge_count, edges_in}
+use Rattle.px_sched.proofs.Words.{EdgesAreCounted, HasFace, IsLawfulSolid, IsThere, judged_worth, LayoutView, Literal}
+use Rattle.px_sched.proofs.Words.{literal_steps, literals, no_solid, operations, others, passes_with, Product}
+use Rattle.px_sched.proofs.Words.{product_steps, SceneView, solid_of, SolidSet, SolidView, Step, steps_with}
 use Rattle.px_sets.specs.Sets.{below, has, solids}
-use Rattle.px_model.specs.Cells.{depths_of}
-use Rattle.px_model.specs.Scenes.{SceneView, IsLawfulSolid, SolidView}
-use Rattle.px_sched.specs.declared.literal.Literal.{Literal}
-use Rattle.px_sched.specs.declared.step.Step.{Step}
-use Rattle.px_sched.specs.declared.step.Step.TheVariants.{Candidate, Drop, Front, Turn}
-use Rattle.px_sched.specs.Layouts.{LayoutView}
-use Rattle.px_sched.specs.Passes.{candidate_faces, literal_steps, literals, no_solid, operations, others, product_steps}
-use Rattle.px_sched.specs.Passes.{solid_of, steps_with}
-use Rattle.px_sched.specs.Steps.{HasFace, IsThere, passes_with}
-use Rattle.px_sched.specs.Worths.{bare, confirm_worth, edges_in, judged_worth}
 use Rattle.px_sched.specs.declared.literal.TheConstants.{MAX_LITERALS}
 use Rattle.px_sched.proofs.LawfulLaws.{all_or}
 use Rattle.px_sched.proofs.OperationLaws.{steps_there}
@@ -72,18 +62,13 @@ module _ (count : EdgesAreCounted) (scene : SceneView) (l : LayoutView) (lawful 
       let is = solid_lawful solid in omega (arith, is.few_sides, is.fronts.few, is.backs.few)
 
   pub few_edges : (step : Step) → edges_in scene step ≤ 97
-  few_edges (Candidate solid face) = few_edges_of solid
-  few_edges (Drop solid face) = few_edges_of solid
-  few_edges (Front solid face) = few_edges_of solid
-  few_edges (Turn other solid face) = few_edges_of solid
-  few_edges step = omega arith
+  few_edges x = grind (arith, few_edges_of)
 
   few_bare : (step : Step) → sum_by once (bare l (depths_of scene) step) ≤ 5
-  few_bare (Candidate solid face) = grind arith
-  few_bare step = omega arith
+  few_bare x = grind arith
 
   few_operations : (step : Step) → HasFace (IsThere scene) step → length (operations scene l step) ≤ 102
-  few_operations step there = grind (arith, counted, weighed, one_each, few_edges, few_bare)
+  few_operations step there = grind (arith, counted, weighed, one_each, few_edges)
 
   few_literal : (p : Product) (q : Literal) → sum_by once (literal_steps scene q (others q p)) ≤ 2 ^ 16
   few_literal p q =
@@ -126,5 +111,4 @@ module _ (count : EdgesAreCounted) (scene : SceneView) (l : LayoutView) (lawful 
         steps_sum scene once products,
         sum_by-le (λ p. sum_by once (product_steps scene p)) (2 ^ 25) products
             (λ k d low. few_product (get_or products k d)),
-        few,
       )

@@ -1,30 +1,15 @@
 -- The passes are lawful in as many memory bits as the layout needs.
-use Rattle.px_num.proofs.Basics.{common_steps, ◌≡◌, ℕ, ℤ, pos, ◌+ℤ◌, ◌-◌, ◌==◌, ◌+◌, ◌^◌, ◌<◌, ◌≤◌, All, false, List}
-use Rattle.px_num.proofs.Basics.{refl, arith, inr, nat_tests, ints, pow_pos, pow_mono}
-use Rattle.px_num.specs.Forms.{IsInTreeRange, IsWithin, plus}
-use Rattle.px_num.specs.declared.linear.Linear.{Linear}
-use Rattle.px_num.proofs.FormLaws.{wider}
-use Rattle.px_face.specs.EdgeLaws.{EdgesAreInRange, PlanesAreInRange}
-use Rattle.px_face.specs.Faces.{face_plane}
+use Rattle.px_num.proofs.Basics.{common_steps, ◌≡◌, ℕ, ◌-◌, ◌==◌, ◌+◌, ◌^◌, ◌<◌, ◌≤◌, All, false, List, refl, arith}
+use Rattle.px_num.proofs.Basics.{inr, nat_tests, pow_pos, pow_mono}
+use Rattle.px_sched.proofs.Words.{deep_part, depths_of, EdgesAreInRange, end_is_small, end_of, face_plane}
+use Rattle.px_sched.proofs.Words.{fraction_part, IsInTreeRange, IsLawfulScene, IsLawfulSolid, IsLayout, IsPlane}
+use Rattle.px_sched.proofs.Words.{IsStep, IsThere, layout_of, LayoutView, need_of, number_part, operations}
+use Rattle.px_sched.proofs.Words.{passes_with, PlanesAreInRange, plus, Product, SceneView, solid_of, Step, wider}
 use Rattle.px_macro.specs.Macros.{IsField, IsLawful}
-use Rattle.px_normal.specs.declared.product.Product.{Product}
-use Rattle.px_model.specs.Cells.{depths_of, end_of}
-use Rattle.px_model.proofs.CellLaws.{end_is_small}
 use Rattle.px_model.proofs.PlaneLaws.{plane_range}
-use Rattle.px_model.specs.Scenes.{IsLawfulScene, SceneView, IsLawfulSolid, IsPlane}
-use Rattle.px_sched.specs.Layouts.{IsLayout, LayoutView, deep_part, fraction_part, layout_of, need_of, number_part}
-use Rattle.px_sched.specs.declared.step.Step.{Step}
-use Rattle.px_sched.specs.Passes.{operations, solid_of}
-use Rattle.px_sched.specs.Steps.{IsStep, IsThere, passes_with}
 use Rattle.px_sched.proofs.FewLaws.{any_solid, no_solid_lawful}
 use Rattle.px_sched.proofs.OperationLaws.{HoldsOf, each_operation, each_pass, is_there}
 use Rattle.px_sched.proofs.RoomLemmas.{numbers_fit, shifted}
-
-more_within : (v : ℤ) (n : ℕ) → n ≤ 2 ^ 9 → IsWithin (2 ^ 33) v → IsWithin (2 ^ 38) (v +ℤ pos n)
-more_within v n le (low, high) = (omega (arith, ints), omega (arith, ints))
-
-plus_range : (p : Linear) (n : ℕ) → n ≤ 2 ^ 9 → IsPlane p → IsInTreeRange (plus p n)
-plus_range p n le h = grind (arith, wider, more_within)
 
 module _ (ranges : EdgesAreInRange) (planes : PlanesAreInRange) (scene : SceneView) (lawful : IsLawfulScene scene)
     (solids : All IsLawfulSolid scene.solids) (is : IsLayout (layout_of scene)) where
@@ -70,7 +55,7 @@ module _ (ranges : EdgesAreInRange) (planes : PlanesAreInRange) (scene : SceneVi
   -- a face's plane so much further
   moved : (n : ℕ) → n ≤ 2 ^ f → (solid face : ℕ) → IsThere scene solid face
       → IsInTreeRange (plus (face_plane (solid_of scene solid) end face) n) × IsField (deep_part l l.key_t) (need_of l)
-  moved n low solid face there = grind (arith, plus_range, unit_most, plane, deep)
+  moved n low solid face there = grind (arith, unit_most, plane, deep, wider)
 
   each_lawful : HoldsOf scene l (λ m. IsLawful m (need_of l))
   each_lawful = record {

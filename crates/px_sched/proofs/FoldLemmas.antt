@@ -1,8 +1,7 @@
 -- Folds over places of which at most one does something.
 use Rattle.px_num.proofs.Basics.{◌≡◌, ◌<◌, ◌≤◌, ◌+◌, ℕ, zero, suc, Bool, true, false, ◌&&◌, eqb, refl, ap, ◌∙◌, arith}
 use Rattle.px_num.proofs.Basics.{inl, inr, if◌then◌else◌, fold, range_with_len, cases_eq, nat_tests}
-use Rattle.std.proofs.lemmas.Bool.{cond-false}
-use Rattle.px_num.proofs.TruthLaws.{and_false, and_true, eqb_itself, eqb_other}
+use Rattle.px_sched.proofs.Words.{and_false, and_true, cond-false, eqb_itself, eqb_other}
 
 pub elsewhere : (m : Bool) (i n k : ℕ) → i < n → n ≤ k → (m && eqb i k) ≡ false
 elsewhere true i n k p q = grind (arith, nat_tests)

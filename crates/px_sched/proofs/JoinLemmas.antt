@@ -1,24 +1,19 @@
 -- The least key found is that of the first depth at which the products show something, with the least number there.
-use Rattle.px_num.proofs.Basics.{nat_tests, common_steps, ◌≡◌, ◌<◌, ◌≤◌, ◌+◌, ◌*◌, ◌^◌, ◌&&◌, ℕ, zero, suc, nat_le}
-use Rattle.px_num.proofs.Basics.{Bool, true, false, not, nat_lt, List, length, min, refl, ap, ◌∙◌, arith, inl, inr, ◌⊎◌}
-use Rattle.px_num.proofs.Basics.{eqb, All, fold, flat_map, list_all, cases_Bool}
-use Rattle.px_num.proofs.TruthLaws.{and_false, and_left, and_right, eqb_holds, first_of_three, lt_false, lt_holds}
-use Rattle.px_num.proofs.TruthLaws.{lt_true, third_of_three}
-use Rattle.px_model.specs.Scenes.{AreNumberedFrom, IsNumberedFrom, SceneView, faces_of, IsLawfulSolid, SolidView}
-use Rattle.px_model.specs.Scenes.{faces_in}
-use Rattle.px_model.specs.Cells.{Depths, cell_of, depths_of, end_of, enters_at, far_of, is_inside, is_inside_before}
-use Rattle.px_model.specs.Cells.{leaf_cell, leaves_at, value_of}
-use Rattle.px_face.specs.Covering.{CellsLaw, CoveringLaw, covering_back, is_met}
-use Rattle.px_normal.specs.declared.product.Product.{Product}
-use Rattle.px_normal.specs.NormalLaw.{holds, shows, some_shows}
-use Rattle.px_sched.specs.declared.literal.Literal.{Literal}
-use Rattle.px_sched.specs.Numbers.{KeyedPixel, key}
-use Rattle.px_sched.specs.Passes.{literals, no_solid, others, solid_of}
+use Rattle.px_num.proofs.Basics.{common_steps, ◌≡◌, ◌<◌, ◌≤◌, ◌+◌, ◌*◌, ◌^◌, ◌&&◌, ℕ, nat_le, Bool, true, false, not}
+use Rattle.px_num.proofs.Basics.{nat_lt, List, length, min, refl, ap, ◌∙◌, arith, inl, inr, ◌⊎◌, eqb, All, fold}
+use Rattle.px_num.proofs.Basics.{flat_map, list_all, cases_Bool}
+use Rattle.px_sched.proofs.Words.{and_false, and_left, and_right, AreNumberedFrom, cell_of, CellsLaw, covering_back}
+use Rattle.px_sched.proofs.Words.{CoveringLaw, Depths, depths_of, end_of, enters_at, eqb_holds, faces_in, faces_of}
+use Rattle.px_sched.proofs.Words.{far_of, first_of_three, holds, is_inside, is_inside_before, is_met, IsLawfulSolid}
+use Rattle.px_sched.proofs.Words.{IsNumberedFrom, key, KeyedPixel, leaf_cell, leaves_at, Literal, literals, lt_false}
+use Rattle.px_sched.proofs.Words.{lt_holds, lt_true, no_solid, others, Product, same_true, SceneView, shows, solid_of}
+use Rattle.px_sched.proofs.Words.{SolidView, some_shows, third_of_three, value_of}
 use Rattle.px_sched.proofs.RunLemmas.{suits}
 use Rattle.px_sched.proofs.BlockLemmas.{all_found, cell_found, is_covered, is_found, keys_found, number_found, suited}
 use Rattle.px_sched.proofs.MemberLaws.{In, all_kept, all_of, any_in, any_out, in_filter, in_flat, in_where, min_below}
 use Rattle.px_sched.proofs.MemberLaws.{min_reached, min_start, one_of, out_flat}
-use Rattle.px_sched.proofs.LiteralLemmas.{backs_below, barred_seen, barred_there, fronts_below, plain_seen, plain_shows}
+use Rattle.px_sched.proofs.LiteralLemmas.{backs_below, barred_seen, fronts_below, plain_seen, plain_shows}
+use Rattle.px_sched.proofs.LiteralLemmas.{barred_shows}
 use Rattle.px_sched.proofs.ProductLaws.{IsFit, each_holds, holds_there, numbered_at, shown_of, shows_out, shows_there}
 
 module _ (covering : CoveringLaw) (cells : CellsLaw) (d : Depths) (s : SolidView) (x y : ℕ) where
@@ -37,23 +32,18 @@ module _ (covering : CoveringLaw) (cells : CellsLaw) (d : Depths) (s : SolidView
       last_of false first last c h = refl
       last_of true first last c h = grind (arith, lt_false, and_false)
 
-  met_inside : (z : ℕ) → is_inside s d x y z ≡ true → is_met s (end_of d) x y ≡ true
-  met_inside z inside = grind (arith, first_of_three)
-
   is_candidate : (plain : Bool) → is_found s plain d x y ≡ true → IsCandidate plain
-  is_candidate true found =
-      grind (arith, nat_tests, common_steps, and_right, and_left, suited, plain_shows, lt_holds, third_of_three)
+  is_candidate true found = grind (arith, common_steps, and_left, suited, plain_shows, lt_holds, third_of_three)
   is_candidate false found =
       let c = cell_of d (leaves_at s (end_of d) x y) in
       let both = and_left (is_covered s false (end_of d) x y) (is_inside_before s d x y c) found in
-      let before = and_right (is_covered s false (end_of d) x y) (is_inside_before s d x y c) found in
       let numbered = nat_lt (covering_back s (end_of d) x y) (length s.fronts + 1 + length s.backs) in
       let met = and_left (is_met s (end_of d) x y) numbered both in
       let there = lt_holds _ _ (and_right (is_met s (end_of d) x y) numbered both) in
       record {
         within = (cells s d x y).within met;
         suited = rw (not_behind c refl) refl;
-        shown = barred_there covering s d x y c there before refl;
+        shown = grind (arith, same_true, barred_shows);
       }
 
   record IsSeen (plain : Bool) (z n : ℕ) : Type 0 where
@@ -63,14 +53,10 @@ module _ (covering : CoveringLaw) (cells : CellsLaw) (d : Depths) (s : SolidView
 
   is_seen : (plain : Bool) (z n : ℕ) → IsLawfulSolid s → suits s plain (end_of d) x y (value_of d z) ≡ true
       → In n (shown_of s plain d x y z) → IsSeen plain z n
-  is_seen true z n lawful inside shown = grind (arith, plain_seen covering s d x y lawful z n shown, met_inside)
+  is_seen true z n lawful inside shown = grind (arith, plain_seen covering s d x y lawful z n shown, first_of_three)
   is_seen false z n lawful outside shown =
       let r = barred_seen covering s d x y lawful z n shown in
       grind (arith, lt_true)
-    where
-      met_before : (z : ℕ) → is_inside_before s d x y z ≡ true → is_met s (end_of d) x y ≡ true
-      met_before zero e = absurd (cc)
-      met_before (suc z) e = met_inside z e
 
 differs : (i k : ℕ) → (eqb i k ≡ true) ⊎ (not (eqb i k) ≡ true)
 differs i k = elim (cases_Bool (eqb i k)) [ inl a ↦ inl a | inr b ↦ inr (rw b refl) ]

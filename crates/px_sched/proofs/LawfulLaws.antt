@@ -1,12 +1,9 @@
 -- The passes are lawful in any memory that has room for them; what holds of all elements of lists.
 use Rattle.px_num.proofs.Basics.{arith, ◌≡◌, refl, ℕ, ◌≤◌, List, [], ◌∷◌, get_or, flat_map, All, cases_lt, get_or_past}
 use Rattle.px_num.proofs.Basics.{All-append, All-head, All-nil, All-tail}
+use Rattle.px_sched.proofs.Words.{IsLawfulScene, IsLawfulSolid, layout_of, need_of, passes_with, plan_of, SceneView}
 use Rattle.px_macro.specs.Macros.{IsLawful, IsLawfulInMore}
-use Rattle.px_model.specs.Scenes.{IsLawfulScene, SceneView, IsLawfulSolid}
-use Rattle.px_sched.specs.Layouts.{layout_of, need_of}
-use Rattle.px_prune.specs.Kept.{plan_of}
 use Rattle.px_sched.specs.Passes.{passes}
-use Rattle.px_sched.specs.Steps.{passes_with}
 use Rattle.px_sched.specs.PassesFacts.{PassesAreLawful}
 
 -- the passes are those over the plan of the scene, by its layout

@@ -2,11 +2,8 @@
 use Rattle.px_num.proofs.Basics.{nat_tests, common_steps, ◌≡◌, ℕ, ◌+◌, ◌^◌, ◌<◌, ◌≤◌, Bool, true, false, List, [], ◌∷◌}
 use Rattle.px_num.proofs.Basics.{length, nat_le, count_by, filter, length-append, refl, arith, range_with_len}
 use Rattle.px_num.proofs.Basics.{count_by-le-length, length-filter, sum_by-cons, filter-append}
-use Rattle.px_num.proofs.RangeLaws.{range_cut}
-use Rattle.px_num.proofs.TruthLaws.{le_true}
-use Rattle.px_expr.proofs.LeafLaws.{some_solid}
-use Rattle.px_model.specs.Scenes.{IsLawfulScene, SceneView, faces_of, SolidView, faces_in}
-use Rattle.px_sched.specs.Layouts.{IsLayout, bit_length, layout_of}
+use Rattle.px_sched.proofs.Words.{bit_length, faces_in, faces_of, IsLawfulScene, IsLayout, layout_of, range_cut}
+use Rattle.px_sched.proofs.Words.{SceneView, SolidView, some_solid}
 
 some_face : (solids : List SolidView) → 0 < length solids → 1 ≤ faces_of solids
 some_face [] some = absurd (omega (arith, some))
@@ -15,11 +12,8 @@ some_face (s ∷ ss) some = omega (arith, sum_by-cons faces_in s ss)
 pub bit_length_most : (n : ℕ) → bit_length n ≤ 12
 bit_length_most n = count_by-le-length (λ t. nat_le (2 ^ t) n) (range_with_len 0 12)
 
-pub bit_length_some : (n : ℕ) → 1 ≤ n → 1 ≤ bit_length n
-bit_length_some n some = let first : nat_le (2 ^ 0) n ≡ true = le_true 1 n some in rw first (omega arith)
-
 pub scene_layout : (scene : SceneView) → IsLawfulScene scene → IsLayout (layout_of scene)
-scene_layout scene lawful = grind (arith, bit_length_some, some_face, some_solid, bit_length_most)
+scene_layout scene lawful = grind (arith, some_face, some_solid, bit_length_most)
 
 count_more : (p : ℕ → Bool) (n : ℕ) → count_by p (range_with_len 0 (n + 1)) ≡ count_by p (range_with_len 0 n)
     + length (filter p (n ∷ []))

@@ -14,6 +14,7 @@ pub mod LiteralLemmas
 pub mod MemberLaws
 pub mod NumbersLemmas
 pub mod OperationLaws
+pub mod PassesLaws
 pub mod ProductLaws
 pub mod RoomLemmas
 pub mod RunLemmas
@@ -21,4 +22,5 @@ pub mod SightLemmas
 pub mod StandingLemmas
 pub mod StepCursorLemmas
 pub mod StepLemmas
+pub mod Words
 pub mod WorthLaws

@@ -3,17 +3,12 @@ use Rattle.px_num.proofs.Basics.{◌≡◌, ◌<◌, ◌≤◌, ◌+◌, ◌-◌
 use Rattle.px_num.proofs.Basics.{◌++◌, length, get_or, refl, ap, sym, ◌∙◌, subst, arith, inl, inr, ◌⊎◌, if◌then◌else◌}
 use Rattle.px_num.proofs.Basics.{◌==◌, All, AllPairs, int_eq, cases_Bool, cases_eq, nat_tests, get_or_append_left}
 use Rattle.px_num.proofs.Basics.{get_or-append_right, get_or-map, length-map}
-use Rattle.px_num.specs.declared.linear.Linear.{Linear}
-use Rattle.px_num.specs.Forms.{value_at}
-use Rattle.px_num.proofs.TruthLaws.{and_left, and_right, int_eq_holds, int_same_true, lt_fails, lt_false, lt_holds}
-use Rattle.px_num.proofs.TruthLaws.{lt_true, same_true}
-use Rattle.px_model.specs.declared.solid.Face.{Face}
-use Rattle.px_model.specs.Scenes.{IsNumberedFrom, IsLawfulSolid, SolidView, faces_in}
-use Rattle.px_model.specs.Cells.{Depths, backs_at, cell_of, end_of, enters_at, faces_at, fronts_at, greatest_fronts}
-use Rattle.px_model.specs.Cells.{is_inside_before, leaves_at}
-use Rattle.px_face.specs.Covering.{CoveringLaw, covering_back, covering_front}
-use Rattle.px_face.specs.Faces.{back_planes, is_front_face, level, face_number, numbers_in_faces, face_plane}
-use Rattle.px_face.specs.Faces.{planes_in_faces}
+use Rattle.px_sched.proofs.Words.{and_left, and_right, back_planes, backs_at, cell_of, covering_back, covering_front}
+use Rattle.px_sched.proofs.Words.{CoveringLaw, Depths, end_of, enters_at, Face, face_number, face_plane, faces_at}
+use Rattle.px_sched.proofs.Words.{faces_in, fronts_at, greatest_fronts, int_eq_holds, int_same_true, is_front_face}
+use Rattle.px_sched.proofs.Words.{is_inside_before, IsLawfulSolid, IsNumberedFrom, leaves_at, level, Linear, lt_fails}
+use Rattle.px_sched.proofs.Words.{lt_false, lt_holds, lt_true, numbers_in_faces, planes_in_faces, same_true, SolidView}
+use Rattle.px_sched.proofs.Words.{value_at}
 use Rattle.px_face.proofs.DepthLaws.{value_at-level}
 use Rattle.px_sched.proofs.MemberLaws.{In, all_in, in_either, in_right, out_filter, out_map}
 
@@ -49,15 +44,9 @@ module _ (planes : List Linear) (numbers : List ℕ) (x y : ℕ) (v : ℤ) where
           record { place = 0; below = omega arith; value_is = int_eq_holds (value_at f.plane x y) v yea; number_is = e }
       first yea others (inr k) = next_face f fs n (others k)
 
-same_holds : (m n : ℕ) → (m == n) ≡ true → m ≡ n
-same_holds m n h = grind (arith, nat_tests)
-
 pub in_where_true : (b : Bool) (n : ℕ) (ns : List ℕ) → In n (if b then ns else []) → (b ≡ true) × In n ns
 in_where_true true n ns h = (refl, h)
 in_where_true false n ns h = absurd h
-
-pub where_is_true : (b : Bool) (n : ℕ) (ns : List ℕ) → b ≡ true → In n ns → In n (if b then ns else [])
-where_is_true b n ns e h = rw e h
 
 module _ (covering : CoveringLaw) (s : SolidView) (d : Depths) (x y : ℕ) where
   abbrev end : ℕ
@@ -110,7 +99,7 @@ module _ (covering : CoveringLaw) (s : SolidView) (d : Depths) (x y : ℕ) where
 
   -- ---- a plain literal
   pub plain_shows : In (face_number s (covering_front s x y)) (fronts_at s d x y (cell_of d (enters_at s x y)))
-  plain_shows = grind (arith, where_is_true, same_true, in_fronts)
+  plain_shows = grind (arith, same_true, in_fronts)
 
   pub record PlainSeen (z n : ℕ) : Type 0 where
     pub cell : cell_of d (enters_at s x y) ≡ z
@@ -121,7 +110,7 @@ module _ (covering : CoveringLaw) (s : SolidView) (d : Depths) (x y : ℕ) where
       let two = in_where_true (cell_of d (enters_at s x y) == z) n (greatest_fronts s x y) h in
       let r = out_fronts n two.1 in
       let least = (covering s end x y).front.least lawful r.place r.front r.value_is in
-      record { cell = same_holds (cell_of d (enters_at s x y)) z two.0; number = omega (arith, least, r.number_is) }
+      record { cell = grind (arith, nat_tests); number = omega (arith, least, r.number_is) }
 
   -- ---- a barred literal
   abbrev first_back : ℕ
@@ -145,10 +134,6 @@ module _ (covering : CoveringLaw) (s : SolidView) (d : Depths) (x y : ℕ) where
       (in_faces (level end ∷ []) (0 ∷ []) x y (leaves_at s end x y) s.backs (back - first_back) (omega arith)
       (ap (λ p. value_at p x y) (sym (back_plane back low)) ∙ law.back.value))
 
-  pub barred_there : (z : ℕ) → covering_back s end x y < first_back + length s.backs → is_inside_before s d x y z ≡ true
-      → cell_of d (leaves_at s end x y) ≡ z → In (face_number s (covering_back s end x y)) (backs_at s d x y z)
-  barred_there z there before e = grind (arith, where_is_true, same_true, barred_shows)
-
   pub record BarredSeen (z n : ℕ) : Type 0 where
     pub before : is_inside_before s d x y z ≡ true
     pub there : covering_back s end x y < first_back + length s.backs
@@ -159,14 +144,11 @@ module _ (covering : CoveringLaw) (s : SolidView) (d : Depths) (x y : ℕ) where
       → j < length fs → get_or (numbers_in_faces fs ++ ns) i 0 ≤ get_or (numbers_in_faces fs ++ ns) j 0
   numbers_grow fs ns i j order le lt = elim (cases_eq i j) [
     | inl e ↦ rw e (omega arith)
-    | inr ne ↦ omega (arith, number_at i (omega arith), number_at j lt, order i j any (omega arith) lt)
+    | inr ne ↦ grind (arith, order i j any (omega arith) lt, length-map, get_or_append_left, get_or-map)
   ]
     where
       any : Face
       any = record { number = 0; plane = level 0; colour = s.colour }
-
-      number_at : (k : ℕ) → k < length fs → get_or (numbers_in_faces fs ++ ns) k 0 ≡ (get_or fs k any).number
-      number_at k h = grind (arith, length-map, get_or_append_left, get_or-map)
 
   pub barred_seen : IsLawfulSolid s → (z n : ℕ) → In n (backs_at s d x y z) → BarredSeen z n
   barred_seen lawful z n h =
@@ -176,12 +158,11 @@ module _ (covering : CoveringLaw) (s : SolidView) (d : Depths) (x y : ℕ) where
       let back = covering_back s end x y in
       let r = out_faces (level end ∷ []) (0 ∷ []) x y (leaves_at s end x y) s.backs n two.1 in
       let face = first_back + r.place in
-      let place : face - first_back ≡ r.place = omega arith in
       let value : value_at (face_plane s end face) x y ≡ leaves_at s end x y = grind (arith, back_plane) in
       let first = law.back.least face (omega (arith, r.below)) (lt_false face first_back (omega arith)) value in
       let order = numbers_grow s.backs (0 ∷ []) (back - first_back) r.place lawful.backs.order (omega (arith, first))
       r.below in
-      grind (arith, and_left, same_holds, and_right, back_number)
+      grind (arith, and_left, and_right, back_number, nat_tests)
 
 -- the numbers of the faces that a solid shows or hides
 faces_below : (fs : List Face) (x y : ℕ) (v : ℤ) (bound n : ℕ) → All (λ f. f.number < bound) fs

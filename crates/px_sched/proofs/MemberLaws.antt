@@ -2,8 +2,7 @@
 use Rattle.px_num.proofs.Basics.{◌≡◌, ◌≤◌, ◌+◌, ℕ, zero, suc, get_or, length, Bool, true, false, List, [], ◌∷◌, ◌++◌}
 use Rattle.px_num.proofs.Basics.{map, min, refl, ap, sym, ◌∙◌, subst, arith, inl, inr, ◌⊎◌, if◌then◌else◌, ◌==◌, All}
 use Rattle.px_num.proofs.Basics.{filter, flat_map, fold, list_all, list_any, range_with_len, cases_Bool, nat_tests}
-use Rattle.px_num.proofs.TruthLaws.{and_left, and_right, or_true}
-use Rattle.px_expr.specs.Cells.{has_face}
+use Rattle.px_sched.proofs.Words.{and_left, and_right, has_face, or_true}
 
 abbrev pub In : {X : Type 0} → X → List X → Type 0
 In x [] = ⊥
@@ -129,9 +128,6 @@ min_below b [] k h = absurd h
 min_below b (j ∷ ks) k (inl e) = omega (arith, min_start (min b j) ks, e)
 min_below b (j ∷ ks) k (inr h) = min_below (min b j) ks k h
 
-lesser : (b k m : ℕ) → m ≡ min b k → (m ≡ b) ⊎ (k ≡ m)
-lesser b k m e = grind arith
-
 pub min_reached : (b : ℕ) (ks : List ℕ) → (fold min b ks ≡ b) ⊎ In (fold min b ks) ks
 min_reached b [] = inl refl
-min_reached b (k ∷ ks) = grind (arith, lesser, min_reached (min b k) ks)
+min_reached b (k ∷ ks) = grind (arith, min_reached (min b k) ks)

@@ -1,25 +1,14 @@
 -- The passes leave the key of the picture.
-use Rattle.px_num.proofs.Basics.{rules, ◌≡◌, ◌<◌, ◌≤◌, ◌*◌, ◌^◌, ◌&&◌, ℕ, zero, suc, Bool, true, false, List, [], ◌∷◌}
-use Rattle.px_num.proofs.Basics.{length, min, Option, Some, None, refl, ap, sym, ◌∙◌, arith, inl, inr, fold, All}
-use Rattle.px_num.proofs.Basics.{mul-le-mul, mul-le-mul_left, cases_lt, pow_pos}
-use Rattle.std.proofs.lemmas.Bool.{cases_order}
-use Rattle.px_num.proofs.TruthLaws.{and_left, and_right, min_cases, never}
-use Rattle.px_expr.specs.Cells.{Cell, cell, has_face}
-use Rattle.px_expr.specs.Tree.{HasLeavesBelow, Tree}
-use Rattle.px_expr.proofs.LeafLaws.{leaves_below}
-use Rattle.px_model.specs.Scenes.{IsLawfulScene, SceneView, IsLawfulSolid}
-use Rattle.px_model.specs.Cells.{Depths, depths_of, far_of, value_of, first_cell, is_member_at, leaf_cell, least}
-use Rattle.px_model.specs.Cells.{picture, scene_cell, sight_at}
-use Rattle.px_face.specs.Covering.{CellsLaw, CoveringLaw, ValueParityLaw}
+use Rattle.px_num.proofs.Basics.{rules, ◌≡◌, ◌<◌, ◌≤◌, ◌*◌, ◌^◌, ◌&&◌, ℕ, Bool, true, false, List, [], ◌∷◌, length}
+use Rattle.px_num.proofs.Basics.{min, Option, Some, None, refl, ap, sym, ◌∙◌, arith, inl, inr, fold, All, mul-le-mul}
+use Rattle.px_num.proofs.Basics.{mul-le-mul_left, cases_lt, pow_pos}
+use Rattle.px_sched.proofs.Words.{and_left, and_right, cases_order, cell, Cell, CellsLaw, CoveringLaw, Depths}
+use Rattle.px_sched.proofs.Words.{depths_of, far_of, first_cell, forms, has_face, HasLeavesBelow, HasSolidsBelow}
+use Rattle.px_sched.proofs.Words.{is_member_at, is_void, IsKeyOf, IsLawfulScene, IsLawfulSolid, IsNormalForm}
+use Rattle.px_sched.proofs.Words.{IsPixelOf, kept_of, key, KeyedPixel, leaf_cell, least, leaves_below, min_cases}
+use Rattle.px_sched.proofs.Words.{never, NumbersShowThePicture, picture, Product, PruningLaw, scene_cell, SceneView}
+use Rattle.px_sched.proofs.Words.{sight_at, some_shows, sum_of_products, Tree, value_of, ValueParityLaw}
 use Rattle.px_face.specs.Surfaces.{FirstCellsAreFirst, IsFirst, IsFirstOf, ScenesHaveSurfaces, scene_before}
-use Rattle.px_normal.specs.declared.product.Product.{Product}
-use Rattle.px_normal.specs.Forms.{HasSolidsBelow, forms, sum_of_products}
-use Rattle.px_normal.specs.NormalLaw.{IsNormalForm, some_shows}
-use Rattle.px_normal.specs.Live.{is_void}
-use Rattle.px_prune.specs.Kept.{kept_of}
-use Rattle.px_prune.specs.PruningLaw.{PruningLaw}
-use Rattle.px_sched.specs.Numbers.{KeyedPixel, key}
-use Rattle.px_sched.specs.NumbersLaw.{IsKeyOf, IsPixelOf, NumbersShowThePicture}
 use Rattle.px_sched.proofs.RunLemmas.{HasRoom}
 use Rattle.px_sched.proofs.BlockLemmas.{all_found, steps_best}
 use Rattle.px_sched.proofs.MemberLaws.{In, all_in, face_in, in_face}
@@ -79,8 +68,7 @@ module _ (laws : Laws) (scene : SceneView) (lawful : IsLawfulScene scene) (l : K
   test z = is_member_at scene l.x l.y z
 
   before_first : (z : ℕ) → IsFirst test far z → (scene_before scene l.x l.y z).member ≡ false
-  before_first zero r = refl
-  before_first (suc z) r = r.none_before z (omega arith)
+  before_first x r = grind arith
 
   -- where the shown expression begins it shows a face
   begins : (z : ℕ) → IsFirst test far z → 0 < length (seen z).shown
@@ -132,10 +120,9 @@ module _ (laws : Laws) (scene : SceneView) (lawful : IsLawfulScene scene) (l : K
           | inr k ↦ elim (cases_order t k.depth) [
             | inl same ↦ omega (
               arith,
-              k.is,
               low.0,
               ap (λ z. 2 ^ l.number_bits * value_of d z) same,
-              least_below (seen t).shown k.number (shown_at t k.depth k.number same r.below k.shown),
+              least_below (seen t).shown k.number (grind (arith, face_in, and_right, kept_show)),
             )
             | inr o ↦ elim o [
               | inl before ↦ absurd (omega (arith, k.is, low.0, key_before l d t k.depth face k.number before small))
@@ -150,9 +137,6 @@ module _ (laws : Laws) (scene : SceneView) (lawful : IsLawfulScene scene) (l : K
         member_at : (z n : ℕ) → z < far → some_shows (at z) n kept ≡ true → test z ≡ true
         member_at z n low h = and_left (test z) (has_face n (seen z).shown) (sym (kept_show z n low) ∙ h)
 
-        shown_at : (t z n : ℕ) → t ≡ z → t < far → some_shows (at z) n kept ≡ true → In n (seen t).shown
-        shown_at t z n same low h = grind (arith, face_in, and_right, kept_show)
-
     at_none : ((z : ℕ) → z < far → test z ≡ false) → IsKeyOf l (sight_at scene l.x l.y None) best
     at_none none =
         let b = best_is_least laws.covering laws.cells scene solids lawful.numbers l kept each_fit in
@@ -160,8 +144,7 @@ module _ (laws : Laws) (scene : SceneView) (lawful : IsLawfulScene scene) (l : K
         record { key = is_key ∙ same_key far 0; depth = big; face = pow_pos l.number_bits }
 
     best_found : (found : Option ℕ) → IsFirstOf test far found → IsKeyOf l (sight_at scene l.x l.y found) best
-    best_found None none = at_none none
-    best_found (Some z) r = at_first z r
+    best_found x r = grind (arith, at_none, at_first)
 
     best_is_picture : IsKeyOf l (picture scene l.x l.y) best
     best_is_picture = best_found (first_cell scene l.x l.y) (laws.first scene l.x l.y)

@@ -2,24 +2,14 @@
 use Rattle.px_num.proofs.Basics.{rules, ◌≡◌, ℕ, ◌+◌, ◌-◌, ◌*◌, ◌^◌, ◌==◌, ◌≤◌, All, Bool, true, false, List, [], ◌∷◌}
 use Rattle.px_num.proofs.Basics.{◌++◌, length, map, inl, inr, arith, flat_map, range_with_len, cases_Bool, All-append}
 use Rattle.px_num.proofs.Basics.{All-cons, All-map, All-push}
+use Rattle.px_sched.proofs.Words.{Begin, Candidate, candidate_faces, Clear, Close, confirm, Confirm, deep_part, Depths}
+use Rattle.px_sched.proofs.Words.{depths_of, Drop, edges, end_of, face_count, face_number, face_plane, fraction_part}
+use Rattle.px_sched.proofs.Words.{Front, HasFace, IsStep, IsThere, judge, keep_covered, LayoutView, Linear, Literal}
+use Rattle.px_sched.proofs.Words.{literal_at, literal_steps, literals, Macro, Merge, number_part, Open, operations}
+use Rattle.px_sched.proofs.Words.{others, passes_with, plus, Product, product_steps, range_all, SceneView, solid_of}
+use Rattle.px_sched.proofs.Words.{Step, steps_with, Turn, where_fraction, where_passed}
 use Rattle.std.proofs.lemmas.List.Elements.{All-from_recursion}
-use Rattle.px_num.specs.Forms.{plus}
-use Rattle.px_num.specs.declared.linear.Linear.{Linear}
-use Rattle.px_num.proofs.RangeLaws.{range_all}
-use Rattle.px_face.specs.Edges.{edges}
-use Rattle.px_face.specs.Faces.{face_count, face_number, face_plane}
-use Rattle.px_macro.specs.declared.operation.Macro.{Macro}
-use Rattle.px_normal.specs.declared.product.Product.{Product}
-use Rattle.px_model.specs.Cells.{Depths, depths_of, end_of}
-use Rattle.px_model.specs.Scenes.{SceneView}
-use Rattle.px_sched.specs.declared.literal.Literal.{Literal}
-use Rattle.px_sched.specs.declared.step.Step.{Step}
-use Rattle.px_sched.specs.declared.step.Step.TheVariants.{Start, Open, Candidate, Drop, Clear, Front, Confirm, Begin}
-use Rattle.px_sched.specs.declared.step.Step.TheVariants.{Turn, Close, Merge}
-use Rattle.px_sched.specs.Layouts.{LayoutView, deep_part, fraction_part, number_part}
-use Rattle.px_sched.specs.Passes.{candidate_faces, confirm, judge, keep_covered, literal_at, literal_steps, literals}
-use Rattle.px_sched.specs.Passes.{operations, others, product_steps, solid_of, steps_with, where_fraction, where_passed}
-use Rattle.px_sched.specs.Steps.{HasFace, IsStep, IsThere, passes_with}
+use Rattle.px_sched.specs.declared.step.Step.TheVariants.{Start}
 use Rattle.px_sched.proofs.LawfulLaws.{all_flat}
 use Rattle.px_macro.specs.declared.operation.Macro.TheVariants as m
 
@@ -89,11 +79,7 @@ module _ (scene : SceneView) where
       products (anything products))
 
 pub is_there : (scene : SceneView) (step : Step) → IsStep scene step → HasFace (IsThere scene) step
-is_there scene (Candidate solid face) is = is.there
-is_there scene (Drop solid face) is = is.there
-is_there scene (Front solid face) is = is.there
-is_there scene (Turn other solid face) is = is.there
-is_there scene step is = tt
+is_there scene x is = grind arith
 
 -- what holds of the operations that the steps of a face have
 pub record HoldsOfFaces (scene : SceneView) (l : LayoutView) (P : Macro → Type 0) : Type 0 where
@@ -162,9 +148,7 @@ module _ (scene : SceneView) (l : LayoutView) (P : Macro → Type 0) (h : HoldsO
       All-from_recursion P (operations scene l Confirm) (h.all, (h.where_par false, (h.alive false, tt)))
   each_operation (Begin other) there = All-from_recursion P (operations scene l (Begin other)) (h.all, (h.par, tt))
   each_operation (Turn other solid face) there = passed solid face _ _ there (h.faces.at_most solid face there) h.turned
-  each_operation (Close other plain) there = grind arith
-  each_operation Merge there =
-      All-from_recursion P (operations scene l Merge) (h.all, (h.where_alive, (h.less, (h.copy, tt))))
+  each_operation x there = grind (arith, All-from_recursion)
 
   pub each_pass : (products : List Product) → All P (passes_with scene l products)
   each_pass products =

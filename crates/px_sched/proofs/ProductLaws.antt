@@ -1,21 +1,13 @@
 -- The literals of a product, and what it shows where it holds.
-use Rattle.px_num.proofs.Basics.{nat_tests, common_steps, ◌≡◌, ◌<◌, ◌≤◌, ◌+◌, ℕ, zero, suc, Bool, true, false, not}
-use Rattle.px_num.proofs.Basics.{List, [], ◌∷◌, length, get_or, ap, sym, ◌∙◌, subst, arith, inl, inr, if◌then◌else◌}
-use Rattle.px_num.proofs.Basics.{filter, list_all, list_any, option_map_or, cases_Bool, cases_eq, sum_by-cons}
-use Rattle.px_num.proofs.Basics.{slice_get-get_or}
-use Rattle.px_num.proofs.TruthLaws.{and_left, and_right, or_left, or_right}
-use Rattle.px_expr.specs.Cells.{Cell, has_face}
-use Rattle.px_model.specs.Scenes.{AreNumberedFrom, IsNumberedFrom, SceneView, faces_of, SolidView, faces_in}
-use Rattle.px_model.specs.Cells.{Depths, backs_at, depths_of, fronts_at, leaf_cell, no_cell, solid_cell}
-use Rattle.px_sets.specs.declared.set.SolidSet.{SolidSet}
-use Rattle.px_normal.specs.declared.product.Product.{Product}
+use Rattle.px_num.proofs.Basics.{common_steps, ◌≡◌, ◌<◌, ◌≤◌, ◌+◌, ℕ, zero, suc, Bool, true, false, not, List, [], ◌∷◌}
+use Rattle.px_num.proofs.Basics.{length, get_or, ap, sym, ◌∙◌, subst, arith, inl, inr, if◌then◌else◌, filter, list_all}
+use Rattle.px_num.proofs.Basics.{list_any, option_map_or, cases_Bool, cases_eq, sum_by-cons, slice_get-get_or}
+use Rattle.px_sched.proofs.Words.{and_left, and_right, AreNumberedFrom, backs_at, Cell, Depths, depths_of, faces_in}
+use Rattle.px_sched.proofs.Words.{faces_of, fronts_at, has_face, HasSolidsBelow, holds, is_void, IsNumberedFrom}
+use Rattle.px_sched.proofs.Words.{KeyedPixel, leaf_cell, Literal, literal, literals, literals_of, no_cell, no_solid}
+use Rattle.px_sched.proofs.Words.{or_left, or_right, Product, SceneView, shows, solid_cell, solid_of, SolidSet}
+use Rattle.px_sched.proofs.Words.{SolidView}
 use Rattle.px_sets.specs.Sets.{below, has, solids}
-use Rattle.px_normal.specs.Forms.{HasSolidsBelow}
-use Rattle.px_normal.specs.NormalLaw.{holds, shows}
-use Rattle.px_normal.specs.Live.{is_void}
-use Rattle.px_sched.specs.declared.literal.Literal.{Literal}
-use Rattle.px_sched.specs.Numbers.{KeyedPixel}
-use Rattle.px_sched.specs.Passes.{literal, literals, literals_of, no_solid, solid_of}
 use Rattle.px_sched.proofs.BlockLemmas.{suited}
 use Rattle.px_sched.proofs.MemberLaws.{From, In, all_of, any_in, any_out, face_in, in_either, in_face, in_filter}
 use Rattle.px_sched.proofs.MemberLaws.{in_left, in_map, in_right, one_of, out_filter, out_map}
@@ -46,12 +38,6 @@ unfolding solids
 in_solids_of set q low is = in_filter (has set) (below 256) q (below_in 256 q low) is
 
 module _ (p : Product) where
-  pub plain_literal : (q : ℕ) → In q (solids p.plain) → In (literal true q) (literals p)
-  plain_literal q h = grind (arith, in_left, in_map)
-
-  pub barred_literal : (q : ℕ) → In q (solids p.barred) → In (literal false q) (literals p)
-  barred_literal q h = grind (arith, in_right, in_map)
-
   -- what holds of each plain literal and each barred one
   pub each_literal : (P : Literal → Type 0) → ((q : ℕ) → In q (solids p.plain) → P (literal true q))
       → ((q : ℕ) → In q (solids p.barred) → P (literal false q)) → (r : Literal) → In r (literals p) → P r
@@ -102,18 +88,18 @@ module _ (scene : SceneView) (l : KeyedPixel) (p : Product) (whole : IsFit (leng
   at = leaf_cell scene.solids d l.x l.y z
 
   plain_at : (q : ℕ) → In q (solids p.plain) → at q ≡ solid_cell d l.x l.y z (solid_of scene q)
-  plain_at q h = leaf_is scene d l.x l.y z q (whole.known (literal true q) (plain_literal p q h))
+  plain_at q h = leaf_is scene d l.x l.y z q (whole.known (literal true q) (grind (arith, in_left, in_map)))
 
   barred_at : (q : ℕ) → In q (solids p.barred) → at q ≡ solid_cell d l.x l.y z (solid_of scene q)
-  barred_at q h = leaf_is scene d l.x l.y z q (whole.known (literal false q) (barred_literal p q h))
+  barred_at q h = leaf_is scene d l.x l.y z q (whole.known (literal false q) (grind (arith, in_right, in_map)))
 
   -- a product holds where each literal has its cell
   pub holds_there : ((r : Literal) → In r (literals p) → suited scene l z r ≡ true) → holds at p ≡ true
   holds_there each =
       rw (all_of (λ q. (at q).member) (solids p.plain) (λ q h. ap (λ c. c.member) (plain_at q h)
-      ∙ each (literal true q) (plain_literal p q h)))
+      ∙ each (literal true q) (grind (arith, in_left, in_map))))
       (all_of (λ q. not (at q).member) (solids p.barred) (λ q h. ap (λ c. not c.member) (barred_at q h)
-      ∙ each (literal false q) (barred_literal p q h)))
+      ∙ each (literal false q) (grind (arith, in_right, in_map))))
 
   pub each_holds : holds at p ≡ true → (r : Literal) → In r (literals p) → suited scene l z r ≡ true
   each_holds h =
@@ -148,14 +134,14 @@ module _ (scene : SceneView) (l : KeyedPixel) (p : Product) (whole : IsFit (leng
       by_plain : From (λ q. has_face n (at q).shown ≡ true) (solids p.plain) → From (Gives n) (literals p)
       by_plain o = record {
         from = literal true o.from;
-        there = plain_literal p o.from o.there;
+        there = grind (arith, in_left, in_map);
         gives = face_in n _ (sym (ap (λ c. has_face n c.shown) (plain_at o.from o.there)) ∙ o.gives);
       }
 
       by_barred : From (λ q. has_face n (at q).hidden ≡ true) (solids p.barred) → From (Gives n) (literals p)
       by_barred o = record {
         from = literal false o.from;
-        there = barred_literal p o.from o.there;
+        there = grind (arith, in_right, in_map);
         gives = face_in n _ (sym (ap (λ c. has_face n c.hidden) (barred_at o.from o.there)) ∙ o.gives);
       }
 
@@ -171,4 +157,4 @@ numbered_at [] first q numbered h = absurd (omega arith)
 numbered_at (s ∷ ss) first zero numbered h =
     record { first = first; numbers = numbered.0; within = omega (arith, sum_by-cons faces_in s ss) }
 numbered_at (s ∷ ss) first (suc q) numbered h =
-    grind (arith, nat_tests, common_steps, numbered_at ss (first + faces_in s) q numbered.1 (omega arith))
+    grind (arith, common_steps, numbered_at ss (first + faces_in s) q numbered.1 (omega arith))

@@ -2,13 +2,8 @@
 use Rattle.px_num.proofs.Basics.{◌≡◌, ℕ, suc, zero, ◌+◌, ◌*◌, ◌^◌, ◌<◌, ◌≤◌, Bool, true, false, cond, nat_le, count_by}
 use Rattle.px_num.proofs.Basics.{◌∙◌, [], ◌∷◌, ◌++◌, add-one, length, refl, ap, sym, inl, inr, arith, range_with_len}
 use Rattle.px_num.proofs.Basics.{cases_lt, get_or_past, All-append, All-cons, All-map, All-push, pow-add}
-use Rattle.px_num.proofs.BitLaws.{pow_above}
-use Rattle.px_num.proofs.TruthLaws.{double_pow, le_false, le_true}
-use Rattle.px_model.specs.Scenes.{SceneView, IsLawfulScene, IsNumberedFrom, faces_of, SolidView, faces_in}
-use Rattle.px_model.specs.declared.solid.Face.{Face}
-use Rattle.px_face.specs.Faces.{face_number, numbers_in_faces}
-use Rattle.px_sched.specs.Layouts.{bit_length}
-use Rattle.px_sched.specs.Passes.{no_solid, solid_of}
+use Rattle.px_sched.proofs.Words.{bit_length, Face, face_number, faces_in, faces_of, IsLawfulScene, IsNumberedFrom}
+use Rattle.px_sched.proofs.Words.{le_false, le_true, numbers_in_faces, pow_above, SceneView, solid_of, SolidView}
 use Rattle.px_sched.proofs.LawfulLaws.{all_or}
 use Rattle.px_sched.proofs.LayoutLaws.{counted, passed_over}
 use Rattle.px_sched.proofs.ProductLaws.{numbered_at}
@@ -25,18 +20,13 @@ number_below first s h =
     (All-push P backs 0 (All-map P (λ (f : Face). f.number) s.backs h.backs) (omega arith)))
     (omega arith)
 
-no_solid_has_none : (face : ℕ) → face_number no_solid face ≡ 0
-no_solid_has_none zero = refl
-no_solid_has_none (suc zero) = refl
-no_solid_has_none (suc (suc face)) = refl
-
 number_in_scene : (scene : SceneView) → IsLawfulScene scene → (solid face : ℕ)
     → face_number (solid_of scene solid) face ≤ faces_of scene.solids
 number_in_scene scene lawful solid face = elim (cases_lt solid (length scene.solids)) [
   | inl there ↦
       let at = numbered_at scene.solids 1 solid lawful.numbers there in
       omega (arith, at.within, number_below at.first (solid_of scene solid) at.numbers face)
-  | inr past ↦ grind (arith, get_or_past, no_solid_has_none)
+  | inr past ↦ grind (arith, get_or_past)
 ]
 
 -- of the powers of 2 below a bound, those that are not above n
@@ -53,11 +43,7 @@ one_more n bound false is =
 all_counted : (n bound : ℕ) → 2 ^ bound ≤ n → powers n (suc bound) ≡ suc bound
 all_counted n zero h = one_more n 0 true (le_true (2 ^ 0) n h)
 all_counted n (suc bound) h =
-    omega (
-      arith,
-      one_more n (suc bound) true (le_true (2 ^ suc bound) n h),
-      all_counted n bound (omega (arith, double_pow bound)),
-    )
+    omega (arith, one_more n (suc bound) true (le_true (2 ^ suc bound) n h), all_counted n bound (omega arith))
 
 below_power : (n bound : ℕ) → n < 2 ^ bound → n < 2 ^ powers n bound
 below_power n zero h = h

@@ -3,19 +3,11 @@ use Rattle.px_num.proofs.Basics.{rules, ◌≡◌, ◌<◌, ◌≤◌, ◌+◌, 
 use Rattle.px_num.proofs.Basics.{◌&&◌, not, nat_le, List, [], ◌∷◌, map, count_by, refl, ap, sym, ◌∙◌, arith}
 use Rattle.px_num.proofs.Basics.{if◌then◌else◌, beq, fold, flat_map, range_with_len, fold-map, fold-append, pow-add}
 use Rattle.px_num.proofs.Basics.{pow_pos, mul-le-mul}
-use lib.Signed.{le_z}
-use Rattle.px_num.specs.Bits.{modulo}
-use Rattle.px_num.proofs.TruthLaws.{turned_from_false}
-use Rattle.px_model.specs.Scenes.{SceneView, SolidView}
-use Rattle.px_model.specs.Cells.{Depths, cell_of, depths_of, end_of, is_inside_at, value_of}
-use Rattle.px_face.specs.Covering.{CoveringLaw, ValueParityLaw, is_odd, is_passed_at}
-use Rattle.px_face.specs.Faces.{face_count, face_plane}
+use Rattle.px_sched.proofs.Words.{after_step, after_steps, cell_of, CoveringLaw, Depths, depths_of, end_of, face_count}
+use Rattle.px_sched.proofs.Words.{face_plane, flipped, is_inside_at, is_odd, is_passed_at, is_passing, judge}
+use Rattle.px_sched.proofs.Words.{KeyedPixel, Keys, le_z, Literal, literal_at, modulo, SceneView, solid_of, SolidView}
+use Rattle.px_sched.proofs.Words.{Step, Turn, turned_from_false, value_of, ValueParityLaw, without_fraction}
 use Rattle.px_face.proofs.ParityLaws.{turned_is_odd, turned_where}
-use Rattle.px_sched.specs.declared.literal.Literal.{Literal}
-use Rattle.px_sched.specs.declared.step.Step.{Step}
-use Rattle.px_sched.specs.declared.step.Step.TheVariants.{Turn}
-use Rattle.px_sched.specs.Numbers.{Keys, KeyedPixel, after_step, after_steps, flipped, is_passing, without_fraction}
-use Rattle.px_sched.specs.Passes.{judge, literal_at, solid_of}
 use Rattle.px_sched.proofs.CoverLaws.{and_same, IsDepth, mod_small, le_same, at_most_is, covering_value}
 
 -- a part of the keys after some steps for each element
@@ -39,18 +31,14 @@ pub record HasRoom (l : KeyedPixel) (d : Depths) : Type 0 where
   pub big : d.far < 2 ^ l.depth_bits
   pub same : l.fraction_bits ≡ d.fraction_bits
 
-pub end_room : (l : KeyedPixel) (d : Depths) → HasRoom l d → end_of d + 2 ^ d.fraction_bits
-    ≤ 2 ^ (l.depth_bits + l.fraction_bits)
-end_room l d room = grind (arith, mul-le-mul, pow-add)
-
 pub end_small : (l : KeyedPixel) (d : Depths) → HasRoom l d → end_of d < 2 ^ (l.depth_bits + l.fraction_bits)
-end_small l d room = omega (arith, end_room l d room, pow_pos d.fraction_bits)
+end_small l d room = grind (arith, pow_pos d.fraction_bits, mul-le-mul, pow-add)
 
 -- a value that is rounded up is that of its cell
 pub rounded : (l : KeyedPixel) (d : Depths) → HasRoom l d → (v : ℤ) → IsDepth v (end_of d)
     → without_fraction l (modulo (v +ℤ pos (2 ^ d.fraction_bits - 1)) (l.depth_bits + l.fraction_bits))
     ≡ value_of d (cell_of d v)
-rounded l d room v is = grind (arith, pow_pos, end_room, mod_small)
+rounded l d room v is = grind (arith, pow_pos, mod_small, mul-le-mul, pow-add)
 
 -- a value with something added, as a test
 pub more_at_most : (v : ℤ) (n bits z : ℕ) (d : IsDepth v n) (more : ℕ) → d.depth + more < 2 ^ bits
@@ -58,18 +46,13 @@ pub more_at_most : (v : ℤ) (n bits z : ℕ) (d : IsDepth v n) (more : ℕ) →
 more_at_most v n bits z d more small =
     rw d.is (ap (λ k. nat_le k z) (mod_small (d.depth + more) (2 ^ bits) small) ∙ le_same (d.depth + more) z)
 
-flip_is : (b : Bool) (k : Keys) → (if b then flipped k else k) ≡ record k { par = if b then not k.par else k.par }
-flip_is true k = refl
-flip_is false k = refl
-
 abbrev pub flip_step : (ℕ → ℕ → Bool) → Keys → ℕ → Keys
 flip_step t k i = if k.alive && t k.deep i then flipped k else k
 
 pub flips : (t : ℕ → ℕ → Bool) (k : Keys) (is : List ℕ) → fold (flip_step t) k is
     ≡ record k { par = fold (turned_where (λ i. k.alive && t k.deep i)) k.par is }
 flips t k [] = refl
-flips t k (i ∷ is) =
-    grind (arith, flip_is, flips t (record k { par = if (k.alive && t k.deep i) then not k.par else k.par }) is)
+flips t k (i ∷ is) = grind (arith, flips t (record k { par = if (k.alive && t k.deep i) then not k.par else k.par }) is)
 
 alive_odd : (a : Bool) (t : ℕ → Bool) (is : List ℕ)
     → fold (turned_where (λ i. a && t i)) false is ≡ (a && is_odd (count_by t is))

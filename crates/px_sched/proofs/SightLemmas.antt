@@ -1,14 +1,7 @@
 -- The passes leave in the memory what they leave in the numbers: the sight of the pixel.
 use Rattle.px_num.proofs.Basics.{◌+◌, refl, ap, ◌∙◌}
-use Rattle.px_model.specs.Scenes.{faces_of}
-use Rattle.px_model.specs.Cells.{depths_of, end_of, picture}
-use Rattle.px_model.proofs.CellLaws.{end_is_small}
-use Rattle.px_normal.specs.Forms.{sum_of_products}
-use Rattle.px_prune.specs.Kept.{kept_of}
-use Rattle.px_sched.specs.Layouts.{bit_length}
-use Rattle.px_sched.specs.Numbers.{KeyedPixel}
-use Rattle.px_sched.specs.NumbersLaw.{NumbersShowThePicture}
-use Rattle.px_sched.specs.Passes.{steps_with}
+use Rattle.px_sched.proofs.Words.{bit_length, depths_of, end_is_small, end_of, faces_of, kept_of, KeyedPixel}
+use Rattle.px_sched.proofs.Words.{NumbersShowThePicture, picture, steps_with, sum_of_products}
 use Rattle.px_sched.specs.PassesLaw.{PassesLaw}
 use Rattle.px_sched.proofs.BridgeLemmas.{FieldLaws, all_steps, b_parts, keys_in}
 use Rattle.px_sched.proofs.LawfulLaws.{passes_are}

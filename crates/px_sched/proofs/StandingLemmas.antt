@@ -1,27 +1,15 @@
 -- A cursor gives the passes in their order.
-use Rattle.px_num.proofs.Basics.{rules, ◌≡◌, ◌≢◌, ℕ, ◌+◌, ◌^◌, ◌<◌, ◌≤◌, List, [], ◌∷◌, ◌++◌, drop, get_or, length}
+use Rattle.px_num.proofs.Basics.{rules, ◌≡◌, ◌≢◌, ℕ, ◌+◌, ◌<◌, ◌≤◌, List, [], ◌∷◌, ◌++◌, drop, get_or, length}
 use Rattle.px_num.proofs.Basics.{slice_get, Option, Some, None, IfNone, refl, ap, sym, ◌∙◌, arith, length-append}
 use Rattle.px_num.proofs.Basics.{nat_tests, common_steps, drop-drop, slice_get-get_or, slice_get_past, drop-cons, zero}
 use Rattle.px_num.proofs.Basics.{suc, flat_map}
-use Rattle.std.proofs.lemmas.List.{get_or-drop, length-drop}
-use Rattle.px_macro.specs.declared.operation.Macro.{Macro}
-use Rattle.px_normal.specs.declared.product.Product.{Product}
-use Rattle.px_model.specs.Scenes.{SceneView}
+use Rattle.px_sched.proofs.Words.{behind_stage, End, from_stage, get_or-drop, IsStage, layout_of, LayoutView}
+use Rattle.px_sched.proofs.Words.{length-drop, Macro, operations, passes, passes_with, plan_of, Product, SceneView}
+use Rattle.px_sched.proofs.Words.{Stage, stage_operations}
 use Rattle.px_sched.specs.declared.cursor.Cursor.{Cursor}
-use Rattle.px_sched.specs.declared.group.Stage.{Stage}
-use Rattle.px_sched.specs.declared.group.Stage.TheVariants.{At, End, Start}
-use Rattle.px_sched.specs.declared.step.Step.{Step}
-use Rattle.px_sched.specs.declared.step.Step.TheVariants.{Begin, Candidate, Clear, Close, Confirm, Drop, Front, Merge}
-use Rattle.px_sched.specs.declared.step.Step.TheVariants.{Open, Turn}
 use Rattle.px_sched.specs.Cursors.{IsWithinStage, Stands, StandsIn}
-use Rattle.px_sched.specs.Groups.{IsStage, behind_stage, from_stage, stage_operations}
-use Rattle.px_prune.specs.Kept.{plan_of}
-use Rattle.px_sched.specs.Layouts.{LayoutView, layout_of}
-use Rattle.px_sched.specs.Passes.{operations, passes}
-use Rattle.px_sched.specs.Steps.{passes_with}
 use Rattle.px_sched.proofs.LawfulLaws.{passes_are}
 use Rattle.px_macro.specs.declared.operation.Macro.TheVariants as m
-use Rattle.px_sched.specs.declared.step.Step.TheVariants as step
 
 -- one element further in a list whose rest is known
 here : {X : Type 0} (xs : List X) (k : ℕ) (ls rs : List X) (i : ℕ) (d : X) → i < length ls → drop k xs ≡ drop i ls
@@ -45,19 +33,10 @@ past_all (l ∷ ls) (suc i) h = past_all ls i (omega arith)
 module _ (scene : SceneView) (l : LayoutView) (products : List Product) where
   pub inside_of : (st : Stage) (at : ℕ) → st ≢ End → IsWithinStage scene l st at
       → at < length (stage_operations scene l st)
-  inside_of Start at more place = place
-  inside_of (At g) at more place = place
-  inside_of End at more place = absurd (more refl)
+  inside_of x at more place = grind arith
 
   abbrev whole : List Macro
   whole = passes_with scene l products
-
-  -- the operations from a stage on are its own and those behind it
-  stage_cut : (st : Stage) → flat_map (operations scene l) (from_stage scene products st)
-      ≡ stage_operations scene l st ++ flat_map (operations scene l) (behind_stage scene products st)
-  stage_cut Start = refl
-  stage_cut (At g) = refl
-  stage_cut End = refl
 
   module _ (c : Cursor) (stands : StandsIn scene l products c)
       (inside : c.at < length (stage_operations scene l c.stage)) where
@@ -80,11 +59,6 @@ module _ (scene : SceneView) (l : LayoutView) (products : List Product) where
         → IsWithinStage scene l c.stage (c.at + 1) → StandsIn scene l products d
     along d given at stage more place = grind (arith, left_more, below)
 
-    pub onward : (d : Cursor) (next : Stage) → d.given ≡ c.given + 1 → d.at ≡ 0 → d.stage ≡ next → length ops ≤ c.at
-        + 1 → behind_stage scene products c.stage ≡ from_stage scene products next
-        → IsStage scene products next → IsWithinStage scene l next 0 → StandsIn scene l products d
-    onward d next given at stage past left is place = grind (arith, left_more, past_all, stage_cut, below)
-
   pub ended : (c : Cursor) → StandsIn scene l products c → c.stage ≡ End → c.given ≡ length whole
   ended c stands stage = grind (arith, nat_tests, common_steps, length-drop)
 
@@ -98,30 +72,17 @@ module _ (scene : SceneView) (l : LayoutView) (products : List Product) where
       let inside = inside_of c.stage c.at more stands.place in
       sym (slice_get-get_or whole c.given m.All (below c stands inside) ∙ ap Some (given_is c stands inside ∙ sym is))
 
-  place_more : (st : Stage) (i : ℕ) → i < length (stage_operations scene l st) → IsWithinStage scene l st i
-  place_more Start i low = low
-  place_more (At g) i low = low
-  place_more End i low = tt
-
-  pub step_some : (step : Step) → 0 < length (operations scene l step)
-  step_some step.Start = omega arith
-  step_some other = omega arith
-
-  place_zero : (st : Stage) → IsWithinStage scene l st 0
-  place_zero Start = omega arith
-  place_zero (At g) = step_some g.step
-  place_zero End = tt
-
   pub stands_along : (c d : Cursor) (n : ℕ) → ((l : LayoutView) → length (stage_operations scene l c.stage) ≡ n)
       → c.at + 1 < n → d.given ≡ c.given + 1 → d.at ≡ c.at + 1 → d.stage ≡ c.stage → StandsIn scene l products c
       → StandsIn scene l products d
-  stands_along c d n count low given at stage stands = grind (arith, along, place_more)
+  stands_along c d n count low given at stage stands = grind (arith, along)
 
   pub stands_onward : (c d : Cursor) (next : Stage) (n : ℕ)
       → ((l : LayoutView) → length (stage_operations scene l c.stage) ≡ n) → c.at < n → n ≤ c.at + 1
       → behind_stage scene products c.stage ≡ from_stage scene products next → IsStage scene products next
       → d.given ≡ c.given + 1 → d.at ≡ 0 → d.stage ≡ next → StandsIn scene l products c → StandsIn scene l products d
-  stands_onward c d next n count low past left is given at stage stands = search (rules, onward, place_zero, count)
+  stands_onward c d next n count low past left is given at stage stands =
+      search (rules, arith, left_more, past_all, below)
 
 -- the passes of a scene are those over its plan, by its layout
 module _ (scene : SceneView) (l : LayoutView) (products : List Product) (plan : products ≡ plan_of scene)
@@ -139,7 +100,3 @@ module _ (scene : SceneView) (l : LayoutView) (products : List Product) (plan : 
   end_for n None all =
       all ∙ ap (λ k. length (passes_with scene k products)) layout
       ∙ ap (λ ps. length (passes_with scene (layout_of scene) ps)) plan ∙ ap length (sym (passes_are scene))
-
-pub stands_first : (scene : SceneView) → length (passes scene) < 2 ^ 64
-    → Stands scene (record { given = 0; stage = Start; at = 0 })
-stands_first scene few = grind (arith, passes_are)

@@ -1,26 +1,16 @@
 -- A cursor of steps gives the steps in their order.
 use Rattle.px_num.proofs.Basics.{nat_tests, common_steps, ◌≡◌, ℕ, ◌+◌, ◌-◌, ◌^◌, ◌<◌, ◌≤◌, Bool, List, [], ◌∷◌, drop}
-use Rattle.px_num.proofs.Basics.{filter, get_or, length, slice_get, take, Option, Some, None, refl, ap, sym, subst, ◌∙◌}
-use Rattle.px_num.proofs.Basics.{arith, length-append, cond, unwrap_or, flat_map, drop_more, count_by-le-length}
+use Rattle.px_num.proofs.Basics.{filter, get_or, length, slice_get, take, Some, None, ap, sym, ◌∙◌, arith}
+use Rattle.px_num.proofs.Basics.{length-append, cond, unwrap_or, flat_map, drop_more, count_by-le-length}
 use Rattle.px_num.proofs.Basics.{length-filter, slice_get-get_or, slice_get_past}
-use Rattle.std.proofs.lemmas.List.{length-drop, length-take}
+use Rattle.px_sched.proofs.Words.{behind_stage, from_stage, IsStage, length-drop, length-take, passes, Product}
+use Rattle.px_sched.proofs.Words.{SceneView, Stage, Step, step_of, steps_with}
 use Rattle.std.proofs.lemmas.List.Filters.{length-filter_more}
-use Rattle.px_normal.specs.declared.product.Product.{Product}
-use Rattle.px_model.specs.Scenes.{SceneView}
-use Rattle.px_prune.specs.Kept.{plan_of}
-use Rattle.px_sched.specs.declared.group.Stage.{Stage}
-use Rattle.px_sched.specs.declared.group.Stage.TheVariants.{At, End, Start}
-use Rattle.px_sched.specs.declared.step.Step.{Step}
+use Rattle.px_sched.specs.declared.group.Stage.TheVariants.{Start}
 use Rattle.px_sched.specs.declared.step_cursor.StepCursor.{StepCursor}
-use Rattle.px_sched.specs.declared.literal.Literal.{Literal}
-use Rattle.px_sched.specs.Groups.{IsStage, behind_stage, from_stage, step_of}
-use Rattle.px_sched.specs.Passes.{passes, steps, steps_with}
 use Rattle.px_sched.specs.StepCursors.{HasFewOthers, StandsAmong, StandsAtStep, opens_literal}
-use Rattle.px_sched.specs.Steps.{IsStepOf}
 use Rattle.px_sched.proofs.FewLaws.{few_others}
 use Rattle.px_sched.proofs.LawfulLaws.{passes_are}
-use Rattle.px_sched.proofs.StandingLemmas.{step_some}
-use Rattle.px_sched.specs.declared.step.Step.TheVariants as step
 
 -- a list from one element on
 module _ {X : Type 0} (xs : List X) (k : ℕ) (x : X) (rest : List X) (left : drop k xs ≡ x ∷ rest) where
@@ -48,27 +38,13 @@ ended xs k none = omega (arith, ap length none, length-drop k xs)
 module _ (scene : SceneView) (products : List Product) where
   here_from : (st : Stage) (s : Step) → Some s ≡ step_of st → from_stage scene products st ≡ s
       ∷ behind_stage scene products st
-  here_from Start s here = ap (λ o. unwrap_or o s ∷ behind_stage scene products Start) (sym here)
-  here_from (At g) s here = ap (λ o. unwrap_or o s ∷ behind_stage scene products (At g)) (sym here)
-  here_from End s here = absurd (cc)
+  here_from x s here = grind (arith, unwrap_or)
 
   end_from : (st : Stage) → None ≡ step_of st → from_stage scene products st ≡ []
-  end_from Start here = absurd (cc)
-  end_from (At g) here = absurd (cc)
-  end_from End here = refl
-
-  -- the other literal of a step is one of those of its product
-  asked : (q : Literal) (rs : List Literal) (s : Step) → length rs ≤ 512 → IsStepOf scene q rs s → HasFewOthers s
-  asked q rs step.Start few is = absurd is
-  asked q rs (step.Begin other) few is = omega (arith, few, is)
-  asked q rs (step.Turn other solid face) few is = omega (arith, few, is.0)
-  asked q rs (step.Close other plain) few is = omega (arith, few, is)
-  asked q rs other few is = tt
+  end_from x here = grind arith
 
   pub others_here : (st : Stage) (s : Step) → Some s ≡ step_of st → IsStage scene products st → HasFewOthers s
-  others_here Start s here is = subst (λ o. HasFewOthers (unwrap_or o s)) (sym here) tt
-  others_here (At g) s here is = grind (arith, unwrap_or, asked, few_others)
-  others_here End s here is = absurd (cc)
+  others_here x s here is = grind (arith, unwrap_or, few_others)
 
   abbrev all : List Step
   all = steps_with scene products
@@ -80,11 +56,8 @@ module _ (scene : SceneView) (products : List Product) where
     pub step_found : Some s ≡ slice_get all c.given
     step_found = head_found all c.given s (behind_stage scene products c.stage) left
 
-    few_given : c.given < 2 ^ 64 - 1
-    few_given = omega (arith, head_below all c.given s (behind_stage scene products c.stage) left, stands.few)
-
     pub few_literals : c.literals < 2 ^ 64 - 1
-    few_literals = grind (arith, few_given, length-filter, count_by-le-length, length-take)
+    few_literals = grind (arith, length-filter, count_by-le-length, length-take)
 
     pub stands_behind : (d : StepCursor) (next : Stage) → d.given ≡ c.given + 1
         → d.literals ≡ c.literals + cond (opens_literal s) 1 0 → d.stage ≡ next
@@ -104,4 +77,4 @@ some_each f some (x ∷ xs) = omega (arith, some x, some_each f some xs, length-
 
 pub first_stands : (scene : SceneView) → length (passes scene) < 2 ^ 64
     → StandsAtStep scene (record { given = 0; literals = 0; stage = Start })
-first_stands scene few = grind (arith, some_each, step_some, left, passes_are)
+first_stands scene few = grind (arith, some_each, left, passes_are)

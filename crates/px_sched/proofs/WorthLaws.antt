@@ -1,26 +1,14 @@
 -- Sums over the operations of a step and over the steps of a literal, by the cases of a step.
 use Rattle.px_num.proofs.Basics.{nat_tests, common_steps, ◌≡◌, ℕ, ◌+◌, ◌-◌, ◌*◌, ◌^◌, All, Bool, true, false, List, []}
-use Rattle.px_num.proofs.Basics.{◌∷◌, ◌++◌, length, map, get_or, not, refl, ap, sym, ◌∙◌, arith, flat_map}
-use Rattle.px_num.proofs.Basics.{range_with_len, sum_by, All-head, All-tail, fold-map, length-range_with_len}
-use Rattle.px_num.proofs.Basics.{sum_by-append, sum_by-cons}
-use Rattle.px_num.specs.Forms.{plus}
-use Rattle.px_num.specs.declared.linear.Linear.{Linear}
-use Rattle.px_face.specs.EdgeLaws.{EdgesAreCounted}
-use Rattle.px_face.specs.Edges.{edge_count}
-use Rattle.px_face.specs.Faces.{face_number, face_plane, level}
-use Rattle.px_macro.specs.declared.field.Field.{Field}
-use Rattle.px_macro.specs.declared.operation.Macro.{Macro}
-use Rattle.px_model.specs.Cells.{depths_of, end_of}
-use Rattle.px_model.specs.Scenes.{SceneView}
-use Rattle.px_normal.specs.declared.product.Product.{Product}
-use Rattle.px_sched.specs.declared.literal.Literal.{Literal}
-use Rattle.px_sched.specs.declared.step.Step.{Step}
-use Rattle.px_sched.specs.declared.step.Step.TheVariants.{Candidate, Close, Drop, Front, Merge, Open, Start, Turn}
-use Rattle.px_sched.specs.Layouts.{LayoutView, deep_part, fraction_part, number_part}
-use Rattle.px_sched.specs.Passes.{candidate_faces, confirm, judge, keep_covered, literal_at, literal_steps, no_literal}
-use Rattle.px_sched.specs.Passes.{operations, product_steps, solid_of, steps_with, where_fraction, where_passed}
-use Rattle.px_sched.specs.Steps.{HasFace, IsThere}
-use Rattle.px_sched.specs.Worths.{bare, confirm_worth, edges_in, first_face_step, judged_worth, own_worth, passing}
+use Rattle.px_num.proofs.Basics.{◌∷◌, ◌++◌, length, map, refl, ap, sym, ◌∙◌, arith, flat_map, range_with_len, sum_by}
+use Rattle.px_num.proofs.Basics.{All-head, All-tail, fold-map, length-range_with_len, sum_by-append, sum_by-cons}
+use Rattle.px_sched.proofs.Words.{bare, Candidate, candidate_faces, confirm, deep_part, depths_of, Drop, edge_count}
+use Rattle.px_sched.proofs.Words.{edges_in, EdgesAreCounted, end_of, face_number, face_plane, Field, first_face_step}
+use Rattle.px_sched.proofs.Words.{fraction_part, Front, HasFace, IsThere, judge, judged_worth, keep_covered}
+use Rattle.px_sched.proofs.Words.{LayoutView, level, Linear, Literal, literal_at, literal_steps, Macro, Merge}
+use Rattle.px_sched.proofs.Words.{no_literal, number_part, Open, operations, own_worth, passing, plus, Product}
+use Rattle.px_sched.proofs.Words.{product_steps, SceneView, solid_of, Step, steps_with, where_fraction, where_passed}
+use Rattle.px_sched.specs.declared.step.Step.TheVariants.{Start}
 use Rattle.px_sched.proofs.MemberLaws.{by_places}
 use Rattle.px_macro.specs.declared.operation.Macro.TheVariants as m
 
@@ -59,13 +47,6 @@ module _ (v : Step → ℕ) (scene : SceneView) where
       → (from count : ℕ) → sum_by u (map step (range_with_len from count)) ≡ count * u (step 0)
   in_range step same from count = rw (length-range_with_len from count) at (alike step same (range_with_len from count))
 
-  confirm_sum : (q : Literal) → sum_by u (where_fraction (depths_of scene) (confirm scene q)) ≡ confirm_worth v scene q
-  confirm_sum q = grind (arith, nat_tests, common_steps, in_range, sum_by-append, sum_by-cons)
-
-  judge_sum : (rs : List Literal) (other : ℕ) → sum_by u (judge scene rs other)
-      ≡ judged_worth v scene (literal_at rs other)
-  judge_sum rs other = grind (arith, nat_tests, common_steps, sum_by-append, sum_by-cons, in_range)
-
   -- each literal has its own steps, and those of the others against it
   pub literal_sum : (q : Literal) (rs : List Literal) →
       sum_by u (literal_steps scene q rs) ≡ own_worth v scene q + sum_by (judged_worth v scene) rs
@@ -78,17 +59,21 @@ module _ (v : Step → ℕ) (scene : SceneView) where
       let tested : sum_by u tests ≡ sum_by judged rs =
       flat_sum u (judge scene rs) places
       ∙ sum_by-agree (λ other. sum_by u (judge scene rs other)) (λ other. judged (literal_at rs other)) places
-      (λ k d low. judge_sum rs (get_or places k d))
+      (λ k d low. grind (arith, nat_tests, common_steps, sum_by-append, sum_by-cons, in_range))
       ∙ sym (fold-map (λ a r. a + judged r) (literal_at rs) 0 places) ∙ ap (sum_by judged) (by_places no_literal rs) in
-      omega (
+      grind (
         arith,
         sum_by-cons u Open (map (Candidate q.solid) faces ++ (sure ++ (tests ++ Merge ∷ []))),
         sum_by-append u (map (Candidate q.solid) faces) (sure ++ (tests ++ Merge ∷ [])),
         sum_by-append u sure (tests ++ Merge ∷ []),
         sum_by-append u tests (Merge ∷ []),
         alike (Candidate q.solid) (λ face. refl) faces,
-        confirm_sum q,
         tested,
+        nat_tests,
+        common_steps,
+        in_range,
+        sum_by-append,
+        sum_by-cons,
       )
 
 -- the steps of products are the background's, and then those of each product
@@ -113,8 +98,7 @@ module _ (count : EdgesAreCounted) (scene : SceneView) (l : LayoutView) (w : Mac
 
   signs : (forms : List Linear) → sum_by w (map m.KeepSign forms) ≡ length forms * edge
   signs [] = omega arith
-  signs (form ∷ forms) =
-      omega (arith, sum_by-cons w (m.KeepSign form) (map m.KeepSign forms), blind.sign form, signs forms)
+  signs (form ∷ forms) = omega (arith, sum_by-cons w (m.KeepSign form) (map m.KeepSign forms), signs forms)
 
   -- operations around those of a face's edges
   around : (solid face : ℕ) (head tail : List Macro) → IsThere scene solid face
@@ -149,11 +133,9 @@ module _ (count : EdgesAreCounted) (scene : SceneView) (l : LayoutView) (w : Mac
         sum_by-cons w (load form) clear,
         sum_by-append w (m.All ∷ load (level 0) ∷ clear) (last 0),
         sum_by-append w (m.All ∷ load (level 0) ∷ []) clear,
-        blind.load form (deep_part l l.key_t),
-        blind.constant (number_part l l.key_t) (face_number s face),
+        blind.constant (number_part l l.key_t)
+            (face_number s face),
       )
   weighed (Drop solid face) there = passed solid face _ _ there
   weighed (Front solid face) there = passed solid face _ _ there
-  weighed (Turn other solid face) there = passed solid face _ _ there
-  weighed (Close other plain) there = omega (arith, blind.keep l.par (not plain))
-  weighed step there = omega arith
+  weighed x there = grind (arith, passed)

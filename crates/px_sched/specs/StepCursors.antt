@@ -4,8 +4,8 @@ use Rattle.px_model.specs.Scenes.{SceneView}
 use Rattle.px_normal.specs.declared.product.Product.{Product}
 use Rattle.px_prune.specs.Kept.{plan_of}
 use Rattle.px_sched.specs.declared.step.Step.{Step}
-use Rattle.px_sched.specs.declared.step.Step.TheVariants.{Start, Open, Candidate, Drop, Clear, Front, Confirm}
-use Rattle.px_sched.specs.declared.step.Step.TheVariants.{Begin, Turn, Close, Merge}
+use Rattle.px_sched.specs.declared.step.Step.TheVariants.{Open}
+use Rattle.px_sched.specs.declared.step.Step.TheVariants.{Begin, Turn, Close}
 use Rattle.px_sched.specs.declared.step_cursor.StepCursor.{StepCursor}
 use Rattle.px_sched.specs.Groups.{IsStage, from_stage}
 use Rattle.px_sched.specs.Passes.{steps_with}

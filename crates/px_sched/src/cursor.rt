@@ -24,8 +24,8 @@ use crate::group::Stage;
 use crate::layout::Layout;
 use px_macro::Macro;
 use px_model::{Scene, laws_of_scenes};
-use px_normal::{Product, laws_of_normal_forms};
-use px_prune::{Plan, laws_of_pruning};
+use px_normal::Product;
+use px_prune::Plan;
 
 /// A place in the passes of a scene (docs/PASSES.md). It takes no memory, and finds the next
 /// operation without those before it.
@@ -66,8 +66,6 @@ impl Cursor {
         ensures stands { Stands scene.now self.new }
     {
         laws_of_scenes(scene);
-        laws_of_normal_forms();
-        laws_of_pruning();
         self.give(scene, plan.products.as_slice(), layout)
     }
 

@@ -79,6 +79,8 @@ impl Step {
     }
 
     /// One of the operations.
+    // A copy of an operation that was just made waits for its parts to be stored.
+    #[inline(always)]
     pub fn operation(self, scene: &Scene, layout: &Layout, at: usize) -> Macro
         requires step { IsStep scene.now self }
         requires bits { layout.now.fraction_bits ≡ scene.now.fraction_bits }
@@ -417,6 +419,7 @@ fn cell_behind(scene: &Scene, solid: u8, face: usize) -> Linear
 }
 
 /// An operation of a step that does something where a face covers and a form is not above the candidate.
+#[inline(always)]
 fn where_passed(
     scene: &Scene,
     solid: u8,

@@ -30,8 +30,8 @@ ghost use Rattle.px_sched.specs.Steps.{IsStep};
 use crate::group::Stage;
 use crate::step::Step;
 use px_model::{Scene, laws_of_scenes};
-use px_normal::{Product, laws_of_normal_forms};
-use px_prune::{Plan, laws_of_pruning};
+use px_normal::Product;
+use px_prune::Plan;
 
 /// A place in the steps of a scene (docs/PASSES.md, "Steps"). It takes no memory, and finds the next
 /// step without those before it.
@@ -74,8 +74,6 @@ impl StepCursor {
         ensures stands { StandsAtStep scene.now self.new }
     {
         laws_of_scenes(scene);
-        laws_of_normal_forms();
-        laws_of_pruning();
         self.give(scene, plan.products.as_slice())
     }
 

@@ -1,23 +1,27 @@
 -- Bytes in pieces, and lines one after another.
-use Rattle.px_num.proofs.Basics.{◌≡◌, ℕ, ◌+◌, ◌-◌, ◌<◌, ◌≤◌, Bool, true, false, ◌||◌, ◌==◌, List, [], ◌∷◌, ◌++◌, length}
-use Rattle.px_num.proofs.Basics.{take, drop, get_or, Result, Ok, Err, IfOk, OnOk, refl, sym, ap, ◌∙◌, append_assoc}
-use Rattle.px_num.proofs.Basics.{append-nil, length-append, arith, inl, inr, subst, if◌then◌else◌, zero, suc}
-use Rattle.px_num.proofs.Basics.{take-append-add, cases_lt, take_all, take_more, take-append-drop}
+use Rattle.px_num.proofs.Basics.{◌≡◌, ◌≢◌, ℕ, ◌+◌, ◌<◌, ◌≤◌, Bool, true, false, ◌==◌, List, [], ◌∷◌, ◌++◌, length, take}
+use Rattle.px_num.proofs.Basics.{refl, sym, ap}
+use Rattle.px_num.proofs.Basics.{Result, Ok, Err, IfOk, OnErr, OnOk}
+use Rattle.px_num.proofs.Basics.{◌∙◌, append_assoc, append-nil, length-append, arith, inl, inr, if◌then◌else◌, fold}
+use Rattle.px_num.proofs.Basics.{fold-append, cases_lt, take_all, drop, get_or, take_more, take-append-drop}
 use Rattle.std.proofs.lemmas.List.{length-take, take-append-le as take_within}
-use Rattle.px_num.proofs.TruthLaws.{lt_true, neither_left, neither_right}
-use Rattle.px_io.specs.Told.{SinkState, TakesAll, TakesFirst, TakesFront}
-use Rattle.px_io.proofs.ToldLaws.{appends_both, takes_both, takes_none, reopens_both}
+use Rattle.px_num.proofs.TruthLaws.{lt_true}
+use Rattle.px_io.specs.Told.{SinkState, TakesAll, TakesFront}
+use Rattle.px_io.proofs.ToldLaws.{takes_both, takes_none}
 use Rattle.px_debug.specs.Answers.{answer}
 use Rattle.px_debug_text.specs.Commands.{line_command}
 use Rattle.px_debug_text.specs.declared.command.Command.{Command}
 use Rattle.px_debug.specs.Moves.{SessionView, going, most_clocks, moved}
 use Rattle.px_debug.specs.declared.session.Going.{Going}
-use Rattle.px_asked.specs.Lines.{ended, left}
+use Rattle.px_asked.proofs.PartLemmas.{not_feed}
+use Rattle.px_asked.specs.Lines.{all_lines, ended, last_of, left, whole_lines}
 use Rattle.px_session.specs.Buffers.{short}
 use Rattle.px_session.specs.Servings.{Answered, Broken}
-use Rattle.px_session.specs.Sessions.{Obeyed, Stand, after, after_line, answer_line, answers, clocks_over, has_quit}
-use Rattle.px_session.specs.Sessions.{is_last, is_quit, line_clocks, stand, until_quit}
-use Rattle.px_session.specs.Turns.{Fed, typed}
+use Rattle.px_session.specs.SessionLaws.{StaysOver}
+use Rattle.px_session.specs.Sessions.{Sitting, Stand, after_line, answer_line, is_quit, line_clocks, no_sitting}
+use Rattle.px_session.specs.Sessions.{sitting}
+use Rattle.px_session.specs.Sessions.{stand, turned}
+use Rattle.px_session.specs.Turns.{Fed, Gave, Went}
 use Rattle.px_debug.specs.declared.session.Going.TheVariants as g
 
 -- the lines of bytes and of more
@@ -36,130 +40,42 @@ left-append line (b ∷ xs) ys =
     ≡ left (if t then left [] xs else left (line ++ b ∷ []) xs) ys)
     [ true ↦ left-append [] xs ys | false ↦ left-append (line ++ b ∷ []) xs ys ]
 
-pub quit-append : (ls ms : List (List ℕ)) → has_quit (ls ++ ms) ≡ has_quit ls || has_quit ms
-quit-append [] ms = refl
-quit-append (l ∷ ls) ms = grind (arith, quit-append ls ms)
+-- lines behind a quit count for nothing
+first : (t : Bool) (a b : Sitting) → t ≡ true → (if t then a else b) ≡ a
+first t a b is = rw is refl
 
-until-append : (ls ms : List (List ℕ)) → until_quit (ls ++ ms) ≡ until_quit ls
-    ++ (if has_quit ls then [] else until_quit ms)
-until-append [] ms = refl
-until-append (l ∷ ls) ms =
-    elim (is_quit l) as (λ t. l ∷ (if t then [] else until_quit (ls ++ ms)) ≡ (l ∷ (if t then [] else until_quit ls))
-    ++ (if t || has_quit ls then [] else until_quit ms))
-    [ true ↦ refl | false ↦ ap (λ ks. l ∷ ks) (until-append ls ms) ]
+stays : (bits : ℕ) (at : Sitting) (ls : List (List ℕ)) → at.quit ≡ true → fold (turned bits) at ls ≡ at
+stays bits at [] quits = refl
+stays bits at (l ∷ ls) quits = ap (λ k. fold (turned bits) k ls) (first at.quit at _ quits) ∙ stays bits at ls quits
 
--- lines none of which is a quit
-pub until_quiet : (ls : List (List ℕ)) → has_quit ls ≡ false → until_quit ls ≡ ls
-until_quiet [] quiet = refl
-until_quiet (l ∷ ls) quiet =
-    grind (arith, neither_left, neither_right, until_quiet ls (neither_right (is_quit l) (has_quit ls) quiet))
+quit_stays : (bits : ℕ) (s : SessionView) (ls ms : List (List ℕ)) → (sitting bits s ls).quit ≡ true
+    → sitting bits s (ls ++ ms) ≡ sitting bits s ls
+quit_stays bits s ls ms quits =
+    fold-append (turned bits) (no_sitting s) ls ms ∙ stays bits (sitting bits s ls) ms quits
 
-pub until_then : (ls ms : List (List ℕ)) → has_quit ls ≡ false → until_quit (ls ++ ms) ≡ ls ++ until_quit ms
-until_then ls ms quiet = until-append ls ms ∙ rw (quiet, until_quiet ls quiet) refl
-
--- the lines behind a quit count for nothing
-pub until_more : (ls ms : List (List ℕ)) → has_quit ls ≡ true → until_quit (ls ++ ms) ≡ until_quit ls
-until_more ls ms quits = until-append ls ms ∙ rw quits (append-nil (until_quit ls))
-
-pub quits_more : (ls ms : List (List ℕ)) → has_quit ls ≡ true → has_quit (ls ++ ms) ≡ true
-quits_more ls ms quits = quit-append ls ms ∙ rw quits refl
-
-pub quits_then : (ls ms : List (List ℕ)) (t : Bool) → has_quit ls ≡ false → has_quit ms ≡ t → has_quit (ls ++ ms) ≡ t
-quits_then ls ms t quiet is = quit-append ls ms ∙ rw quiet is
-
-until_one : (l : List ℕ) → until_quit (l ∷ []) ≡ l ∷ []
-until_one l = elim (is_quit l) as (λ t. l ∷ (if t then [] else []) ≡ l ∷ []) [ true ↦ refl | false ↦ refl ]
-
-pub quit_one : (l : List ℕ) → has_quit (l ∷ []) ≡ is_quit l
-quit_one l = elim (is_quit l) as (λ t. t || false ≡ t) [ true ↦ refl | false ↦ refl ]
-
-pub after-append : (s : SessionView) (ls ms : List (List ℕ)) → after s (ls ++ ms) ≡ after (after s ls) ms
-after-append s [] ms = refl
-after-append s (l ∷ ls) ms = after-append (after_line s l) ls ms
-
-pub answers-append : (bits : ℕ) (s : SessionView) (ls ms : List (List ℕ)) → answers bits s (ls ++ ms)
-    ≡ answers bits s ls ++ answers bits (after s ls) ms
-answers-append bits s [] ms = refl
-answers-append bits s (l ∷ ls) ms = grind (arith, append_assoc, answers-append bits (after_line s l) ls ms)
-
--- all of xs, and then the first n of ys
-first_after : (a b c : SinkState) (xs ys : List ℕ) (n : ℕ)
-    → TakesAll a b xs → TakesFirst n b c ys → TakesFirst (length xs + n) a c (xs ++ ys)
-first_after a b c xs ys n first second = grind (arith, length-append, take-append-add, appends_both, reopens_both)
-
--- lines obeyed one after another
-clocks-append : (s : SessionView) (ls ms : List (List ℕ)) → clocks_over s (ls ++ ms)
-    ≡ clocks_over s ls + clocks_over (after s ls) ms
-clocks-append s [] ms = omega arith
-clocks-append s (l ∷ ls) ms = omega (arith, clocks-append (after_line s l) ls ms)
-
-obeyed_none : (s : Stand) → Obeyed s s []
-obeyed_none s = record { session = refl; work = omega arith }
-
-obeyed_both : (s t u : Stand) (ls ms : List (List ℕ)) → Obeyed s t ls → Obeyed t u ms → Obeyed s u (ls ++ ms)
-obeyed_both s t u ls ms first second = grind (arith, after-append, clocks-append)
-
-pub answered_none : (bits : ℕ) (s : Stand) → Answered false bits s s []
-answered_none bits s = record { state = obeyed_none s; wrote = takes_none s.out }
-
--- first these lines, and then those
-pub answered_both : (bits : ℕ) (s t u : Stand) (ls ms : List (List ℕ))
-    → Answered false bits s t ls → Answered false bits t u ms → Answered false bits s u (ls ++ ms)
-answered_both bits s t u ls ms first second = record {
-  state = obeyed_both s t u ls ms first.state second.state;
-  wrote = rw (answers-append bits s.session ls ms, ← first.state.session)
-      (takes_both s.out t.out u.out (answers bits s.session ls) (answers bits t.session ms) first.wrote second.wrote);
-}
-
-pub answered_until : (bits : ℕ) (s t u : Stand) (ls ms : List (List ℕ)) → Answered false bits s t ls
-    → has_quit ls ≡ false → Answered false bits t u (until_quit ms) → Answered false bits s u (until_quit (ls ++ ms))
-answered_until bits s t u ls ms first quiet second =
-    rw (until_then ls ms quiet) (answered_both bits s t u ls (until_quit ms) first second)
-
--- a write failed in an answer, and not in finishing
-some_line : (n : ℕ) (ls : List (List ℕ)) → (n ≡ 0 → (false ≡ true) × (ls ≡ [])) → 0 < n
-some_line zero ls some = absurd (let two = (some refl).0 in cc)
-some_line (suc n) ls some = omega arith
-
-pub broke_both : (bits : ℕ) (s t u : Stand) (ls ms : List (List ℕ))
-    → Answered false bits s t ls → Broken false bits t u ms → Broken false bits s u (ls ++ ms)
-broke_both bits s t u ls ms first second =
-    let n = second.count in
-    let some : 0 < n = some_line n ms second.some in
-    let last : length ls + n - 1 ≡ length ls + (n - 1) = omega (arith, some) in
-    let t0 : take (length ls + n - 1) (ls ++ ms) ≡ ls ++ take (n - 1) ms = rw last (take-append-add ls ms (n - 1)) in
-    let t1 : take (length ls + n) (ls ++ ms) ≡ ls ++ take n ms = take-append-add ls ms n in
-    let e0 = answers-append bits s.session ls (take (n - 1) ms) in
-    let e1 = answers-append bits s.session ls (take n ms) in
+pub quit_ends : (bits : ℕ) (s : SessionView) (xs ys : List ℕ) → (sitting bits s (whole_lines xs)).quit ≡ true
+    → StaysOver bits s xs ys
+quit_ends bits s xs ys quits =
+    let whole : sitting bits s (whole_lines (xs ++ ys)) ≡ sitting bits s (whole_lines xs) =
+    ap (λ ls. sitting bits s ls) (ended-append [] xs ys)
+    ∙ quit_stays bits s (whole_lines xs) (ended (left [] xs) ys) quits in
     record {
-      count = length ls + n;
-      within = omega (arith, length-append ls ms, second.within);
-      some = λ none. absurd (omega (arith, some, none));
-      state = rw t1 (obeyed_both s t u ls (take n ms) first.state second.state);
-      gained = length (answers bits s.session ls) + second.gained;
-      before = rw (t0, e0, ← first.state.session)
-          (omega (
-            arith,
-            length-append (answers bits s.session ls) (answers bits t.session (take (n - 1) ms)),
-            second.before,
-          ));
-      wrote = rw (t1, e1, ← first.state.session)
-          (first_after s.out t.out u.out (answers bits s.session ls) (answers bits t.session (take n ms)) second.gained
-          first.wrote second.wrote);
+      whole = whole;
+      all = quit_stays bits s (whole_lines (xs ++ ys)) (last_of (left [] (xs ++ ys))) (rw whole quits) ∙ whole
+          ∙ sym (quit_stays bits s (whole_lines xs) (last_of (left [] xs)) quits);
     }
 
-pub broke_more : (bits : ℕ) (s t : Stand) (ls ms : List (List ℕ))
-    → Broken false bits s t ls → Broken false bits s t (ls ++ ms)
-broke_more bits s t ls ms broke = grind (arith, take_within, length-append, some_line)
+-- a session keeps its scene
+either : (t : Bool) (a b : Sitting) → b.session.scene ≡ a.session.scene
+    → (if t then a else b).session.scene ≡ a.session.scene
+either true a b same = refl
+either false a b same = same
 
-pub broke_until : (bits : ℕ) (s t u : Stand) (ls ms : List (List ℕ)) → Answered false bits s t ls → has_quit ls ≡ false
-    → Broken false bits t u (until_quit ms) → Broken false bits s u (until_quit (ls ++ ms))
-broke_until bits s t u ls ms first quiet second =
-    rw (until_then ls ms quiet) (broke_both bits s t u ls (until_quit ms) first second)
-
-pub broke_until_more : (bits : ℕ) (s t : Stand) (ls ms : List (List ℕ))
-    → Broken false bits s t (until_quit ls) → Broken false bits s t (until_quit (ls ++ ms))
-broke_until_more bits s t ls ms broke = grind (arith, until-append, broke_more)
+pub scene_kept : (bits : ℕ) (at : Sitting) (ls : List (List ℕ))
+    → (fold (turned bits) at ls).session.scene ≡ at.session.scene
+unfolding after_line
+scene_kept bits at [] = refl
+scene_kept bits at (l ∷ ls) = scene_kept bits (turned bits at l) ls ∙ either at.quit at _ refl
 
 -- the first bytes of a line say what the line says
 command_short : (l : List ℕ) → line_command (short l) ≡ line_command l
@@ -174,108 +90,85 @@ command_short l = elim (cases_lt (length l) 257) [
 pub same_command : (first l : List ℕ) → first ≡ short l → line_command first ≡ line_command l
 same_command first l kept = ap (λ line. line_command line) kept ∙ command_short l
 
-obeyed_line : (s t : SessionView) (m n : ℕ) (a b : SinkState) (l : List ℕ)
-    → t ≡ record { scene = s.scene; now = moved s.scene s.now (line_command l); lines = s.lines + 1 }
-    → n ≤ m + most_clocks s.scene s.now (line_command l) → Obeyed (stand s m a) (stand t n b) (l ∷ [])
-unfolding after_line line_clocks
-obeyed_line s t m n a b l is few = record { session = is; work = omega (arith, few) }
-
-answer_is : (bits : ℕ) (s t : SessionView) (l : List ℕ)
-    → t ≡ record { scene = s.scene; now = moved s.scene s.now (line_command l); lines = s.lines + 1 }
-    → answer bits t.scene t.now t.lines (line_command l) ≡ answer_line bits s l
-unfolding answer_line
-answer_is bits s t l is = rw is refl
-
-quit_of : (l : List ℕ) → is_quit l ≡ is_last (going (line_command l))
-unfolding is_quit
-quit_of l = refl
-
 -- a line given as a command, whose answer was written or not
-pub given_answered : (bits : ℕ) (s t : SessionView) (m n : ℕ) (a b : SinkState) (k : Command) (l : List ℕ)
-    → k ≡ line_command l
+pub given : {E : Type 0} (r : Result Going E) (bits : ℕ) (from : Stand) (s t : SessionView) (m n : ℕ)
+    (a b : SinkState) (k : Command) (ls : List (List ℕ)) (l : List ℕ) → k ≡ line_command l
+    → Went g.More bits from (stand s m a) ls
     → t ≡ record { scene = s.scene; now = moved s.scene s.now k; lines = s.lines + 1 }
-    → n ≤ m + most_clocks s.scene s.now k → TakesAll a b (answer bits t.scene t.now t.lines k)
-    → Answered false bits (stand s m a) (stand t n b) (until_quit (l ∷ []))
-given_answered bits s t m n a b k l same is few wrote =
-    let led = rw same at is in
-    rw (until_one l) (record {
-      state = obeyed_line s t m n a b l led (rw same at few);
-      wrote = rw (append-nil (answer_line bits s l), ← answer_is bits s t l led) (rw same at wrote);
-    })
-
-pub given_broke : (bits : ℕ) (s t : SessionView) (m n : ℕ) (a b : SinkState) (k : Command) (l : List ℕ)
-    → k ≡ line_command l
-    → t ≡ record { scene = s.scene; now = moved s.scene s.now k; lines = s.lines + 1 }
-    → n ≤ m + most_clocks s.scene s.now k → TakesFront a b (answer bits t.scene t.now t.lines k)
-    → Broken false bits (stand s m a) (stand t n b) (until_quit (l ∷ []))
-given_broke bits s t m n a b k l same is few (count, wrote) =
-    let led = rw same at is in
-    rw (until_one l) (record {
-      count = 1;
-      within = omega arith;
-      some = λ none. absurd (omega (arith, none));
-      state = obeyed_line s t m n a b l led (rw same at few);
-      gained = count;
-      before = omega arith;
-      wrote = rw (append-nil (answer_line bits s l), ← answer_is bits s t l led) (rw same at wrote);
-    })
-
--- what follows from what holds of an answer
-pub on_ok_by : {T E : Type 0} {P Q : Type 0} (r : Result T E) → OnOk r P → (P → Q) → OnOk r Q
-on_ok_by (Ok x) p f = f p
-on_ok_by (Err e) p f = tt
-
-pub going_is : {E : Type 0} (r : Result Going E) (k : Command) (l : List ℕ) → k ≡ line_command l
-    → IfOk r (λ on. on ≡ going k) → IfOk r (λ on. is_last on ≡ has_quit (l ∷ []))
-going_is (Ok on) k l same is = rw (is, same) (sym (quit_one l ∙ quit_of l))
-going_is (Err e) k l same is = tt
-
--- no line after no line
-pub answers_grow : (bits : ℕ) (s : SessionView) (ls : List (List ℕ)) (n : ℕ) → length (answers bits s (take n ls))
-    ≤ length (answers bits s ls)
-answers_grow bits s ls n =
-    let parts : answers bits s ls ≡ answers bits s (take n ls) ++ answers bits (after s (take n ls)) (drop n ls) =
-    ap (λ ks. answers bits s ks) (sym (take-append-drop n ls)) ∙ answers-append bits s (take n ls) (drop n ls) in
-    grind (arith, length-append)
-
--- bytes were fed, none of whose lines is a quit
-pub fed_answered : {bits : ℕ} {line xs : List ℕ} {s t : Stand} {held : List ℕ}
-    → Fed g.More bits (typed line xs) s t held → Answered false bits s t (ended line xs)
-fed_answered fed = rw (until_quiet _ (sym fed.going)) at fed.answered
-
-pub fed_none : (bits : ℕ) (line : List ℕ) (s : Stand) (held : List ℕ) → held ≡ short line
-    → Fed g.More bits (typed line []) s s held
-fed_none bits line s held is = record { answered = answered_none bits s; going = refl; held = λ more. is }
-
--- and then others behind them
-pub fed_both : (on : Going) (bits : ℕ) (line xs ys : List ℕ) (s t u : Stand) (held kept : List ℕ)
-    → Fed g.More bits (typed line xs) s t held
-    → Fed on bits (typed (left line xs) ys) t u kept → Fed on bits (typed line (xs ++ ys)) s u kept
-fed_both on bits line xs ys s t u held kept first second = record {
-  answered = rw (ended-append line xs ys)
-      (answered_until bits s t u (ended line xs) (ended (left line xs) ys) (fed_answered first) (sym first.going)
-      second.answered);
-  going = grind (arith, ended-append, quits_then);
-  held = λ more. second.held more ∙ ap short (sym (left-append line xs ys));
+    → n ≤ m + most_clocks s.scene s.now k → OnOk r (TakesAll a b (answer bits t.scene t.now t.lines k))
+    → IfOk r (λ on. on ≡ going k) → OnErr r (TakesFront a b (answer bits t.scene t.now t.lines k))
+    → Gave r bits from (stand t n b) (ls ++ l ∷ [])
+unfolding after_line answer_line line_clocks is_quit
+given (Ok on) bits from s t m n a b k ls l same went is few wrote goes cut =
+    let more = fold-append (turned bits) (no_sitting from.session) ls (l ∷ []) in
+    record {
+      answered = rw (more, ← went.going, ← went.answered.session) (record {
+        session = rw same at is;
+        work = omega (arith, went.answered.work, rw same at few);
+        wrote = takes_both from.out a b (sitting bits from.session ls).said _ went.answered.wrote
+            (rw (is, same) at wrote);
+      });
+      going = rw (more, ← went.going, goes, same) refl;
+    }
+given (Err e) bits from s t m n a b k ls l same went is few wrote goes cut = record {
+  front = ls;
+  line = l;
+  rest = [];
+  split = refl;
+  before = stand s m a;
+  answered = went.answered;
+  quiet = sym went.going;
+  session = rw same at is;
+  work = rw same at few;
+  wrote = rw (is, same) at cut;
 }
 
+pub broke_more : (bits : ℕ) (s t : Stand) (ls ms : List (List ℕ)) → Broken bits s t ls → Broken bits s t (ls ++ ms)
+broke_more bits s t ls ms broke = grind (arith, append_assoc)
+
+pub broke_bytes : (bits : ℕ) (xs ys : List ℕ) (s t : Stand) → Broken bits s t (whole_lines xs)
+    → Broken bits s t (whole_lines (xs ++ ys))
+broke_bytes bits xs ys s t broke = grind (arith, ended-append, broke_more)
+
+-- no byte
+pub fed_none : (bits : ℕ) (s : Stand) (held : List ℕ) → held ≡ [] → Fed g.More bits [] s s held
+fed_none bits s held is = grind (arith, takes_none)
+
+-- the end of a line, and any other byte
+line_end : (text : List ℕ) (b : ℕ) → b ≡ 10 → whole_lines (text ++ b ∷ []) ≡ whole_lines text ++ left [] text ∷ []
+line_end text b is = rw is (ended-append [] text (10 ∷ []))
+
+pub broke_line : (bits : ℕ) (text : List ℕ) (b : ℕ) (from now : Stand) → b ≡ 10
+    → Broken bits from now (whole_lines text ++ left [] text ∷ []) → Broken bits from now (whole_lines (text ++ b ∷ []))
+broke_line bits text b from now is broke = rw (line_end text b is) broke
+
+pub fed_line : (on : Going) (bits : ℕ) (text : List ℕ) (b : ℕ) (from now : Stand) (held : List ℕ) → b ≡ 10
+    → Went on bits from now (whole_lines text ++ left [] text ∷ []) → held ≡ []
+    → Fed on bits (text ++ b ∷ []) from now held
+fed_line on bits text b from now held is went none =
+    let left : [] ≡ left [] (text ++ b ∷ []) = rw is (sym (left-append [] text (10 ∷ []))) in
+    record { went = rw (line_end text b is) went; held = λ more. none ∙ ap short left }
+
+pub fed_key : (bits : ℕ) (text : List ℕ) (b : ℕ) (from now : Stand) (held kept : List ℕ) → b ≢ 10
+    → Fed g.More bits text from now held → kept ≡ short (left [] text ++ b ∷ [])
+    → Fed g.More bits (text ++ b ∷ []) from now kept
+fed_key bits text b from now held kept other fed is =
+    let key = not_feed b other in
+    let left : left [] text ++ b ∷ [] ≡ left [] (text ++ b ∷ []) = rw (left-append [] text (b ∷ []), key) refl in
+    record {
+      went = rw (ended-append [] text (b ∷ []), key, append-nil (whole_lines text)) fed.went;
+      held = λ more. is ∙ ap short left;
+    }
+
 -- the bytes behind a quit count for nothing
-pub fed_quit : (bits : ℕ) (line xs ys : List ℕ) (s t : Stand) (held : List ℕ) → Fed g.Quit bits (typed line xs) s t held
-    → Fed g.Quit bits (typed line (xs ++ ys)) s t held
-fed_quit bits line xs ys s t held fed = grind (arith, ended-append, until_more, quits_more)
-
--- a write failed in the answer to a line behind bytes that were fed, or before others
-pub broke_fed : (bits : ℕ) (line xs ys : List ℕ) (s t u : Stand) (held : List ℕ)
-    → Fed g.More bits (typed line xs) s t held → Broken false bits t u (until_quit (ended (left line xs) ys))
-    → Broken false bits s u (until_quit (ended line (xs ++ ys)))
-broke_fed bits line xs ys s t u held first broke =
-    rw (ended-append line xs ys)
-    (broke_until bits s t u (ended line xs) (ended (left line xs) ys) (fed_answered first) (sym first.going) broke)
-
-pub broke_before : (bits : ℕ) (line xs ys : List ℕ) (s t : Stand) → Broken false bits s t (until_quit (ended line xs))
-    → Broken false bits s t (until_quit (ended line (xs ++ ys)))
-broke_before bits line xs ys s t broke =
-    rw (ended-append line xs ys) (broke_until_more bits s t (ended line xs) (ended (left line xs) ys) broke)
+pub fed_quit : (bits : ℕ) (xs ys : List ℕ) (s t : Stand) (held kept : List ℕ) → Fed g.Quit bits xs s t held
+    → Fed g.Quit bits (xs ++ ys) s t kept
+fed_quit bits xs ys s t held kept fed =
+    let same = (quit_ends bits s.session xs ys (sym fed.went.going)).whole in
+    record {
+      went = record { answered = rw same fed.went.answered; going = rw same fed.went.going };
+      held = λ more. absurd cc;
+    }
 
 -- one byte more of a line, which a buffer keeps or has no room for
 pub kept_more : (held line : List ℕ) (b : ℕ) → held ≡ short line → length held < 256
@@ -289,26 +182,18 @@ pub kept_full : (held line : List ℕ) (b : ℕ) → held ≡ short line → 256
 kept_full held line b is full =
     is ∙ sym (take_within 256 line (b ∷ []) (omega (arith, length-take 256 line, ap length is)))
 
--- byte after byte
-pub fed_more : (on : Going) (bits : ℕ) (line bytes : List ℕ) (i : ℕ) (s t u : Stand) (held kept : List ℕ)
-    → i < length bytes → Fed g.More bits (typed line (take i bytes)) s t held
-    → Fed on bits (typed (left line (take i bytes)) (get_or bytes i 0 ∷ [])) t u kept
-    → Fed on bits (typed line (take (i + 1) bytes)) s u kept
-fed_more on bits line bytes i s t u held kept less first second =
-    rw (take_more bytes i 0 less) (fed_both on bits line (take i bytes) (get_or bytes i 0 ∷ []) s t u held kept first
-    second)
+-- behind a quit a last piece is no line
+pub fed_all : (bits : ℕ) (text : List ℕ) (s t : Stand) (held : List ℕ) → Fed g.Quit bits text s t held
+    → Answered false s t (sitting bits s.session (all_lines text))
+fed_all bits text s t held fed =
+    rw (quit_stays bits s.session (whole_lines text) (last_of (left [] text)) (sym fed.went.going)) fed.went.answered
 
-pub fed_quit_in : (bits : ℕ) (line bytes : List ℕ) (i : ℕ) (s t : Stand) (held : List ℕ)
-    → Fed g.Quit bits (typed line (take i bytes)) s t held → Fed g.Quit bits (typed line bytes) s t held
-fed_quit_in bits line bytes i s t held fed =
-    subst (λ k. Fed g.Quit bits (typed line k) s t held) (take-append-drop i bytes)
-    (fed_quit bits line (take i bytes) (drop i bytes) s t held fed)
+-- one byte more of some, behind others, and all of them
+pub one_byte_more : (text bytes : List ℕ) (i : ℕ) → i < length bytes
+    → (text ++ take i bytes) ++ get_or bytes i 0 ∷ [] ≡ text ++ take (i + 1) bytes
+one_byte_more text bytes i less =
+    append_assoc text (take i bytes) (get_or bytes i 0 ∷ []) ∙ ap (λ k. text ++ k) (sym (take_more bytes i 0 less))
 
-pub broke_in : (bits : ℕ) (line bytes : List ℕ) (i : ℕ) (s t u : Stand) (held : List ℕ) → i < length bytes
-    → Fed g.More bits (typed line (take i bytes)) s t held
-    → Broken false bits t u (until_quit (ended (left line (take i bytes)) (get_or bytes i 0 ∷ [])))
-    → Broken false bits s u (until_quit (ended line bytes))
-broke_in bits line bytes i s t u held less fed broke =
-    let first = broke_fed bits line (take i bytes) (get_or bytes i 0 ∷ []) s t u held fed broke in
-    subst (λ k. Broken false bits s u (until_quit (ended line k))) (take-append-drop (i + 1) bytes)
-    (broke_before bits line (take (i + 1) bytes) (drop (i + 1) bytes) s u (rw (take_more bytes i 0 less) first))
+pub all_bytes : (text bytes : List ℕ) (i : ℕ) → (text ++ take i bytes) ++ drop i bytes ≡ text ++ bytes
+all_bytes text bytes i = append_assoc text (take i bytes) (drop i bytes)
+    ∙ ap (λ k. text ++ k) (take-append-drop i bytes)

@@ -1,4 +1,2 @@
 pub mod FeedingLemmas
-pub mod ServeLemmas
-pub mod SessionLemmas
 pub mod TurningLemmas

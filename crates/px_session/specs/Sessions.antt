@@ -1,5 +1,6 @@
 -- A session over lines, one after another. Clauses of public calls stand on it.
-use Rattle.std.specs.Prelude.{◌≡◌, ℕ, ◌+◌, ◌≤◌, List, [], ◌∷◌, ◌++◌, Bool, true, false, ◌||◌, if◌then◌else◌}
+use Rattle.std.specs.Prelude.{ℕ, ◌+◌, List, [], ◌++◌, Bool, true, false, if◌then◌else◌}
+use Rattle.std.specs.List.{fold}
 use Rattle.px_io.specs.Told.{SinkState}
 use Rattle.px_model.specs.Scenes.{SceneView}
 use Rattle.px_debug.specs.Answers.{answer}
@@ -29,34 +30,34 @@ is_last g.More = false
 unfoldable pub is_quit : List ℕ → Bool
 is_quit line = is_last (going (line_command line))
 
--- whether one of the lines is a `quit`
-abbrev pub has_quit : List (List ℕ) → Bool
-has_quit [] = false
-has_quit (line ∷ lines) = is_quit line || has_quit lines
-
--- the lines up to the first `quit`, and with it
-abbrev pub until_quit : List (List ℕ) → List (List ℕ)
-until_quit [] = []
-until_quit (line ∷ lines) = line ∷ (if is_quit line then [] else until_quit lines)
-
 -- the most clocks that a line makes
 unfoldable pub line_clocks : SessionView → (line : List ℕ) → ℕ
 line_clocks s line = most_clocks s.scene s.now (line_command line)
 
--- where a session stands after all of the lines
-abbrev pub after : SessionView → List (List ℕ) → SessionView
-after s [] = s
-after s (line ∷ lines) = after (after_line s line) lines
+-- what comes of lines: where the session stands, whether one of them was a `quit`, its answers, and the most clocks
+-- that they make
+pub record Sitting : Type 0 where
+  pub session : SessionView
+  pub quit : Bool
+  pub said : List ℕ
+  pub clocks : ℕ
 
--- its answers to them
-abbrev pub answers : (bits : ℕ) → SessionView → List (List ℕ) → List ℕ
-answers bits s [] = []
-answers bits s (line ∷ lines) = answer_line bits s line ++ answers bits (after_line s line) lines
+-- of no line
+abbrev pub no_sitting : SessionView → Sitting
+no_sitting s = record { session = s; quit = false; said = []; clocks = 0 }
 
--- the most clocks that they make
-abbrev pub clocks_over : SessionView → List (List ℕ) → ℕ
-clocks_over s [] = 0
-clocks_over s (line ∷ lines) = line_clocks s line + clocks_over (after_line s line) lines
+-- of one line more, which behind a `quit` counts for nothing
+abbrev pub turned : (bits : ℕ) → Sitting → (line : List ℕ) → Sitting
+turned bits at line = if at.quit then at else record {
+  session = after_line at.session line;
+  quit = is_quit line;
+  said = at.said ++ answer_line bits at.session line;
+  clocks = at.clocks + line_clocks at.session line;
+}
+
+-- of all of these lines, one after another
+abbrev pub sitting : (bits : ℕ) → SessionView → List (List ℕ) → Sitting
+sitting bits s lines = fold (turned bits) (no_sitting s) lines
 
 -- a session, the work of the array that it is lent, and its output
 pub record Stand : Type 0 where
@@ -66,8 +67,3 @@ pub record Stand : Type 0 where
 
 abbrev pub stand : SessionView → (work : ℕ) → (out : SinkState) → Stand
 stand session work out = record { session = session; work = work; out = out }
-
--- all of the lines were obeyed, and the work grew by at most the clocks that they make
-pub record Obeyed (from now : Stand) (lines : List (List ℕ)) : Type 0 where
-  pub session : now.session ≡ after from.session lines
-  pub work : now.work ≤ from.work + clocks_over from.session lines

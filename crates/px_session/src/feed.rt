@@ -2,11 +2,11 @@
 ghost use Rattle.std.specs.Prelude.{◌≡◌, ◌<◌, ◌≤◌, ◌+◌, ◌-◌, ◌^◌, ◌++◌, ℕ, List, IfOk, OnOk, OnErr, length, false, [], ◌∷◌};
 ghost use Rattle.px_io.specs.Counts.{HasCause};
 ghost use Rattle.px_debug.specs.Moves.{Fits};
-ghost use Rattle.px_asked.specs.Lines.{ended, last_of};
+ghost use Rattle.px_asked.specs.Lines.{all_lines, whole_lines};
 ghost use Rattle.px_session.specs.Buffers.{short};
 ghost use Rattle.px_session.specs.Servings.{Answered, Broken};
-ghost use Rattle.px_session.specs.Sessions.{has_quit, is_last, stand, until_quit};
-ghost use Rattle.px_session.specs.Turns.{Fed, typed};
+ghost use Rattle.px_session.specs.Sessions.{Stand, sitting, stand};
+ghost use Rattle.px_session.specs.Turns.{Fed, Gave, Went};
 
 use arrayvec::ArrayVec;
 use px_asm::Operating;
@@ -17,6 +17,7 @@ use px_io::{Failed, Sink};
 pub(crate) type Line = ArrayVec<u8, 256>;
 
 /// Keeps a byte of a line, as long as there is room.
+#[tactic(auto, using(crate::proofs::FeedingLemmas::kept_full, crate::proofs::FeedingLemmas::kept_more))]
 fn keep(held: &mut Line, byte: u8)
     ensures { (line : List ℕ) → held.old.items ≡ short line →
         held.new.items ≡ short (line ++ byte ∷ []) }
@@ -36,14 +37,9 @@ fn give<A: Operating, O: Sink>(
     requires fits { Fits A.BITS session.old (A.device array.old) (A.slots array.old) }
     requires counted { session.old.lines < 2 ^ 64 - 1 }
     ensures fits { Fits A.BITS session.new (A.device array.new) (A.slots array.new) }
-    ensures ok { (line : List ℕ) → first.now ≡ short line → OnOk result (Answered false A.BITS
-        (stand session.old (A.work array.old) (O.state out.old))
-        (stand session.new (A.work array.new) (O.state out.new)) (until_quit (line ∷ []))) }
-    ensures going { (line : List ℕ) → first.now ≡ short line →
-        IfOk result (λ on. is_last on ≡ has_quit (line ∷ [])) }
-    ensures err { (line : List ℕ) → first.now ≡ short line → OnErr result (Broken false A.BITS
-        (stand session.old (A.work array.old) (O.state out.old))
-        (stand session.new (A.work array.new) (O.state out.new)) (until_quit (line ∷ []))) }
+    ensures given { (from : Stand) (lines : List (List ℕ)) (line : List ℕ) → first.now ≡ short line →
+        Went Going.More A.BITS from (stand session.old (A.work array.old) (O.state out.old)) lines →
+        Gave result A.BITS from (stand session.new (A.work array.new) (O.state out.new)) (lines ++ line ∷ []) }
     ensures count { session.new.lines ≡ session.old.lines + 1 }
     ensures cause { HasCause (O.state out.old).faults (O.state out.new).faults result }
 {
@@ -51,6 +47,7 @@ fn give<A: Operating, O: Sink>(
 }
 
 /// A byte: the end of a line has the line answered, and any other is held.
+#[tactic(auto, using(crate::proofs::FeedingLemmas::broke_line))]
 fn take_byte<A: Operating, O: Sink>(
     session: &mut Session<'_>,
     held: &mut Line,
@@ -61,11 +58,14 @@ fn take_byte<A: Operating, O: Sink>(
     requires fits { Fits A.BITS session.old (A.device array.old) (A.slots array.old) }
     requires counted { session.old.lines < 2 ^ 64 - 1 }
     ensures fits { Fits A.BITS session.new (A.device array.new) (A.slots array.new) }
-    ensures ok { (line : List ℕ) → held.old.items ≡ short line →
-        IfOk result (λ on. Fed on A.BITS (typed line (byte ∷ [])) (stand session.old (A.work array.old) (O.state out.old)) (stand session.new (A.work array.new) (O.state out.new)) held.new.items) }
-    ensures err { (line : List ℕ) → held.old.items ≡ short line → OnErr result (Broken false A.BITS
-        (stand session.old (A.work array.old) (O.state out.old))
-        (stand session.new (A.work array.new) (O.state out.new)) (until_quit (ended line (byte ∷ [])))) }
+    ensures ok { (from : Stand) (text : List ℕ) → Fed Going.More A.BITS text from
+        (stand session.old (A.work array.old) (O.state out.old)) held.old.items →
+        IfOk result (λ on. Fed on A.BITS (text ++ byte ∷ []) from
+        (stand session.new (A.work array.new) (O.state out.new)) held.new.items) }
+    ensures err { (from : Stand) (text : List ℕ) → Fed Going.More A.BITS text from
+        (stand session.old (A.work array.old) (O.state out.old)) held.old.items →
+        OnErr result (Broken A.BITS from
+        (stand session.new (A.work array.new) (O.state out.new)) (whole_lines (text ++ byte ∷ []))) }
     ensures count { session.new.lines ≤ session.old.lines + 1 }
     ensures cause { HasCause (O.state out.old).faults (O.state out.new).faults result }
 {
@@ -80,6 +80,7 @@ fn take_byte<A: Operating, O: Sink>(
 }
 
 /// Has each line answered that the bytes end, up to a `quit`.
+#[tactic(auto, using(crate::proofs::FeedingLemmas::one_byte_more))]
 pub(crate) fn feed<A: Operating, O: Sink>(
     session: &mut Session<'_>,
     held: &mut Line,
@@ -90,11 +91,14 @@ pub(crate) fn feed<A: Operating, O: Sink>(
     requires fits { Fits A.BITS session.old (A.device array.old) (A.slots array.old) }
     requires counted { session.old.lines + length bytes.now < 2 ^ 64 - 1 }
     ensures fits { Fits A.BITS session.new (A.device array.new) (A.slots array.new) }
-    ensures ok { (line : List ℕ) → held.old.items ≡ short line →
-        IfOk result (λ on. Fed on A.BITS (typed line bytes.now) (stand session.old (A.work array.old) (O.state out.old)) (stand session.new (A.work array.new) (O.state out.new)) held.new.items) }
-    ensures err { (line : List ℕ) → held.old.items ≡ short line → OnErr result (Broken false A.BITS
-        (stand session.old (A.work array.old) (O.state out.old))
-        (stand session.new (A.work array.new) (O.state out.new)) (until_quit (ended line bytes.now))) }
+    ensures ok { (from : Stand) (text : List ℕ) → Fed Going.More A.BITS text from
+        (stand session.old (A.work array.old) (O.state out.old)) held.old.items →
+        IfOk result (λ on. Fed on A.BITS (text ++ bytes.now) from
+        (stand session.new (A.work array.new) (O.state out.new)) held.new.items) }
+    ensures err { (from : Stand) (text : List ℕ) → Fed Going.More A.BITS text from
+        (stand session.old (A.work array.old) (O.state out.old)) held.old.items →
+        OnErr result (Broken A.BITS from
+        (stand session.new (A.work array.new) (O.state out.new)) (whole_lines (text ++ bytes.now))) }
     ensures count { session.new.lines ≤ session.old.lines + length bytes.now }
     ensures cause { HasCause (O.state out.old).faults (O.state out.new).faults result }
 {
@@ -117,12 +121,14 @@ pub(crate) fn finish_line<A: Operating, O: Sink>(
     requires fits { Fits A.BITS session.old (A.device array.old) (A.slots array.old) }
     requires counted { session.old.lines < 2 ^ 64 - 1 }
     ensures fits { Fits A.BITS session.new (A.device array.new) (A.slots array.new) }
-    ensures ok { (line : List ℕ) → held.now.items ≡ short line → OnOk result (Answered false A.BITS
-        (stand session.old (A.work array.old) (O.state out.old))
-        (stand session.new (A.work array.new) (O.state out.new)) (until_quit (last_of line))) }
-    ensures err { (line : List ℕ) → held.now.items ≡ short line → OnErr result (Broken false A.BITS
-        (stand session.old (A.work array.old) (O.state out.old))
-        (stand session.new (A.work array.new) (O.state out.new)) (until_quit (last_of line))) }
+    ensures ok { (from : Stand) (text : List ℕ) → Fed Going.More A.BITS text from
+        (stand session.old (A.work array.old) (O.state out.old)) held.now.items →
+        OnOk result (Answered false from (stand session.new (A.work array.new) (O.state out.new))
+        (sitting A.BITS from.session (all_lines text))) }
+    ensures err { (from : Stand) (text : List ℕ) → Fed Going.More A.BITS text from
+        (stand session.old (A.work array.old) (O.state out.old)) held.now.items →
+        OnErr result (Broken A.BITS from
+        (stand session.new (A.work array.new) (O.state out.new)) (all_lines text)) }
     ensures cause { HasCause (O.state out.old).faults (O.state out.new).faults result }
 {
     match held.as_slice() {

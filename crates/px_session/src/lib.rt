@@ -6,4 +6,4 @@ mod law;
 mod serving;
 
 pub use law::laws_of_sessions;
-pub use serving::{Ending, serve};
+pub use serving::{Ending, finish_unasked, serve};

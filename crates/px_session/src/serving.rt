@@ -1,12 +1,13 @@
 //! Reading, and answering what was read before more is asked for.
-ghost use Rattle.std.specs.Prelude.{◌≡◌, ◌⊎◌, ◌<◌, ◌≤◌, ◌+◌, ◌-◌, ◌^◌, IfOk, IfErr, length, true};
-ghost use Rattle.std.specs.Io.KnownBytes.{Keeps};
-ghost use Rattle.px_io.specs.Counts.{Rose};
-ghost use Rattle.px_io.specs.Told.{Tells};
-ghost use Rattle.px_debug.specs.Moves.{Fits};
-ghost use Rattle.px_session.specs.Catching.{Begun, Caught, Stopped, begun};
+ghost use Rattle.std.specs.Prelude.{◌≡◌, ◌≢◌, ◌⊎◌, ◌<◌, ◌≤◌, ◌+◌, ◌-◌, ◌^◌, ◌++◌, ℕ, List, Option, [], IfOk, IfErr, OnOk, length, false};
+ghost use Rattle.std.specs.Io.KnownBytes.{IsAtEnd};
+ghost use Rattle.px_asked.specs.Asks.{Ask};
+ghost use Rattle.px_debug.specs.Moves.{Fits, SessionView};
+ghost use Rattle.px_session.specs.Catching.{Begun, Caught, IsOverBy};
 ghost use Rattle.px_session.specs.Prompts.{moment};
-ghost use Rattle.px_session.specs.Servings.{Serves};
+ghost use Rattle.px_session.specs.Servings.{Answered, HasOutCause, HasServed, Lines, Serves, lines_in, seen};
+ghost use Rattle.px_session.specs.Sessions.{Stand, sitting, stand};
+ghost use Rattle.px_session.specs.Turns.{EndsIn, Fed, ending_at};
 
 use crate::feed::{Line, feed, finish_line};
 use arrayvec::ArrayVec;
@@ -53,47 +54,38 @@ pub fn serve<S: Asks<O>, O: Sink, A: Operating>(
         (moment session.new (A.work array.new) (O.state out.new)
         (S.asks input.new) (S.rest input.new) (S.faults input.new)) }
 {
-    match answer_all(session, array, read, input, more, out) {
-        Ending::Quit => finish(out, Ending::Quit),
-        Ending::End => finish(out, Ending::End),
-        ending => ending,
-    }
-}
-
-/// Finishes the output at the end of a session.
-fn finish<O: Sink>(out: &mut O, ending: Ending) -> Ending
-    ensures bytes { Keeps (O.state out.old).written (O.state out.new).written }
-    ensures ends { (Tells (O.state out.new).finished true × (result ≡ ending) × ((O.state out.new).faults ≡ (O.state out.old).faults))
-        ⊎ (((O.state out.new).finished ≡ (O.state out.old).finished) × (result ≡ Ending.WriteFault)
-        × Rose (O.state out.old).faults (O.state out.new).faults) }
-{
-    match out.finish() {
-        Ok(()) => ending,
+    let mut held = ArrayVec::new();
+    match feed(session, &mut held, array, read, out) {
+        Ok(Going::More) => read_on(session, &mut held, array, input, more, out),
+        Ok(Going::Quit) => finish(out, true),
         Err(_) => Ending::WriteFault,
     }
 }
 
-/// Has the lines answered that the bytes end, and reads on.
-fn answer_all<S: Asks<O>, O: Sink, A: Operating>(
-    session: &mut Session<'_>,
-    array: &mut A,
-    read: &[u8],
-    input: &mut S,
-    more: usize,
-    out: &mut O,
-) -> Ending
-    requires fits { Fits A.BITS session.old (A.device array.old) (A.slots array.old) }
-    requires counted { session.old.lines + length read.now + more < 2 ^ 64 - 1 }
-    ensures fits { Fits A.BITS session.new (A.device array.new) (A.slots array.new) }
-    ensures stopped { Stopped result A.BITS (begun (moment session.old (A.work array.old) (O.state out.old)
-        (S.asks input.old) (S.rest input.old) (S.faults input.old)) read.now more)
-        (moment session.new (A.work array.new) (O.state out.new)
-        (S.asks input.new) (S.rest input.new) (S.faults input.new)) }
+/// Finishes the output of a session that is given no line, since the input is at its end.
+pub fn finish_unasked<O: Sink>(out: &mut O) -> Ending
+    ensures serves { (bits more : ℕ) (session : SessionView) (work : ℕ) (asks : Option (List Ask))
+        (rest : Option (List ℕ)) (faults : ℕ) → IsAtEnd rest → 0 < more →
+        (serves : Serves result bits [] more (moment session work (O.state out.old) asks rest faults)
+        (moment session work (O.state out.new) asks rest faults))
+        × (serves.bytes ≡ []) × (serves.prompts.asks ≡ []) }
+    ensures told { result ≢ Ending.ReadFault }
 {
-    let mut held = ArrayVec::new();
-    match feed(session, &mut held, array, read, out) {
-        Ok(Going::More) => read_on(session, &mut held, array, input, more, out),
-        Ok(Going::Quit) => Ending::Quit,
+    finish(out, false)
+}
+
+/// Finishes the output at the end of a session, which a `quit` ended or the end of the input.
+#[tactic(auto, using(crate::proofs::TurningLemmas::finished_err, crate::proofs::TurningLemmas::finished_ok))]
+fn finish<O: Sink>(out: &mut O, quit: bool) -> Ending
+    ensures served { (bits : ℕ) (from : Stand) (session : SessionView) (work : ℕ) (lines : Lines) →
+        Answered false from (stand session work (O.state out.old)) (sitting bits from.session lines.all) →
+        (sitting bits from.session lines.whole).quit ≡ quit →
+        HasServed result bits from (stand session work (O.state out.new)) lines }
+    ensures cause { HasOutCause result (O.state out.old).faults (O.state out.new).faults }
+    ensures result { (result ≡ ending_at quit) ⊎ (result ≡ Ending.WriteFault) }
+{
+    match out.finish() {
+        Ok(()) => { if quit { Ending::Quit } else { Ending::End } }
         Err(_) => Ending::WriteFault,
     }
 }
@@ -110,10 +102,10 @@ fn read_on<S: Asks<O>, O: Sink, A: Operating>(
     requires fits { Fits A.BITS session.old (A.device array.old) (A.slots array.old) }
     requires counted { session.old.lines + limit < 2 ^ 64 - 1 }
     ensures fits { Fits A.BITS session.new (A.device array.new) (A.slots array.new) }
-    ensures stopped { (b : Begun) → Caught A.BITS b limit
+    ensures serves { (b : Begun) → Caught A.BITS b limit
         (moment session.old (A.work array.old) (O.state out.old)
         (S.asks input.old) (S.rest input.old) (S.faults input.old)) held.old.items →
-        Stopped result A.BITS b (moment session.new (A.work array.new) (O.state out.new)
+        IsOverBy result A.BITS b (moment session.new (A.work array.new) (O.state out.new)
         (S.asks input.new) (S.rest input.new) (S.faults input.new)) }
 {
     let mut piece = [0; 4096];
@@ -128,6 +120,7 @@ fn read_on<S: Asks<O>, O: Sink, A: Operating>(
 }
 
 /// One read, and the answers to the lines that it ends.
+#[tactic(auto, using(crate::proofs::TurningLemmas::read_is))]
 fn turn<S: Asks<O>, O: Sink, A: Operating>(
     session: &mut Session<'_>,
     held: &mut Line,
@@ -150,10 +143,10 @@ fn turn<S: Asks<O>, O: Sink, A: Operating>(
         IfOk result (λ count. Caught A.BITS b (limit - count)
         (moment session.new (A.work array.new) (O.state out.new)
         (S.asks input.new) (S.rest input.new) (S.faults input.new)) held.new.items) }
-    ensures stopped { (b : Begun) → Caught A.BITS b limit
+    ensures serves { (b : Begun) → Caught A.BITS b limit
         (moment session.old (A.work array.old) (O.state out.old)
         (S.asks input.old) (S.rest input.old) (S.faults input.old)) held.old.items →
-        IfErr result (λ ending. Stopped ending A.BITS b
+        IfErr result (λ ending. IsOverBy ending A.BITS b
         (moment session.new (A.work array.new) (O.state out.new)
         (S.asks input.new) (S.rest input.new) (S.faults input.new))) }
 {
@@ -161,21 +154,61 @@ fn turn<S: Asks<O>, O: Sink, A: Operating>(
     let Ok(count) = input.ask(out, &mut piece[..room]) else {
         return Err(Ending::ReadFault);
     };
-    if count == 0 {
+    answer_piece(session, held, array, &piece[..count], limit, out)?;
+    Ok(count)
+}
+
+#[tactic(auto, using(crate::proofs::FeedingLemmas::broke_more, crate::proofs::FeedingLemmas::fed_all, crate::proofs::TurningLemmas::counted, crate::proofs::TurningLemmas::nothing_counts))]
+/// Has the lines answered that a read ends; no byte is the end of the input, and none counts past `limit - 1`.
+fn answer_piece<O: Sink, A: Operating>(
+    session: &mut Session<'_>,
+    held: &mut Line,
+    array: &mut A,
+    bytes: &[u8],
+    limit: usize,
+    out: &mut O,
+) -> Result<(), Ending>
+    requires fits { Fits A.BITS session.old (A.device array.old) (A.slots array.old) }
+    requires some { 0 < limit }
+    requires bound { length bytes.now ≤ limit }
+    requires counted { session.old.lines + limit < 2 ^ 64 - 1 }
+    ensures fits { Fits A.BITS session.new (A.device array.new) (A.slots array.new) }
+    ensures some { OnOk result ((0 < length bytes.now) × (length bytes.now < limit)) }
+    ensures count { OnOk result (session.new.lines ≤ session.old.lines + length bytes.now) }
+    ensures fed { (from : Stand) (text : List ℕ) → Fed Going.More A.BITS text from
+        (stand session.old (A.work array.old) (O.state out.old)) held.old.items →
+        OnOk result (Fed Going.More A.BITS (text ++ bytes.now) from
+        (stand session.new (A.work array.new) (O.state out.new)) held.new.items) }
+    ensures calm { OnOk result ((O.state out.new).faults ≡ (O.state out.old).faults) }
+    ensures ended { IfErr result (λ ending. EndsIn ending limit bytes.now) }
+    ensures served { (from : Stand) (text : List ℕ) → Fed Going.More A.BITS text from
+        (stand session.old (A.work array.old) (O.state out.old)) held.old.items →
+        IfErr result (λ ending. HasServed ending A.BITS from
+        (stand session.new (A.work array.new) (O.state out.new)) (lines_in (text ++ seen limit bytes.now))) }
+    ensures cause { IfErr result (λ ending.
+        HasOutCause ending (O.state out.old).faults (O.state out.new).faults) }
+{
+    if bytes.is_empty() {
         return match finish_line(session, held, array, out) {
-            Ok(()) => Err(Ending::End),
+            Ok(()) => Err(finish(out, false)),
             Err(_) => Err(Ending::WriteFault),
         };
     }
-    match feed(session, held, array, &piece[..count.min(limit - 1)], out) {
+    match feed(
+        session,
+        held,
+        array,
+        &bytes[..bytes.len().min(limit - 1)],
+        out,
+    ) {
         Ok(Going::More) => {
-            if count < limit {
-                Ok(count)
+            if bytes.len() < limit {
+                Ok(())
             } else {
                 Err(Ending::Long)
             }
         }
-        Ok(Going::Quit) => Err(Ending::Quit),
+        Ok(Going::Quit) => Err(finish(out, true)),
         Err(_) => Err(Ending::WriteFault),
     }
 }

@@ -3,6 +3,7 @@ use Rattle.px_num.proofs.Basics.{ℕ, suc, zero, ◌≡◌, ◌<◌, ◌↔◌, 
 use Rattle.px_num.proofs.Basics.{◌++◌, refl, ap, ◌∙◌, arith, inl, inr, list_all, list_any, filter, cases_eq}
 use Rattle.px_num.proofs.TruthLaws.{and_left, and_true, or_false, other_false, same_true}
 use Rattle.px_sets.specs.declared.set.SolidSet.{SolidSet}
+use Rattle.px_sets.specs.SetLaws.{LawsOfSets}
 use Rattle.px_sets.specs.Sets.{has, empty, one, sets_joined, below, solids}
 use Rattle.px_sets.proofs.BitsLaws.{has-joined, has-one, has-empty}
 
@@ -122,3 +123,14 @@ module _ (P : ℕ → Bool) where
   pub any-one : (q : ℕ) → q < 256 → list_any P (solids (one q)) ≡ P q
   unfolding solids
   any-one q lt = any_one P (has (one q)) 256 q lt (λ p. has-one q p lt)
+
+pub solids_laws : LawsOfSets
+solids_laws = record {
+  all_of_none = all-empty;
+  some_of_none = any-empty;
+  all_of_one = all-one;
+  some_of_one = any-one;
+  all_of_joined = all-joined;
+  some_of_joined = any-joined;
+  each = all-each;
+}

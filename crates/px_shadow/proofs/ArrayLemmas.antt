@@ -1,33 +1,22 @@
 -- What the shadow passes leave in an array that stores the picture, and the image of it.
 use Rattle.px_num.proofs.Basics.{◌≡◌, ◌<◌, ◌≤◌, ◌+◌, ◌-◌, ◌*◌, ◌^◌, ◌∙◌, ℕ, List, length, refl, ap, subst, sym, arith}
 use Rattle.px_num.proofs.Basics.{All, All-weaker}
-use Rattle.px_array.specs.Arrays.{Device, pixel_of}
-use Rattle.px_array.specs.Clocks.{all_clocked}
-use Rattle.px_asm.specs.Micros.{all_micros}
+use Rattle.px_shadow.proofs.Words.{all_clocked, all_micros, bit_at, CanCarryOut, Device, GridLaw, IsBelow, IsLawful}
+use Rattle.px_shadow.proofs.Words.{IsLawfulInMore, IsLawfulScene, IsLawfulSolid, layout_of, light_bit, MaskLaw}
+use Rattle.px_shadow.proofs.Words.{MAX_LIGHTS, need_with, number_same, nx-after_clocks, ny-after_clocks, pixel_of}
+use Rattle.px_shadow.proofs.Words.{PixelBits, plan_of, same_image, ShadedGridLaw, ShadedLaw, shadow_passes, ShadowLaw}
+use Rattle.px_shadow.proofs.Words.{ShadowPassesAreLawful, SizeLaw, SolidSet}
 use Rattle.px_asm.specs.Microprograms.{LeaveTheMeanings, bits_of}
-use Rattle.px_num.specs.Bits.{bit_at}
-use Rattle.px_macro.specs.Macros.{IsLawful, IsLawfulInMore, PixelBits}
-use Rattle.px_sets.specs.declared.set.SolidSet.{SolidSet}
-use Rattle.px_model.specs.Scenes.{IsLawfulScene, SceneView, IsLawfulSolid}
-use Rattle.px_sched.specs.Layouts.{layout_of}
-use Rattle.px_control.specs.GridLaw.{GridLaw, SizeLaw}
+use Rattle.px_model.specs.Scenes.{SceneView}
 use Rattle.px_control.specs.PictureLaw.{PictureLaw}
 use Rattle.px_control.specs.Program.{IsAt, array_after, rows_of, total}
-use Rattle.px_frame.proofs.RowLaws.{same_image}
-use Rattle.px_shadow.specs.declared.passes.TheConstants.{MAX_LIGHTS}
-use Rattle.px_shadow.specs.ShadowLaws.{MaskLaw, ShadedGridLaw, ShadedLaw, ShadowLaw, ShadowPassesAreLawful}
 use Rattle.px_shadow.specs.Shaded.{IsShaded, shaded, shadow_program}
-use Rattle.px_shadow.specs.Carrying.{CanCarryOut, carried_out}
+use Rattle.px_shadow.specs.Carrying.{carried_out}
 use Rattle.px_shadow.specs.Passing.{ShadowPassesAreFew}
 use Rattle.px_control.specs.ClockLaw.{ClockBound}
-use Rattle.px_sets.specs.Sets.{IsBelow}
-use Rattle.px_prune.specs.Kept.{plan_of}
 use Rattle.px_sched.specs.PassesFacts.{LayoutsAreLawful}
-use Rattle.px_shadow.specs.ShadowPasses.{light_bit, need_with, shadow_passes}
 use Rattle.px_control.proofs.ArrayLaws.{columns_at, rows_at}
-use Rattle.px_array.proofs.ClockLaws.{nx-after_clocks, ny-after_clocks}
 use Rattle.px_tree.proofs.PlaceLaws.{index_below}
-use Rattle.px_macro.proofs.NumberLaws.{number_same}
 use Rattle.px_normal.specs.declared.product.TheConstants.{MAX_PRODUCTS}
 
 -- the array that stores the picture

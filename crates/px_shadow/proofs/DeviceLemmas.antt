@@ -1,22 +1,17 @@
 -- Operations that are carried out on an array, one after another.
 use Rattle.px_num.proofs.Basics.{nat_tests, common_steps, flat_map-append, drop-cons, drop, get_or, ◌≡◌, ◌<◌, ◌≤◌, ◌+◌}
 use Rattle.px_num.proofs.Basics.{◌-◌, ◌*◌, ◌∙◌, ℕ, List, [], ◌∷◌, ◌++◌, length, All, Option, refl, ap, sym, arith}
-use Rattle.px_num.proofs.Basics.{append_assoc, add-zero, length-append, flat_map, drop_all, All-cons, All-head, All-nil}
-use Rattle.px_num.proofs.Basics.{All-tail}
-use Rattle.std.proofs.lemmas.List.{append-nil}
-use Rattle.px_array.specs.Arrays.{Device, HasGrid, State}
-use Rattle.px_array.specs.Clocks.{after_clocks, all_clocked}
-use Rattle.px_array.proofs.ClockLaws.{all_clocked-append, grid_after_clocks, nx-after_clocks, ny-after_clocks}
-use Rattle.px_array.specs.Slots.{worked}
+use Rattle.px_num.proofs.Basics.{append_assoc, add-zero, length-append, flat_map, drop_all, All-cons, All-head}
+use Rattle.px_num.proofs.Basics.{All-nil, All-tail}
+use Rattle.px_shadow.proofs.Words.{after_clocks, all_clocked, all_clocked-append, all_micros, append-nil, CanCarryOut}
+use Rattle.px_shadow.proofs.Words.{CarriesOut, cycles, Device, grid_after_clocks, HasGrid, IsLawful, IsRestOf}
+use Rattle.px_shadow.proofs.Words.{IsSizedArray, Macro, micro_at, micros, nx-after_clocks, ny-after_clocks, State}
+use Rattle.px_shadow.proofs.Words.{view_by, worked}
 use Rattle.px_num.proofs.ListLaws.{length-tabulate}
 use Rattle.px_tree.specs.Nodes.{IsGrid}
 use Rattle.px_asm.proofs.CycleLaws.{few_cycles}
-use Rattle.px_asm.specs.Micros.{all_micros, cycles, micro_at, micros}
-use Rattle.px_macro.specs.Macros.{IsLawful}
-use Rattle.px_macro.specs.declared.operation.Macro.{Macro}
-use Rattle.px_control.specs.GridLaw.{IsSizedArray}
 use Rattle.px_asm.specs.Operations.{all_made}
-use Rattle.px_shadow.specs.Carrying.{CanCarryOut, CarriesOut, IsRestOf, carried_out, view_by}
+use Rattle.px_shadow.specs.Carrying.{carried_out}
 
 pub carried_none : (d : Device) → carried_out [] d ≡ d
 unfolding carried_out

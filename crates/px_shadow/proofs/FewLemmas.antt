@@ -2,18 +2,12 @@
 use Rattle.px_num.proofs.Basics.{◌≡◌, ◌<◌, ◌≤◌, ◌+◌, ◌*◌, ℕ, true, false, List, [], ◌∷◌, length, filter, refl, ap}
 use Rattle.px_num.proofs.Basics.{arith, length-append, All, flat_map, range_with_len, length-map}
 use Rattle.px_num.proofs.Basics.{length-map-range_with_len, length-range_with_len, All-head, All-tail, All-weaker}
-use Rattle.px_num.proofs.RangeLaws.{range_all}
-use Rattle.px_macro.specs.declared.operation.Macro.{Macro}
-use Rattle.px_sets.specs.declared.set.SolidSet.{SolidSet}
-use Rattle.px_sets.specs.Sets.{IsBelow, below, has, solids}
-use Rattle.px_model.specs.Scenes.{SceneView, IsLawfulSolid, SolidView}
-use Rattle.px_model.specs.Cells.{depths_of, end_of}
-use Rattle.px_face.specs.Faces.{face_count}
-use Rattle.px_sched.specs.Layouts.{LayoutView}
-use Rattle.px_sched.specs.Passes.{no_solid, solid_of}
+use Rattle.px_shadow.proofs.Words.{background_passes, below, depths_of, end_of, face_count, has, IsBelow}
+use Rattle.px_shadow.proofs.Words.{IsLawfulSolid, LayoutView, light_bit, light_passes, Macro, no_solid, passes_from}
+use Rattle.px_shadow.proofs.Words.{range_all, solid_of, solid_passes, SolidSet, SolidView, stored_turn}
+use Rattle.px_sets.specs.Sets.{solids}
+use Rattle.px_model.specs.Scenes.{SceneView}
 use Rattle.px_sched.proofs.FewLaws.{few_filtered}
-use Rattle.px_shadow.specs.ShadowPasses.{background_passes, light_bit, light_passes, passes_from, solid_passes}
-use Rattle.px_shadow.specs.ShadowPasses.{stored_turn}
 use Rattle.px_shadow.proofs.FitLemmas.{Ranges}
 use Rattle.px_shadow.proofs.StepLemmas.{all_known}
 use Rattle.px_macro.specs.declared.operation.Macro.TheVariants as m

@@ -1,23 +1,14 @@
 -- The shadow passes are lawful in as many memory bits as they need, and few.
 use Rattle.px_num.proofs.Basics.{◌<◌, ◌≤◌, ◌+◌, ◌^◌, ℕ, false, true, List, [], ◌∷◌, ◌++◌, length, map, arith, All}
 use Rattle.px_num.proofs.Basics.{flat_map, range_with_len, All-append, All-cons, All-head, All-map, All-nil, All-tail}
-use Rattle.px_num.proofs.RangeLaws.{range_all}
-use Rattle.px_macro.specs.declared.operation.Macro.{Macro}
-use Rattle.px_macro.specs.Macros.{IsField, IsLawful}
-use Rattle.px_sets.specs.declared.set.SolidSet.{SolidSet}
-use Rattle.px_sets.specs.SetLaws.{LawsOfSets}
-use Rattle.px_sets.specs.Sets.{IsBelow, solids}
-use Rattle.px_model.specs.Scenes.{IsLawfulScene, SceneView, IsLawfulSolid, SolidView}
-use Rattle.px_model.specs.Cells.{depths_of, end_of}
-use Rattle.px_model.proofs.CellLaws.{end_is_within}
+use Rattle.px_shadow.proofs.Words.{background_passes, deep_part, depths_of, edges, end_is_within, end_of, face_count}
+use Rattle.px_shadow.proofs.Words.{face_plane, IsBelow, IsField, IsLawful, IsLawfulScene, IsLawfulSolid, IsLayout}
+use Rattle.px_shadow.proofs.Words.{keep_covered, LawsOfSets, layout_with, LayoutView, light_bit, light_passes, Macro}
+use Rattle.px_shadow.proofs.Words.{need_of, no_solid, number_part, passes_from, range_all, solid_of, solid_passes}
+use Rattle.px_shadow.proofs.Words.{solids, SolidSet, SolidView, stored_turn}
+use Rattle.px_model.specs.Scenes.{SceneView}
 use Rattle.px_model.proofs.PlaneLaws.{plane_range}
 use Rattle.px_face.specs.EdgeLaws.{EdgesAreCounted, EdgesAreInRange, PlanesAreInRange}
-use Rattle.px_face.specs.Edges.{edges}
-use Rattle.px_face.specs.Faces.{face_count, face_plane}
-use Rattle.px_sched.specs.Layouts.{IsLayout, LayoutView, deep_part, layout_with, need_of, number_part}
-use Rattle.px_sched.specs.Passes.{keep_covered, no_solid, solid_of}
-use Rattle.px_shadow.specs.ShadowPasses.{background_passes, light_bit, light_passes, passes_from, solid_passes}
-use Rattle.px_shadow.specs.ShadowPasses.{stored_turn}
 use Rattle.px_shadow.proofs.StepLemmas.{all_known}
 use Rattle.px_sched.proofs.LawfulLaws.{all_flat}
 use Rattle.px_macro.specs.declared.operation.Macro.TheVariants as m

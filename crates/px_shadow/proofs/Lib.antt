@@ -11,3 +11,4 @@ pub mod SightLemmas
 pub mod SolidLemmas
 pub mod StepLemmas
 pub mod TurnLemmas
+pub mod Words

@@ -3,20 +3,12 @@ use Rattle.px_num.proofs.Basics.{◌≡◌, ◌≢◌, ◌<◌, ◌≤◌, ◌+�
 use Rattle.px_num.proofs.Basics.{◌∷◌, ◌++◌, length, map, slice_set, if◌then◌else◌, refl, ap, sym, arith}
 use Rattle.px_num.proofs.Basics.{get_or-set_same, length-set, zero, suc, beq, flat_map, list_all, range_with_len}
 use Rattle.px_num.proofs.Basics.{nat_tests, list_all-append}
+use Rattle.px_shadow.proofs.Words.{after_macros, and_both, and_true, background_passes, bit_at, deep_part, depths_of}
+use Rattle.px_shadow.proofs.Words.{end_of, is_inside_at, LayoutView, light_at, light_bit, light_passes}
+use Rattle.px_shadow.proofs.Words.{number_from_bits, number_in, number_part, passes_from, PixelBits, range_more}
+use Rattle.px_shadow.proofs.Words.{solid_of, solid_passes, solids, SolidSet}
 use Rattle.px_num.proofs.BitLaws.{pow_above}
-use Rattle.px_macro.specs.Fields.{number_in, number_from_bits}
-use Rattle.px_num.specs.Bits.{bit_at}
-use Rattle.px_num.proofs.RangeLaws.{range_more}
-use Rattle.px_num.proofs.TruthLaws.{and_both, and_true}
-use Rattle.px_macro.specs.Macros.{PixelBits, after_macros}
-use Rattle.px_sets.specs.declared.set.SolidSet.{SolidSet}
-use Rattle.px_sets.specs.Sets.{solids}
 use Rattle.px_model.specs.Scenes.{SceneView}
-use Rattle.px_model.specs.Cells.{depths_of, end_of, is_inside_at}
-use Rattle.px_sched.specs.Layouts.{LayoutView, deep_part, number_part}
-use Rattle.px_sched.specs.Passes.{solid_of}
-use Rattle.px_shadow.specs.Lights.{light_at}
-use Rattle.px_shadow.specs.ShadowPasses.{background_passes, light_bit, light_passes, passes_from, solid_passes}
 use Rattle.px_shadow.proofs.TurnLemmas.{Below, pixel}
 use Rattle.px_shadow.proofs.SolidLemmas.{GoesOut, Keeps, keeps_all, keeps_bit, keeps_both, keeps_if, number_kept}
 use Rattle.px_shadow.proofs.SolidLemmas.{out_bit, solid_goes_out}

@@ -1,22 +1,15 @@
 -- The first bad line, and the lights of the lines before it.
-use Rattle.px_num.proofs.Basics.{nat_tests, common_steps, ◌≡◌, ◌<◌, ◌≤◌, ◌+◌, ◌∙◌, ℕ, Bool, true, false, ◌&&◌, List, []}
-use Rattle.px_num.proofs.Basics.{◌∷◌, ◌++◌, All, Some, None, length, map, take, get_or, nat_lt, cond, refl, ap, sym}
-use Rattle.px_num.proofs.Basics.{arith, if◌then◌else◌, length-take-le, filter_map, fold, list_all, get_or-map, take_all}
-use Rattle.px_num.proofs.Basics.{take_more, filter_map-append, Ok, Err, OnOk, Result, codes, not, bytes_eq}
+use Rattle.px_num.proofs.Basics.{nat_tests, common_steps, ◌≡◌, ◌<◌, ◌≤◌, ◌+◌, ◌∙◌, ℕ, Bool, true, false, ◌&&◌, List}
+use Rattle.px_num.proofs.Basics.{[], ◌∷◌, ◌++◌, All, Some, None, length, map, take, get_or, nat_lt, cond, refl, ap}
+use Rattle.px_num.proofs.Basics.{sym, arith, if◌then◌else◌, length-take-le, filter_map, fold, list_all, get_or-map}
+use Rattle.px_num.proofs.Basics.{take_all, take_more, filter_map-append, Ok, Err, OnOk, Result, codes, not, bytes_eq}
+use Rattle.px_shadow.proofs.Words.{all_good, and_left, and_right, AreGood, AreRead, as_light, empty, first_is}
+use Rattle.px_shadow.proofs.Words.{good_next, is_name, is_solid_name, IsBelow, LawsOfSets, light_fault_behind}
+use Rattle.px_shadow.proofs.Words.{light_in, light_of, LightFault, lights_fault, lights_of, line_fault, lt_holds}
+use Rattle.px_shadow.proofs.Words.{lt_true, named, one, set_of, sets_joined, solid_named, solids, SolidSet, SolidView}
+use Rattle.px_shadow.proofs.Words.{Words, words_of}
 use Rattle.std.specs.List.{cons_option}
-use Rattle.px_text.specs.Text.{Words, words_of, is_name}
-use Rattle.px_sets.specs.declared.set.SolidSet.{SolidSet}
-use Rattle.px_sets.specs.SetLaws.{LawsOfSets}
-use Rattle.px_sets.specs.Sets.{IsBelow, empty, sets_joined, one, solids}
-use Rattle.px_model.specs.Scenes.{SolidView}
-use Rattle.px_prune.specs.Kept.{set_of}
-use Rattle.px_shadow.specs.declared.light.LightFault.{LightFault}
-use Rattle.px_num.proofs.TruthLaws.{and_left, and_right, lt_holds, lt_true}
 use Rattle.px_show.specs.declared.fault.Cause.TheVariants.{BadName, Unexpected, UnknownName}
-use Rattle.px_show.proofs.JudgedLaws.{AreGood, all_good, first_is, good_next}
-use Rattle.px_shadow.specs.LightLines.{as_light, light_fault_behind, lights_fault, is_solid_name, light_in, light_of}
-use Rattle.px_shadow.specs.LightLines.{lights_of, line_fault, named, solid_named}
-use Rattle.px_shadow.specs.Saying.{AreRead}
 
 -- one line more
 pub lights_more : (ss : List SolidView) (lines : List Words) (k : ℕ) → k < length lines →

@@ -1,14 +1,8 @@
 -- What a word more says of a line.
 use Rattle.px_num.proofs.Basics.{arith, ◌≡◌, ◌∙◌, ℕ, Bool, true, ◌&&◌, List, [], ◌∷◌, ◌++◌, Option, Some, None, refl}
 use Rattle.px_num.proofs.Basics.{ap, filter_map, fold, list_all, filter_map-append, list_all-append, fold-append}
-use Rattle.px_num.proofs.TruthLaws.{and_true}
-use Rattle.px_text.specs.Text.{Words, is_name}
-use Rattle.px_sets.specs.declared.set.SolidSet.{SolidSet}
-use Rattle.px_sets.specs.Sets.{sets_joined, one}
-use Rattle.px_model.specs.Scenes.{SolidView}
-use Rattle.px_prune.specs.Kept.{set_of}
-use Rattle.px_shadow.specs.LightLines.{is_solid_name, solid_named}
-use Rattle.px_shadow.specs.Saying.{are_some, said_behind, said_of, with_solid}
+use Rattle.px_shadow.proofs.Words.{and_true, are_some, is_name, is_solid_name, one, said_behind, said_of, set_of}
+use Rattle.px_shadow.proofs.Words.{sets_joined, solid_named, SolidSet, SolidView, with_solid, Words}
 use Rattle.px_shadow.specs.declared.light.Said.TheVariants as s
 
 some_more : (ws : Words) (w : List ℕ) → are_some (ws ++ w ∷ []) ≡ true

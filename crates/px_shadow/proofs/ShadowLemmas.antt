@@ -1,40 +1,29 @@
 -- What is found of the shadows of a text that was read is found of the input, and what stops it.
 use Rattle.px_num.proofs.Basics.{ℕ, ◌≡◌, ◌<◌, ◌≤◌, inl, inr, List, length, take, drop, unwrap_or, None, Some, Result}
 use Rattle.px_num.proofs.Basics.{Ok, Err, refl, ap, sym, subst, ◌∙◌, arith, length-take, cases_lt, take_all, Consumes}
-use Rattle.px_io.specs.Told.{SinkState, ConsumesAtMost, IsFrontOf}
+use Rattle.px_shadow.proofs.Words.{ArrayView, bytes_of, ConsumesAtMost, done, IsFrontOf, LayoutView, LeavesShadows}
+use Rattle.px_shadow.proofs.Words.{light_refusal, light_refused, LightFault, lights_fault, lights_in, lights_refusal}
+use Rattle.px_shadow.proofs.Words.{line_behind, lit_by_lines, lit_drawable, mask_image, MaskLaw, of_known, Outcome}
+use Rattle.px_shadow.proofs.Words.{parts_lit, performs_over, PerformsShadow, read_meets, read_writes, refusal, refused}
+use Rattle.px_shadow.proofs.Words.{Shades, ShadesBy, SinkState, SolidSet, State, stop_draws, stop_serves, stored_masks}
+use Rattle.px_shadow.proofs.Words.{StoresTheLights, text_refusal, too_long, unless_refused, worded}
 use Rattle.px_io.specs.declared.reading.ReadError.{ReadError}
-use Rattle.px_io.specs.declared.reading.ReadError.TheVariants as read
-use Rattle.px_array.specs.Arrays.{State}
-use Rattle.px_array.specs.Slots.{ArrayView}
 use Rattle.px_scene.specs.Scenes.{SceneView}
-use Rattle.px_scene.specs.Text.{worded}
 use Rattle.px_scene.specs.Reading.{scene_of}
-use Rattle.px_sets.specs.declared.set.SolidSet.{SolidSet}
 use Rattle.px_asked.specs.Parts.{behind_part, part_end, scene_part}
-use Rattle.px_sched.specs.Layouts.{LayoutView}
-use Rattle.px_shadow.specs.Lights.{mask_image}
-use Rattle.px_shadow.specs.ShadowLaws.{MaskLaw}
-use Rattle.px_shadow.specs.Stored.{StoresTheLights, stored_masks}
 use Rattle.px_outcome.specs.declared.refusal.Refusal.{Refusal}
-use Rattle.px_outcome.specs.declared.refusal.Refusal.TheVariants as r
 use Rattle.px_outcome.specs.declared.stop.Stop.{Stop}
-use Rattle.px_outcome.specs.declared.stop.Stop.TheVariants as s
 use Rattle.px_outcome.specs.declared.stop.SceneStop.{SceneStop}
-use Rattle.px_outcome.specs.declared.stop.SceneStop.TheVariants as halted
 use Rattle.px_outcome.specs.Arrays.{Draws}
 use Rattle.px_outcome.specs.Ends.{Ends, IsUntouched}
-use Rattle.px_outcome.specs.Outcomes.{Outcome, done, refusal, refused, unless_refused}
-use Rattle.px_outcome.specs.Refusals.{text_refusal, too_long}
 use Rattle.px_outcome.specs.Results.{Meets, status_in, status_of}
-use Rattle.px_shadow.specs.declared.light.LightFault.{LightFault}
-use Rattle.px_shadow.specs.LightLines.{lights_fault}
-use Rattle.px_shadow.specs.Shadows.{Shades, ShadesBy, light_refusal, light_refused, lights_in, lights_refusal}
-use Rattle.px_shadow.specs.Shadows.{line_behind, lit, lit_by_lines, lit_drawable}
-use Rattle.px_shadow.specs.Shadows.{LeavesShadows, PerformsShadow, parts_lit, shadowed}
+use Rattle.px_shadow.specs.Shadows.{lit, shadowed}
 use Rattle.px_outcome.specs.Stops.{DoesWork, read_stop, stopped}
 use Rattle.px_outcome.proofs.LimitLaws.{long_is, short_is}
-use Rattle.px_outcome.proofs.StopLaws.{read_meets, read_writes, stop_draws, stop_serves}
-use Rattle.px_outcome.proofs.RunLaws.{bytes_of, of_known, performs_over}
+use Rattle.px_io.specs.declared.reading.ReadError.TheVariants as read
+use Rattle.px_outcome.specs.declared.refusal.Refusal.TheVariants as r
+use Rattle.px_outcome.specs.declared.stop.Stop.TheVariants as s
+use Rattle.px_outcome.specs.declared.stop.SceneStop.TheVariants as halted
 
 -- a text past its limit, and one within it
 pub long_shadowed : (bytes : List ℕ) (bits : ℕ) → 1048577 ≤ length bytes → shadowed bytes bits ≡ refused too_long

@@ -1,20 +1,12 @@
 -- Where a pixel stores what it shows, the stored key says by which lights it is lit.
-use Rattle.px_num.proofs.Basics.{◌≡◌, ◌+◌, ◌==◌, ◌∙◌, ℕ, Bool, true, ◌&&◌, not, List, Option, Some, None, refl, ap, sym}
-use Rattle.px_num.proofs.Basics.{arith, nat_tests}
-use Rattle.px_num.proofs.TruthLaws.{and_false, and_true}
-use Rattle.px_macro.specs.Fields.{number_in}
-use Rattle.px_macro.specs.FieldLaws.{NumberOfParts}
-use Rattle.px_sets.specs.declared.set.SolidSet.{SolidSet}
-use Rattle.px_sets.specs.Sets.{solids}
+use Rattle.px_num.proofs.Basics.{◌≡◌, ◌+◌, ◌==◌, ◌∙◌, ℕ, Bool, true, ◌&&◌, not, List, Option, Some, None, refl, ap}
+use Rattle.px_num.proofs.Basics.{sym, arith, nat_tests}
+use Rattle.px_shadow.proofs.Words.{and_false, and_true, deep_part, depths_of, end_is_small, end_of, first_cell, is_lit}
+use Rattle.px_shadow.proofs.Words.{is_lit_at, layout_of, light_at, light_bit, number_in, number_part, NumberOfParts}
+use Rattle.px_shadow.proofs.Words.{picture, ShadowLaw, sight_at, solids, SolidSet, value_of}
 use Rattle.px_model.specs.Scenes.{SceneView}
-use Rattle.px_model.specs.Cells.{depths_of, end_of, first_cell, picture, sight_at, value_of}
-use Rattle.px_model.proofs.CellLaws.{end_is_small}
 use Rattle.px_face.specs.Surfaces.{PicturesShowBackground, ShowsBackground}
-use Rattle.px_sched.specs.Layouts.{deep_part, layout_of, number_part}
 use Rattle.px_sched.specs.PassesLaw.{HasSight}
-use Rattle.px_shadow.specs.Lights.{is_lit, is_lit_at, light_at}
-use Rattle.px_shadow.specs.ShadowLaws.{ShadowLaw}
-use Rattle.px_shadow.specs.ShadowPasses.{light_bit}
 use Rattle.px_shadow.proofs.TurnLemmas.{Below}
 use Rattle.px_shadow.proofs.LightLemmas.{IsReady, are_lit, lit, outside}
 

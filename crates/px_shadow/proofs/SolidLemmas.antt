@@ -2,17 +2,9 @@
 use Rattle.px_num.proofs.Basics.{◌≡◌, ◌≢◌, ◌<◌, ◌≤◌, ◌+◌, ◌^◌, ◌∙◌, ℕ, Bool, true, false, ◌&&◌, not, List, [], ◌∷◌}
 use Rattle.px_num.proofs.Basics.{length, slice_set, if◌then◌else◌, refl, ap, sym, arith, get_or-set_same}
 use Rattle.px_num.proofs.Basics.{get_or-set_other, length-set, beq, flat_map, range_with_len}
-use Rattle.px_macro.specs.declared.field.Field.{Field}
-use Rattle.px_macro.specs.Fields.{number_in}
-use Rattle.px_num.specs.Bits.{bit_at}
-use Rattle.px_num.proofs.TruthLaws.{and_false, and_true}
-use Rattle.px_macro.specs.Macros.{PixelBits, after_macros}
-use Rattle.px_macro.proofs.NumberLaws.{number_same}
-use Rattle.px_model.specs.Scenes.{SolidView}
-use Rattle.px_model.specs.Cells.{is_inside_at}
-use Rattle.px_face.specs.Faces.{face_count}
-use Rattle.px_sched.specs.Layouts.{LayoutView, deep_part}
-use Rattle.px_shadow.specs.ShadowPasses.{light_bit, solid_passes, stored_turn}
+use Rattle.px_shadow.proofs.Words.{after_macros, and_false, and_true, bit_at, deep_part, face_count, Field}
+use Rattle.px_shadow.proofs.Words.{is_inside_at, LayoutView, light_bit, number_in, number_same, PixelBits}
+use Rattle.px_shadow.proofs.Words.{solid_passes, SolidView, stored_turn}
 use Rattle.px_shadow.proofs.TurnLemmas.{Below, all_turned, pixel}
 use Rattle.px_macro.specs.declared.operation.Macro.TheVariants as m
 

@@ -3,18 +3,12 @@ use Rattle.px_num.proofs.Basics.{nat_tests, common_steps, ◌≡◌, ◌<◌, �
 use Rattle.px_num.proofs.Basics.{length, map, ap, arith, ◌≤◌, append_assoc, length-set, set, sym, take, map-append}
 use Rattle.px_num.proofs.Basics.{take_all, take_more, flat_map, range_with_len, get_or-range_with_len, get_or, All}
 use Rattle.px_num.proofs.Basics.{nat_lt, true, All-weaker, drop-cons}
+use Rattle.px_shadow.proofs.Words.{IsBelow, LawsOfSets, LayoutView, light_passes, Linear, lt_holds, lt_true, Macro}
+use Rattle.px_shadow.proofs.Words.{number_part, passes_from, solid_passes, solids, SolidSet, SolidView}
 use Rattle.std.proofs.lemmas.List.Concat.{flat_map_single}
 use Rattle.std.proofs.lemmas.List.Sums.{AllPass-from_list_all}
-use Rattle.px_sets.specs.declared.set.SolidSet.{SolidSet}
-use Rattle.px_sets.specs.SetLaws.{LawsOfSets}
-use Rattle.px_sets.specs.Sets.{IsBelow, solids}
 use Rattle.std.proofs.Math.Seq.{take-suc-set}
-use Rattle.px_model.specs.Scenes.{SceneView, SolidView}
-use Rattle.px_shadow.specs.ShadowPasses.{light_passes, passes_from, solid_passes}
-use Rattle.px_num.specs.declared.linear.Linear.{Linear}
-use Rattle.px_num.proofs.TruthLaws.{lt_holds, lt_true}
-use Rattle.px_macro.specs.declared.operation.Macro.{Macro}
-use Rattle.px_sched.specs.Layouts.{LayoutView, number_part}
+use Rattle.px_model.specs.Scenes.{SceneView}
 use Rattle.px_macro.specs.declared.operation.Macro.TheVariants as m
 
 -- the test of a bit of the stored face number

@@ -2,22 +2,12 @@
 use Rattle.px_num.proofs.Basics.{◌≡◌, ◌<◌, ◌≤◌, ◌+◌, ◌^◌, ◌∙◌, ℕ, Bool, true, false, ◌&&◌, not, nat_le, List, [], ◌∷◌}
 use Rattle.px_num.proofs.Basics.{length, map, slice_set, if◌then◌else◌, refl, ap, sym, arith, get_or-set_same, zero}
 use Rattle.px_num.proofs.Basics.{suc, is_negative, flat_map, fold, range_with_len}
-use Rattle.std.proofs.lemmas.List.{set-set}
-use Rattle.px_num.specs.declared.linear.Linear.{Linear}
-use Rattle.px_num.specs.Bits.{modulo}
+use Rattle.px_shadow.proofs.Words.{after_macros, and_both, and_true, covers, deep_part, face_count, face_plane}
+use Rattle.px_shadow.proofs.Words.{hold_at, is_inside_at, LayoutView, Linear, MeaningsJoin, modulo, number_in}
+use Rattle.px_shadow.proofs.Words.{NumberBesideIsKept, PixelBits, set-set, SolidView, stored_turn, turned_from_false}
 use Rattle.px_num.specs.Forms.{value_at}
-use Rattle.px_num.proofs.TruthLaws.{and_both, and_true, turned_from_false}
-use Rattle.px_macro.specs.FieldLaws.{NumberBesideIsKept}
-use Rattle.px_macro.specs.Fields.{number_in}
-use Rattle.px_macro.specs.Macros.{MeaningsJoin, PixelBits, after_macros}
-use Rattle.px_model.specs.Scenes.{SolidView}
-use Rattle.px_model.specs.Cells.{is_inside_at}
 use Rattle.px_face.specs.Covering.{CoveringLaw, ValueParityLaw, is_passed_at}
-use Rattle.px_face.specs.Edges.{covers, hold_at}
-use Rattle.px_face.specs.Faces.{face_count, face_plane}
 use Rattle.px_face.proofs.ParityLaws.{turned_is_odd, turned_where}
-use Rattle.px_sched.specs.Layouts.{LayoutView, deep_part}
-use Rattle.px_shadow.specs.ShadowPasses.{stored_turn}
 use Rattle.px_sched.proofs.CoverLaws.{and_same, not_negative, at_most_is, covering_value}
 use Rattle.px_macro.specs.declared.operation.Macro.TheVariants as m
 

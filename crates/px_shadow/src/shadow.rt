@@ -31,7 +31,7 @@ use px_array::Array;
 use px_asked::{laws_of_parts, part_end};
 use px_asm::Operating;
 use px_control::Job;
-use px_deliver::draw;
+use px_deliver::draw_job;
 use px_io::{Failed, Sink, Source};
 use px_outcome::{
     Kind, READ_LIMIT, Refusal, SceneStop, Stop, behind, open_job, read_text, scene_in,
@@ -265,7 +265,7 @@ fn draw_lit<A: Operating>(
     ensures grid { CoversThePicture scene.now (A.device array.new) }
 {
     let _now = job.now();
-    let layout = draw(job, scene, array);
+    let layout = draw_job(job, scene, array);
     shade(scene, &layout, lights, array);
     layout
 }

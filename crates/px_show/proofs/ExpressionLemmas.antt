@@ -1,10 +1,9 @@
 -- What is written is read, and what is read was written.
 use Rattle.px_num.proofs.Basics.{arith, ◌≡◌, List, [], ◌∷◌, ◌++◌, Bool, true, ◌&&◌, Some, fold, refl, ap, sym, ◌∙◌}
 use Rattle.px_num.proofs.Basics.{append_assoc, append-nil, fold-append}
-use Rattle.px_text.proofs.PlainLaws.{both}
-use Rattle.px_show.specs.Expressions.{Token, name, opens, closes, sign, other, Named, leaf, join, written, has_names}
-use Rattle.px_show.specs.Expressions.{Part, side, token, bracket_closed, with_token, parts_of, whole, expression_of}
-use Rattle.px_show.specs.Expressions.{IsExpressionOf}
+use Rattle.px_show.proofs.Words.{both, bracket_closed, closes, expression_of, has_names, IsExpressionOf, Named, opens}
+use Rattle.px_show.proofs.Words.{Part, parts_of, side, sign, token, Token, whole, with_token, written}
+use Rattle.px_show.specs.Expressions.{leaf, join}
 
 -- what is written becomes one side
 pub reads : (tree : Named) (before : List Part) → has_names tree ≡ true
@@ -26,15 +25,10 @@ text (side tree ∷ before) = text before ++ written tree
 text (token t ∷ before) = text before ++ t ∷ []
 
 text_closed : (parts : List Part) → text (bracket_closed parts) ≡ text parts ++ closes ∷ []
-text_closed (side right ∷ token (sign op) ∷ side left ∷ token opens ∷ before) = simp append_assoc
-text_closed parts = refl
+text_closed x = grind (arith, append_assoc)
 
 text_put : (parts : List Part) (t : Token) → text (with_token parts t) ≡ text parts ++ t ∷ []
-text_put parts (name n) = grind arith
-text_put parts opens = refl
-text_put parts closes = text_closed parts
-text_put parts (sign op) = refl
-text_put parts other = refl
+text_put parts x = grind (arith, text_closed)
 
 text_all : (parts : List Part) (ts : List Token) → text (fold with_token parts ts) ≡ text parts ++ ts
 text_all parts [] = sym (append-nil (text parts))
@@ -47,25 +41,17 @@ all_named (side tree ∷ before) = has_names tree && all_named before
 all_named (token t ∷ before) = all_named before
 
 named_closed : (parts : List Part) → all_named (bracket_closed parts) ≡ all_named parts
-named_closed (side right ∷ token (sign op) ∷ side left ∷ token opens ∷ before) = grind arith
-named_closed parts = refl
+named_closed x = grind arith
 
 named_put : (parts : List Part) (t : Token) → all_named (with_token parts t) ≡ all_named parts
-named_put parts (name n) = grind arith
-named_put parts opens = refl
-named_put parts closes = named_closed parts
-named_put parts (sign op) = refl
-named_put parts other = refl
+named_put parts x = grind (arith, named_closed)
 
 named_all : (parts : List Part) (ts : List Token) → all_named (fold with_token parts ts) ≡ all_named parts
 named_all parts [] = refl
 named_all parts (t ∷ ts) = named_all (with_token parts t) ts ∙ named_put parts t
 
 alone : (parts : List Part) (tree : Named) → whole parts ≡ Some tree → parts ≡ side tree ∷ []
-alone [] tree e = cc
-alone (token t ∷ before) tree e = cc
-alone (side one ∷ []) tree e = cc
-alone (side one ∷ part ∷ before) tree e = cc
+alone x tree e = grind arith
 
 -- what is read was written
 pub was_written : (ts : List Token) (tree : Named) → expression_of ts ≡ Some tree → IsExpressionOf ts tree

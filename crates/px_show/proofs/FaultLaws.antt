@@ -1,8 +1,7 @@
 -- A line without a fault: it has no bad form, and passes no limit.
 use Rattle.px_num.proofs.Basics.{◌≡◌, refl, Option, Some, None}
+use Rattle.px_show.proofs.Words.{judged, LineFault}
 use Rattle.px_show.specs.declared.fault.Cause.{Cause}
-use Rattle.px_show.specs.declared.fault.LineFault.{LineFault}
-use Rattle.px_show.specs.Judged.{judged}
 
 pub good_form : {K : Type 0} (cause : Option Cause) (limit : Option (LineFault K)) → judged cause limit ≡ None
     → cause ≡ None

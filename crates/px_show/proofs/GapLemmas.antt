@@ -2,15 +2,11 @@
 use Rattle.px_num.proofs.Basics.{◌≡◌, ℕ, ◌+◌, ◌<◌, ◌≤◌, List, [], ◌∷◌, ◌++◌, length, get_or, take, reverse, replicate}
 use Rattle.px_num.proofs.Basics.{ap, sym, ◌∙◌, arith, append_assoc, length-append, subst, zero, suc, All}
 use Rattle.px_num.proofs.Basics.{length-reverse, get_or-append_seam, take-append_seam, fold-append}
-use Rattle.std.proofs.lemmas.List.{replicate-append-replicate}
-use Rattle.px_expr.specs.declared.node.Op.{Op}
+use Rattle.px_show.proofs.Words.{CanPlace, IsLeafBelow, joined, named_by, node_shape, Op, placed, printed, put}
+use Rattle.px_show.proofs.Words.{replicate-append-replicate, Tree, trees_after, Words}
 use Rattle.px_expr.specs.declared.node.Node.{Node}
 use Rattle.px_expr.specs.declared.node.Shape.{Shape}
-use Rattle.px_expr.specs.Tree.{Tree, leaf, join}
-use Rattle.px_expr.specs.Shapes.{node_shape, joined, put, CanPlace, IsLeafBelow}
-use Rattle.px_expr.specs.Postorder.{placed, trees_after}
-use Rattle.px_text.specs.Text.{Words}
-use Rattle.px_show.specs.Printed.{printed, named_by}
+use Rattle.px_expr.specs.Tree.{leaf, join}
 use Rattle.px_show.specs.Gaps.{spread, split_gap, first_gap, other_gaps, gaps_before, text_of}
 use Rattle.px_show.specs.declared.print.Gap.{Gap}
 use Rattle.px_expr.specs.declared.node.Shape.TheVariants as h
@@ -23,14 +19,10 @@ split_text : (names : Words) (op : Op) (trees : List Tree) (gap : Gap) (gaps : L
     → 2 ≤ length trees
     → spread names trees (split_gap op (gap ∷ gaps)) ++ 41 ∷ back ≡ spread names (joined join op trees)
     (gap ∷ gaps) ++ back
-split_text names op [] gap gaps back two = absurd (omega arith)
-split_text names op (right ∷ []) gap gaps back two = absurd (omega arith)
-split_text names op (right ∷ left ∷ trees) gap gaps back two = rw (one_bracket_more gap.opens) (simp append_assoc)
+split_text names op x gap gaps back two = grind (arith, one_bracket_more, append_assoc)
 
 joined_count : (op : Op) (trees : List Tree) → 2 ≤ length trees → length (joined join op trees) + 1 ≡ length trees
-joined_count op [] two = absurd (omega arith)
-joined_count op (right ∷ []) two = absurd (omega arith)
-joined_count op (right ∷ left ∷ trees) two = omega arith
+joined_count op x two = grind arith
 
 -- what is kept when an operator is printed
 record IsSplit (names : Words) (op : Op) (trees : List Tree) (gaps : List Gap) (back : List ℕ) : Type 0 where
@@ -39,34 +31,28 @@ record IsSplit (names : Words) (op : Op) (trees : List Tree) (gaps : List Gap) (
 
 split : (names : Words) (op : Op) (trees : List Tree) (gaps : List Gap) (back : List ℕ) → 2 ≤ length trees
     → length gaps ≡ length (joined join op trees) → IsSplit names op trees gaps back
-split names op trees [] back two count = absurd (omega (arith, joined_count op trees two))
-split names op trees (gap ∷ gaps) back two count =
-    record { text = split_text names op trees gap gaps back two; count = omega (arith, joined_count op trees two) }
+split names op trees x back two count = grind (arith, joined_count, split_text)
 
 leaf_text : (names : Words) (place : ℕ) (trees : List Tree) (gaps : List Gap) (back : List ℕ)
     → length gaps ≡ length trees + 1
     → spread names trees (other_gaps gaps) ++ ((first_gap gaps ++ get_or names place []) ++ back)
     ≡ spread names (leaf place ∷ trees) gaps ++ back
-leaf_text names place trees [] back count = absurd (omega arith)
-leaf_text names place trees (gap ∷ gaps) back count = simp append_assoc
+leaf_text names place trees x back count = grind (arith, append_assoc)
 
 leaf_count : (trees : List Tree) (gaps : List Gap) → length gaps ≡ length trees + 1
     → length (other_gaps gaps) ≡ length trees
-leaf_count trees [] count = absurd (omega arith)
-leaf_count trees (gap ∷ gaps) count = omega arith
+leaf_count trees x count = grind arith
 
 same_text : (names : Words) (shape : Shape) (trees : List Tree) (gaps : List Gap) (back : List ℕ)
     → length gaps ≡ length (put leaf join trees shape) → CanPlace (length trees) shape
     → spread names trees (gaps_before shape gaps) ++ (text_of names shape gaps ++ back)
     ≡ spread names (put leaf join trees shape) gaps ++ back
-same_text names (h.Leaf place) trees gaps back count can = leaf_text names place trees gaps back (omega arith)
-same_text names (h.Join op left right) trees gaps back count can = (split names op trees gaps back can.0 count).text
+same_text names x trees gaps back count can = grind (arith, leaf_text, split)
 
 same_count : (names : Words) (shape : Shape) (trees : List Tree) (gaps : List Gap)
     → length gaps ≡ length (put leaf join trees shape) → CanPlace (length trees) shape
     → length (gaps_before shape gaps) ≡ length trees
-same_count names (h.Leaf place) trees gaps count can = leaf_count trees gaps (omega arith)
-same_count names (h.Join op left right) trees gaps count can = (split names op trees gaps [] can.0 count).count
+same_count names x trees gaps count can = grind (arith, leaf_count, split)
 
 abbrev AreFew : ℕ → List Gap → Type 0
 AreFew left gaps = All (λ g. g.opens + left ≤ 1023) gaps
@@ -128,8 +114,7 @@ some_join : (op : Op) (trees : List Tree) → 2 ≤ length trees → 0 < length 
 some_join op trees two = omega (arith, joined_count op trees two)
 
 some_wait : (shape : Shape) (trees : List Tree) → CanPlace (length trees) shape → 0 < length (put leaf join trees shape)
-some_wait (h.Leaf place) trees can = omega arith
-some_wait (h.Join op left right) trees can = some_join op trees can.0
+some_wait x trees can = grind (arith, some_join)
 
 -- a gap is left for each node
 pub some_gap : (rest before : List Node) (node : Node) (gaps : List Gap)

@@ -1,11 +1,9 @@
 -- Lines that are judged one after another, until one is bad.
-use Rattle.px_num.proofs.Basics.{nat_tests, common_steps, ◌≡◌, ◌≢◌, ℕ, ◌+◌, ◌<◌, ◌≤◌, List, [], ◌∷◌, ◌++◌, length, take}
-use Rattle.px_num.proofs.Basics.{drop, get_or, Option, Some, None, Bool, true, false, refl, ap, ◌∙◌, arith, length-take}
-use Rattle.px_num.proofs.Basics.{take_more, drop_more, drop_all}
+use Rattle.px_num.proofs.Basics.{nat_tests, common_steps, ◌≡◌, ◌≢◌, ℕ, ◌+◌, ◌<◌, ◌≤◌, List, [], ◌∷◌, ◌++◌, length}
+use Rattle.px_num.proofs.Basics.{take, drop, get_or, Option, Some, None, Bool, true, false, refl, ap, ◌∙◌, arith}
+use Rattle.px_num.proofs.Basics.{length-take, take_more, drop_more, drop_all}
+use Rattle.px_show.proofs.Words.{at_line, first_bad, LineFault, refused, Words}
 use Rattle.px_num.specs.Want.{want}
-use Rattle.px_show.specs.Judged.{at_line, first_bad, refused}
-use Rattle.px_show.specs.declared.fault.LineFault.{LineFault}
-use Rattle.px_text.specs.Text.{Words}
 use Rattle.px_show.specs.declared.fault.LineFault.TheVariants as f
 use Rattle.px_show.specs.declared.fault.TextFault.TheVariants as text
 
@@ -41,8 +39,7 @@ all_good judge lines i so past = so ∙ ap (first_bad judge (take i lines)) (dro
 -- where none is bad, neither this one is nor a later one
 pub none_here : {F : Type 0} (n : ℕ) (fault : Option F) (later : Option (ℕ × F)) → at_line n fault later ≡ None
     → (fault ≡ None) × (later ≡ None)
-none_here n None later e = (refl, e)
-none_here n (Some fault) later e = cc
+none_here n x later e = grind arith
 
 -- where a text is not refused, no line is bad and its end has come
 pub not_refused : {K : Type 0} (bad : Option (ℕ × LineFault K)) (ended : Bool) (count : ℕ)

@@ -8,3 +8,4 @@ pub mod SignLaws
 pub mod StackLemmas
 pub mod StepLemmas
 pub mod TokenLemmas
+pub mod Words

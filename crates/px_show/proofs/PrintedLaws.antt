@@ -1,19 +1,15 @@
 -- A printed expression is read as it.
-use Rattle.px_num.proofs.Basics.{◌≡◌, ◌≢◌, ℕ, ◌+◌, ◌<◌, ◌≤◌, ◌==◌, List, [], ◌∷◌, ◌++◌, length, get_or, filter, Some}
-use Rattle.px_num.proofs.Basics.{None, Bool, true, false, not, nat_le, ◌&&◌, ◌||◌, if◌then◌else◌, refl, ap, sym, ◌∙◌}
-use Rattle.px_num.proofs.Basics.{arith, append_assoc, append-nil, zero, suc, AllPass, AllPairs, flat_map, slice_split}
+use Rattle.px_num.proofs.Basics.{◌≡◌, ◌≢◌, ℕ, ◌+◌, ◌<◌, ◌==◌, List, [], ◌∷◌, ◌++◌, length, get_or, filter, Some, None}
+use Rattle.px_num.proofs.Basics.{Bool, true, false, not, nat_le, ◌&&◌, ◌||◌, if◌then◌else◌, refl, ap, sym, ◌∙◌, arith}
+use Rattle.px_num.proofs.Basics.{append_assoc, append-nil, zero, suc, AllPass, AllPairs, flat_map, slice_split}
 use Rattle.px_num.proofs.Basics.{before_first, list_all, bytes_eq, bytes_eq-Decides, nat_tests, list_all-append}
-use Rattle.px_expr.specs.declared.node.Op.{Op}
-use Rattle.px_expr.specs.Tree.{Tree, leaf_count, HasLeavesBelow, IsLawfulTree}
-use Rattle.px_text.specs.Text.{Words, is_blank, is_some_byte, words_of, is_name, is_name_byte}
-use Rattle.px_show.specs.Expressions.{Token, name, closes, sign, mark, tokens_in, tokens_of, Named, leaf, join, written}
-use Rattle.px_show.specs.Expressions.{has_names, has_signs, whole, expression_of, is_among, place_of, over_places}
-use Rattle.px_show.specs.Expressions.{are_known, count_past, show_tree, show_fault}
+use Rattle.px_show.proofs.Words.{are_known, AreDistinctNames, before_none, both, closes, expression_of, has_names}
+use Rattle.px_show.proofs.Words.{has_signs, HasLeavesBelow, is_among, is_blank, is_name, is_name_byte, is_no_comment}
+use Rattle.px_show.proofs.Words.{is_some_byte, IsLawfulTree, leaf_count, name, name_bytes, Named, named_by, Op}
+use Rattle.px_show.proofs.Words.{over_places, place_of, plain_byte, printed, show_fault, show_tree, sign, Token}
+use Rattle.px_show.proofs.Words.{tokens_in, tokens_of, Tree, Version, whole, Words, words_of, written}
+use Rattle.px_show.specs.Expressions.{leaf, join}
 use Rattle.px_show.specs.Versions.{has_differ, sign_byte, is_sign, is_differ, has_difference}
-use Rattle.px_show.specs.declared.scene_version.Version.{Version}
-use Rattle.px_show.specs.declared.fault.LimitKind.{LimitKind}
-use Rattle.px_show.specs.Printed.{AreDistinctNames, printed, named_by}
-use Rattle.px_text.proofs.PlainLaws.{both, name_bytes, is_no_comment, before_none, plain_byte}
 use Rattle.px_show.proofs.SignLaws.{sign_marked, sign_no_name, sign_plain}
 use Rattle.px_show.proofs.TokenLemmas.{apart}
 use Rattle.px_show.proofs.ExpressionLemmas.{reads}
@@ -31,11 +27,6 @@ plain_name b e = record { no_blank = grind (arith, nat_tests); no_comment = grin
 
 abbrev tokens_across : Version → List ℕ → List Token
 tokens_across version bs = flat_map (tokens_in version) (slice_split is_blank bs)
-
--- a byte that stands in no name, and is no blank
-across_mark : (version : Version) (b : ℕ) (bs : List ℕ) → is_blank b ≡ false → is_name_byte b ≡ false
-    → tokens_across version (b ∷ bs) ≡ mark version b ∷ tokens_across version bs
-across_mark version b bs blank none = grind arith
 
 -- what stands behind a name
 abbrev Apart : List ℕ → Type 0
@@ -85,7 +76,7 @@ across_name version (b ∷ n) bs e behind =
 
 across_sign : (version : Version) (op : Op) (bs : List ℕ) → is_sign version op ≡ true
     → tokens_across version (sign_byte op ∷ bs) ≡ sign op ∷ tokens_across version bs
-across_sign version op bs is = grind (arith, across_mark, plain_byte, sign_plain, sign_no_name, sign_marked)
+across_sign version op bs is = grind (arith, plain_byte, sign_plain, sign_no_name, sign_marked)
 
 across_printed : (version : Version) (tree : Named) (bs : List ℕ) → has_names tree ≡ true
     → has_signs version tree ≡ true → Apart bs
@@ -97,7 +88,7 @@ across_printed version (join op left right) bs names signs behind =
     in let before = both (is_sign version op) (has_signs version left) allowed.0
     in let behind_right : tokens_across version ((printed right ++ 41 ∷ []) ++ bs) ≡ (written right ++ closes ∷ [])
     ++ tokens_across version bs =
-    grind (arith, append_assoc, across_mark, across_printed version right (41 ∷ bs) each.1 allowed.1 refl)
+    grind (arith, append_assoc, across_printed version right (41 ∷ bs) each.1 allowed.1 refl)
     in let behind_left : tokens_across version (sign_byte op ∷ 32 ∷ ((printed right ++ 41 ∷ []) ++ bs))
     ≡ sign op ∷ ((written right ++ closes ∷ []) ++ tokens_across version bs) =
     across_sign version op (32 ∷ ((printed right ++ 41 ∷ []) ++ bs)) before.0 ∙ ap (λ ts. sign op ∷ ts) behind_right
@@ -184,14 +175,11 @@ pub printed_tree : (version : Version) (names : Words) (tree : Tree) → AreDist
     → show_tree version names (words_of (printed (named_by names tree))) ≡ Some tree
 printed_tree version names tree are below signs = grind (arith, printed_read, names_lawful, placed_back)
 
-not_past : (limit : LimitKind) (most found : ℕ) → found ≤ most → count_past limit most found ≡ None
-not_past limit most found le = grind (arith, nat_tests)
-
 pub printed_good : (version : Version) (names : Words) (tree : Tree) → AreDistinctNames names
     → HasLeavesBelow (length names) tree → has_signs version (named_by names tree) ≡ true → IsLawfulTree tree
     → show_fault version names (words_of (printed (named_by names tree))) ≡ None
 printed_good version names tree are below signs within =
-    grind (arith, placed_back, same_leaves, same_nesting, printed_read, names_lawful, all_known, not_past)
+    grind (arith, placed_back, same_leaves, same_nesting, printed_read, names_lawful, all_known, nat_tests)
 
 -- a version has the signs of a tree, where it has `^` or the tree has none
 sign_of_op : (version : Version) (op : Op) → has_differ version || not (is_differ op) ≡ true → is_sign version op ≡ true

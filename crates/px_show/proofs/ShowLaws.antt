@@ -1,17 +1,12 @@
 -- A line of an expression with no fault has a lawful one, over the solids that stand before it.
 use Rattle.px_num.proofs.Basics.{◌≡◌, ℕ, ◌+◌, ◌<◌, ◌≤◌, List, [], ◌∷◌, length, true, Option, Some, None, IsSomeAnd}
 use Rattle.px_num.proofs.Basics.{refl, ap, arith, nat_tests}
-use Rattle.px_expr.specs.Tree.{Tree, leaf_count, HasLeavesBelow}
+use Rattle.px_show.proofs.Words.{all_steps, are_known, both, cause_in, counts_past, expression_of, HasLeavesBelow}
+use Rattle.px_show.proofs.Words.{is_among, judged, leaf_count, leaves, limit_in, Named, named_nesting, over_places}
+use Rattle.px_show.proofs.Words.{Part, place_of, show_cause, show_tree, Step, tokens_of, Tree, tree_steps, Version}
+use Rattle.px_show.proofs.Words.{whole, Words}
 use Rattle.px_expr.specs.declared.node.TheConstants.{MAX_LEAVES, MAX_NESTING}
-use Rattle.px_text.specs.Text.{Words}
-use Rattle.px_show.specs.Expressions.{is_among, tokens_of, Named, leaf, join, leaves, named_nesting, expression_of}
-use Rattle.px_show.specs.Expressions.{place_of, over_places, are_known, cause_in, limit_in, counts_past, Part, side}
-use Rattle.px_show.specs.Expressions.{token, whole, show_cause, show_tree}
-use Rattle.px_show.specs.declared.scene_version.Version.{Version}
-use Rattle.px_show.specs.Judged.{judged}
-use Rattle.px_show.specs.Stacks.{all_steps, tree_steps}
-use Rattle.px_show.specs.declared.stack.Step.{Step}
-use Rattle.px_text.proofs.PlainLaws.{both}
+use Rattle.px_show.specs.Expressions.{leaf, join}
 use Rattle.px_expr.specs.Tree as shown
 
 place_below : (names : Words) (name : List ℕ) → is_among names name ≡ true → place_of names name < length names
@@ -32,8 +27,7 @@ record IsKnown (names : Words) (read : Option Named) : Type 0 where
   known : are_known names tree ≡ true
 
 good_cause : (names : Words) (read : Option Named) → cause_in names read ≡ None → IsKnown names read
-good_cause names None e = absurd (cc)
-good_cause names (Some tree) e = grind arith
+good_cause names x e = grind arith
 
 pub shown_lawful : (version : Version) (names ws : Words) → show_cause version names ws ≡ None
     → IsSomeAnd (show_tree version names ws) (HasLeavesBelow (length names))
@@ -64,7 +58,4 @@ within l n e = (grind (arith, nat_tests), grind (arith, nat_tests))
 pub small_steps : (names : Words) (read : List Part) (steps : List Step) → steps ≡ all_steps names read
     → judged (cause_in names (whole read)) (limit_in (whole read)) ≡ None
     → (tree : Tree) × (steps ≡ tree_steps tree) × (leaf_count tree ≤ MAX_LEAVES) × (shown.nesting tree ≤ MAX_NESTING)
-small_steps names (side tree ∷ []) steps order e = grind (arith, within, same_leaves, same_nesting)
-small_steps names [] steps order e = absurd (cc)
-small_steps names (side tree ∷ part ∷ before) steps order e = absurd (cc)
-small_steps names (token t ∷ before) steps order e = absurd (cc)
+small_steps names x steps order e = grind (arith, within, same_leaves, same_nesting)

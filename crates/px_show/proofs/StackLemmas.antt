@@ -1,24 +1,18 @@
 -- What the parts and the steps of a stack say of its expression.
 use Rattle.px_num.proofs.Basics.{◌≡◌, ℕ, ◌+◌, ◌-◌, ◌<◌, ◌≤◌, ◌^◌, min, max, List, [], ◌∷◌, ◌++◌, length, take, drop}
 use Rattle.px_num.proofs.Basics.{map, reverse, Bool, true, false, ◌&&◌, ◌||◌, not, if◌then◌else◌, Option, Some, None}
-use Rattle.px_num.proofs.Basics.{unwrap_or, Result, Ok, Err, OnOk, refl, ap, sym, ◌∙◌, arith, append_assoc}
-use Rattle.px_num.proofs.Basics.{length-append, nat_le, list_any, count_by, reverse-append, length-reverse}
-use Rattle.px_num.proofs.Basics.{take-append-drop, list_any-append, sum_by-append, count_by-le-length}
-use Rattle.std.proofs.lemmas.List.{length-drop}
+use Rattle.px_num.proofs.Basics.{unwrap_or, Result, OnOk, refl, ap, sym, ◌∙◌, arith, append_assoc, length-append}
+use Rattle.px_num.proofs.Basics.{nat_le, list_any, count_by, reverse-append, length-reverse, take-append-drop}
+use Rattle.px_num.proofs.Basics.{list_any-append, sum_by-append, count_by-le-length}
+use Rattle.px_show.proofs.Words.{all_steps, are_known, AreKept, bracket_closed, bracketed, cause_in, closing}
+use Rattle.px_show.proofs.Words.{counts_past, is_among, is_leaf, is_unknown, judged, leaves, length-drop, limit_in}
+use Rattle.px_show.proofs.Words.{LineFault, Named, named_nesting, nesting_of, Op, opens, other, over_places, Part}
+use Rattle.px_show.proofs.Words.{place_of, side, sign, stack_part, Step, token, tree_steps, whole, Words}
 use Rattle.std.proofs.Math.Seq.{drop-append_seam}
 use Rattle.px_num.proofs.TruthLaws.{or_false}
-use Rattle.px_expr.specs.declared.node.Op.{Op}
-use Rattle.px_text.specs.Text.{Words}
-use Rattle.px_show.specs.Expressions.{is_among, opens, sign, other, Named, leaf, join, leaves, named_nesting, Part}
-use Rattle.px_show.specs.Expressions.{side, token, bracket_closed, whole, place_of, over_places, are_known, cause_in}
-use Rattle.px_show.specs.Expressions.{limit_in, counts_past}
-use Rattle.px_show.specs.Judged.{judged}
-use Rattle.px_show.specs.Stacks.{stack_part, bracketed, closing, nesting_of, tree_steps, all_steps, is_leaf, is_unknown}
-use Rattle.px_show.specs.Stacks.{AreKept}
+use Rattle.px_show.specs.Expressions.{leaf, join}
 use Rattle.px_show.specs.declared.fault.LimitKind.{LimitKind}
-use Rattle.px_show.specs.declared.fault.LineFault.{LineFault}
 use Rattle.px_show.specs.declared.stack.Part.{Part as Kind}
-use Rattle.px_show.specs.declared.stack.Step.{Step}
 use Rattle.px_show.specs.declared.fault.Cause.TheVariants as cause
 use Rattle.px_show.specs.declared.fault.LineFault.TheVariants as fault
 use Rattle.px_show.specs.declared.stack.Part.TheVariants as p
@@ -68,10 +62,7 @@ record IsClosing (read : List Part) (op : Op) (n : ℕ) : Type 0 where
 
 bracket_shape : (a b c d : Part) (before : List Part) (op : Op) (n : ℕ) → Some (op, n) ≡ bracketed (stack_part a)
     (stack_part b) (stack_part c) (stack_part d) → IsClosing (d ∷ c ∷ b ∷ a ∷ before) op n
-bracket_shape (token opens) (side left) (token (sign o)) (side right) before op n e = grind (arith, unwrap_or)
-bracket_shape (token opens) (side left) (token (sign o)) (token other) before op n e = absurd (cc)
-bracket_shape (token opens) (token other) c d before op n e = absurd (cc)
-bracket_shape a b c d before op n e = absurd (cc)
+bracket_shape x y z u before op n e = grind (arith, unwrap_or)
 
 closing_shape : (read : List Part) (op : Op) (n : ℕ) → Some (op, n) ≡ closing (map stack_part read)
     → IsClosing read op n
@@ -81,15 +72,6 @@ closing_shape (d ∷ []) op n e = absurd (cc)
 closing_shape (d ∷ c ∷ []) op n e = absurd (cc)
 closing_shape (d ∷ c ∷ b ∷ []) op n e = absurd (cc)
 
-closed_stack : (names : Words) (parts new_parts : List Kind) (steps new_steps : List Step) (op : Op) (n : ℕ)
-    (left right : Named) (before : List Part)
-    → AreKept names parts steps (side right ∷ token (sign op) ∷ side left ∷ token opens ∷ before)
-    → n ≡ min (max (named_nesting left) (named_nesting right) + 1) (2 ^ 64 - 1) → 4 ≤ length parts
-    → length steps < 2 ^ 63 → new_parts ≡ take (length parts - 4) parts ++ p.Side n ∷ []
-    → new_steps ≡ steps ++ s.Join op ∷ [] → AreKept names new_parts new_steps (side (join op left right) ∷ before)
-closed_stack names parts new_parts steps new_steps op n left right before is same four few put more =
-    grind (arith, length-append, nesting_below, reverse-append, reverse_take, append_assoc)
-
 -- a bracket that closes two sides
 pub closes_sides : (names : Words) (parts new_parts : List Kind) (steps new_steps : List Step) (read : List Part)
     (op : Op) (n : ℕ) → AreKept names parts steps read → Some (op, n) ≡ closing (reverse parts) → 4 ≤ length parts
@@ -98,8 +80,7 @@ pub closes_sides : (names : Words) (parts new_parts : List Kind) (steps new_step
 closes_sides names parts new_parts steps new_steps read op n is e four few put more =
     let found = closing_shape read op n (rw is.kinds at e)
     in rw found.shape
-    (closed_stack names parts new_parts steps new_steps op n found.left found.right found.before
-    (rw found.shape at is) found.is four few put more)
+    (grind (arith, length-append, nesting_below, reverse-append, reverse_take, append_assoc))
 
 -- the one side that is read, with no other part
 record IsWhole (names : Words) (parts : List Kind) (steps : List Step) (read : List Part) (n : ℕ) : Type 0 where
@@ -147,5 +128,4 @@ few_counted names parts steps read n e is =
     in rw found.order (rw found.nested at (nesting_below names found.tree))
 
 pub both_ok : {T E : Type 0} {P Q R : Type 0} (r : Result T E) → OnOk r P → OnOk r Q → (P → Q → R) → OnOk r R
-both_ok (Ok x) p q f = f p q
-both_ok (Err e) p q f = tt
+both_ok x p q f = grind arith

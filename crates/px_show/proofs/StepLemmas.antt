@@ -1,12 +1,9 @@
 -- The steps of a tree build it.
-use Rattle.px_num.proofs.Basics.{zero, suc, ◌≡◌, ℕ, ◌<◌, ◌≤◌, List, [], ◌∷◌, ◌++◌, length, take, get_or, fold, refl, ap}
-use Rattle.px_num.proofs.Basics.{◌∙◌, arith, ◌+◌, drop, max, sym, take_all, take-append-drop, fold-append, fold_more}
-use Rattle.px_expr.specs.declared.node.Op.{Op}
-use Rattle.px_expr.specs.Tree.{Tree, leaf, join, leaf_count, nesting}
-use Rattle.px_expr.specs.Shapes.{joined}
+use Rattle.px_num.proofs.Basics.{zero, suc, ◌≡◌, ℕ, ◌<◌, ◌≤◌, List, [], ◌∷◌, ◌++◌, length, take, get_or, fold, refl}
+use Rattle.px_num.proofs.Basics.{ap, ◌∙◌, arith, ◌+◌, drop, max, sym, take-append-drop, fold-append, fold_more}
+use Rattle.px_show.proofs.Words.{joined, leaf_count, nesting, Op, Step, Tree, tree_steps, trees_built}
+use Rattle.px_expr.specs.Tree.{leaf, join}
 use Rattle.px_expr.specs.Waiting.{newest, all_leaves}
-use Rattle.px_show.specs.Stacks.{tree_steps, trees_built}
-use Rattle.px_show.specs.declared.stack.Step.{Step}
 use Rattle.px_show.specs.declared.stack.Step.TheVariants as s
 
 pub build_tree : (trees : List Tree) (tree : Tree) → fold trees_built trees (tree_steps tree) ≡ tree ∷ trees
@@ -49,11 +46,6 @@ pub can_join : (tree : Tree) (steps : List Step) (waiting : List Tree) (i : ℕ)
     → waiting ≡ fold trees_built [] (take i steps) → get_or steps i step ≡ s.Join op → 2 ≤ length waiting
 can_join tree steps waiting i step op is lt now here = rw now (rw here at (can_take tree steps i step is lt))
 
--- behind the last step the tree waits alone
-pub all_built : (tree : Tree) (steps : List Step) (waiting : List Tree) (i : ℕ) → steps ≡ tree_steps tree
-    → length steps ≤ i → waiting ≡ fold trees_built [] (take i steps) → waiting ≡ tree ∷ []
-all_built tree steps waiting i is past now = grind (arith, take_all, build_tree)
-
 -- what no step makes less is at most what it is of the whole tree
 never_falls : (measure : List Tree → ℕ)
     → ((trees : List Tree) (step : Step) → measure trees ≤ measure (trees_built trees step))
@@ -77,10 +69,7 @@ at_most measure each tree steps waiting i step is lt now =
     in omega (arith, never_falls measure each after (drop (i + 1) steps), ap measure here, ap measure last)
 
 leaves_grow : (trees : List Tree) (step : Step) → all_leaves trees ≤ all_leaves (trees_built trees step)
-leaves_grow trees (s.Leaf place) = omega arith
-leaves_grow [] (s.Join op) = omega arith
-leaves_grow (tree ∷ []) (s.Join op) = omega arith
-leaves_grow (right ∷ left ∷ others) (s.Join op) = omega arith
+leaves_grow x y = grind arith
 
 -- the nesting of the deepest tree that waits
 abbrev deepest : List Tree → ℕ
@@ -88,14 +77,10 @@ deepest [] = 0
 deepest (tree ∷ others) = max (nesting tree) (deepest others)
 
 deepens : (trees : List Tree) (step : Step) → deepest trees ≤ deepest (trees_built trees step)
-deepens trees (s.Leaf place) = omega arith
-deepens [] (s.Join op) = omega arith
-deepens (tree ∷ []) (s.Join op) = omega arith
-deepens (right ∷ left ∷ others) (s.Join op) = omega arith
+deepens x y = grind arith
 
 newest_most : (trees : List Tree) → nesting (newest trees) ≤ deepest trees
-newest_most [] = omega arith
-newest_most (tree ∷ others) = omega arith
+newest_most x = grind arith
 
 -- a tree within the limits leaves room for each of its leaves, and for each join
 pub room_for_leaf : (tree : Tree) (steps : List Step) (waiting : List Tree) (i : ℕ) (step : Step) (place : ℕ)

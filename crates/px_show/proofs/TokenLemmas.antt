@@ -1,11 +1,9 @@
 -- The first token of a word.
 use Rattle.px_num.proofs.Basics.{◌≡◌, ℕ, ◌+◌, ◌≤◌, List, [], ◌∷◌, length, get_or, take, drop, Bool, true, false, cond}
 use Rattle.px_num.proofs.Basics.{refl, ◌∙◌, arith}
+use Rattle.px_show.proofs.Words.{is_name_byte, mark, name, Token, tokens_in, Version, with_name_byte}
 use Rattle.std.proofs.Math.Numerals.{one-add}
 use Rattle.std.specs.List.{prefix_len}
-use Rattle.px_text.specs.Text.{is_name_byte}
-use Rattle.px_show.specs.declared.scene_version.Version.{Version}
-use Rattle.px_show.specs.Expressions.{Token, name, mark, with_name_byte, tokens_in}
 
 -- a mark is no part of a name
 pub apart : (version : Version) (b x : ℕ) (ts : List Token) → with_name_byte b (mark version x ∷ ts) ≡ name (b ∷ [])

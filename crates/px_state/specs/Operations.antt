@@ -8,14 +8,13 @@ use Rattle.px_scene.specs.Reading.{scene_of}
 use Rattle.px_model.specs.Scenes.{SceneView}
 use Rattle.px_face.specs.Faces.{face_number}
 use Rattle.px_macro.specs.declared.operation.Macro.{Macro}
-use Rattle.px_macro.specs.declared.operation.Macro.TheVariants as m
 use Rattle.px_sched.specs.declared.step.Step.{Step}
 use Rattle.px_sched.specs.declared.step.Step.TheVariants.{Start, Open, Candidate, Drop, Clear, Front, Confirm}
 use Rattle.px_sched.specs.declared.step.Step.TheVariants.{Begin, Turn, Close, Merge}
 use Rattle.px_sched.specs.Layouts.{layout_of}
 use Rattle.px_sched.specs.Passes.{operations, solid_of, steps}
 use Rattle.px_sched.specs.StepCursors.{literals_in}
-use Rattle.px_listing.specs.Kinds.{operands_of}
+use Rattle.px_listing.specs.Kinds.{operands_of, operation_kind}
 use Rattle.px_listing.specs.Listings.{ListingView}
 use Rattle.px_listing.specs.Reading.{listing_of}
 use Rattle.px_playing.specs.PassesText.{passes_listing}
@@ -40,20 +39,6 @@ no_operation = record {
   face = 0;
   other = 0;
 }
-
--- the kinds of operations in the order of docs/MACHINE.md, "Broadcast operations"
-abbrev pub operation_kind : Macro → ℕ
-operation_kind m.All = 1
-operation_kind (m.KeepSign form) = 2
-operation_kind (m.KeepBit at v) = 3
-operation_kind (m.LoadLinear form f) = 4
-operation_kind (m.KeepAtMost form f) = 5
-operation_kind (m.AddLinear form f) = 6
-operation_kind (m.LoadConst f c) = 7
-operation_kind (m.SetBit at v) = 8
-operation_kind (m.Toggle at) = 9
-operation_kind (m.Copy f g) = 10
-operation_kind (m.KeepLess f g) = 11
 
 -- a number of an operation's line, and 0 behind the last
 abbrev pub operand : Macro → (place : ℕ) → ℤ

@@ -20,9 +20,9 @@ use crate::packing::packed;
 use crate::room::judge_stretch;
 use crate::state::Course;
 use px_asm::{cycles, micro_at};
-use px_control::{cost, law_of_clocks};
+use px_control::cost;
 use px_listing::Listing;
-use px_macro::{Macro, laws_of_operations};
+use px_macro::Macro;
 use px_model::{Scene, laws_of_scenes};
 use px_prune::Plan;
 use px_sched::{Cursor, Layout, laws_of_passes};
@@ -126,8 +126,6 @@ fn put_passes(scene: &Scene, plan: &Plan, layout: &Layout, first: u64, micros: &
 {
     laws_of_scenes(scene);
     laws_of_passes();
-    law_of_clocks();
-    laws_of_operations();
     let (nx, ny) = scene.grid();
     let end = first + micros.len() as u64;
     let mut cursor = Cursor::start();

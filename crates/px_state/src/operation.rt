@@ -7,7 +7,6 @@ ghost use Rattle.px_sched.specs.Steps.{IsStep};
 ghost use Rattle.px_face.specs.Faces.{face_count, face_number};
 ghost use Rattle.px_sched.specs.Passes.{solid_of};
 ghost use Rattle.px_state.specs.Operations.{
-  operation_kind,
   no_operation,
   number_of_face,
   other_number,
@@ -18,7 +17,7 @@ ghost use Rattle.px_state.specs.Operations.{
 };
 
 use px_face::number_of;
-use px_listing::operands_of;
+use px_listing::{kind_number, operands_of};
 use px_macro::Macro;
 use px_model::Scene;
 use px_sched::Step;
@@ -121,25 +120,6 @@ fn number_at(numbers: &[i64], place: usize) -> i64
         numbers[place]
     } else {
         0
-    }
-}
-
-/// The number of an operation's kind.
-fn kind_number(m: &Macro) -> u32
-    ensures { result ≡ operation_kind m.now }
-{
-    match m {
-        Macro::All => 1,
-        Macro::KeepSign(_) => 2,
-        Macro::KeepBit(..) => 3,
-        Macro::LoadLinear(..) => 4,
-        Macro::KeepAtMost(..) => 5,
-        Macro::AddLinear(..) => 6,
-        Macro::LoadConst(..) => 7,
-        Macro::SetBit(..) => 8,
-        Macro::Toggle(_) => 9,
-        Macro::Copy(..) => 10,
-        Macro::KeepLess(..) => 11,
     }
 }
 

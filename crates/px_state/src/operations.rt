@@ -28,12 +28,11 @@ use crate::operation::{Operation, no_operation, purpose_of, told};
 use crate::room::judge_operations;
 use crate::state::Course;
 use px_asm::cycles;
-use px_control::{cost, law_of_clocks};
+use px_control::cost;
 use px_listing::Listing;
-use px_macro::laws_of_operations;
 use px_model::{Scene, laws_of_scenes};
 use px_prune::Plan;
-use px_sched::{Layout, Step, StepCursor, laws_of_passes};
+use px_sched::{Layout, Step, StepCursor};
 use std::alloc::Global;
 
 /// Writes the operations of a listing from one on.
@@ -103,8 +102,6 @@ pub(crate) fn operations_of_scene(
     ensures length { length list.new ≡ length list.old }
 {
     laws_of_scenes(scene);
-    laws_of_passes();
-    law_of_clocks();
     let (layout, plan) = drawing_of(alloc, scene, bits)?;
     let (operations, clocks) = cost(scene, &plan, &layout);
     if let Err(fault) = judge_operations(first, list.len(), operations) {
@@ -162,7 +159,6 @@ fn put_step(
     ensures put { IsPutTo (IsPassed scene.now) first result.0 list.new }
     ensures length { length list.new ≡ length list.old }
 {
-    laws_of_operations();
     let (nx, ny) = scene.grid();
     let (operation, start) = begin;
     let count = step.count(scene);

@@ -76,8 +76,8 @@ fn make<O: Sink, A: Operating>(
         (array_view (A.device array.new) (A.slots array.new) (A.work array.new)) }
 {
     match work {
-        Work::Render => draw(alloc, scene, &[Plane::Depth, Plane::Face], out, array),
-        Work::Colour => draw(alloc, scene, &[Plane::Colour], out, array),
+        Work::Render => make_images(alloc, scene, &[Plane::Depth, Plane::Face], out, array),
+        Work::Colour => make_images(alloc, scene, &[Plane::Colour], out, array),
         Work::Tidy => make_tidy(alloc, scene, out),
         Work::Plan => make_plan(alloc, scene, out),
         Work::Cost => make_cost(alloc, scene, A::BITS as u32, out),
@@ -88,7 +88,7 @@ fn make<O: Sink, A: Operating>(
 }
 
 /// Draws a scene on the array, and writes images of it.
-fn draw<O: Sink, A: Operating>(
+fn make_images<O: Sink, A: Operating>(
     alloc: Global,
     scene: &Scene,
     planes: &[Plane],

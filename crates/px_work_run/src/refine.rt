@@ -20,7 +20,7 @@ use px_array::Array;
 use px_asm::Operating;
 use px_command::Fineness;
 use px_control::{Job, law_of_grids};
-use px_deliver::draw;
+use px_deliver::draw_job;
 use px_frame::laws_of_images;
 use px_io::{Failed, Sink};
 use px_outcome::{SceneStop, Stop, open_job};
@@ -109,7 +109,7 @@ fn deliver_refined<A: Operating, O: Sink>(
         (array_view (A.device array.old) (A.slots array.old) (A.work array.old))
         → IsRunOnce (array_view (A.device array.new) (A.slots array.new) (A.work array.new)) }
 {
-    let layout = draw(job, fine, array);
+    let layout = draw_job(job, fine, array);
     write_means(array, &layout, scene, fine, s, out)?;
     out.finish()
 }

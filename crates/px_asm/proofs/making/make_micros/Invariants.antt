@@ -1,7 +1,5 @@
 use Rattle.px_num.proofs.Basics.{◌≡◌, ◌+◌, ◌-◌, between}
-use Rattle.px_array.specs.Clocks.{all_clocked}
-use Rattle.px_array.specs.Slots.{worked}
-use Rattle.px_asm.specs.Making.{micros_on}
+use Rattle.px_asm.proofs.Words.{all_clocked, micros_on, worked}
 use Rattle.px_asm.proofs.making.make_micros.Given as goal
 
 abbrev pub invariant-loop-i : goal.invariant-loop-i

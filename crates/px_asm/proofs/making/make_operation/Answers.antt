@@ -1,6 +1,5 @@
 use Rattle.px_num.proofs.Basics.{◌≡◌, arith}
-use Rattle.px_array.specs.Clocks.{all_clocked}
-use Rattle.px_asm.specs.Making.{micros_on}
+use Rattle.px_asm.proofs.Words.{all_clocked, micros_on}
 use Rattle.px_asm.proofs.MakingLemmas.{all_of_them, count_of_them}
 use Rattle.px_asm.proofs.making.make_operation.Given.{Over}
 use Rattle.px_asm.proofs.making.make_operation.Goals as goal

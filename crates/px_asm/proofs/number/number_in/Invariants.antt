@@ -1,7 +1,5 @@
 use Rattle.px_num.proofs.Basics.{◌≡◌, ◌+◌, ◌^◌, ◌<◌}
-use Rattle.px_num.specs.Bits.{bit_at}
-use Rattle.px_array.specs.Arrays.{pixel_of}
-use Rattle.px_macro.specs.Fields.{number_from_bits}
+use Rattle.px_asm.proofs.Words.{bit_at, number_from_bits, pixel_of}
 use Rattle.px_asm.proofs.number.number_in.Given as goal
 
 abbrev pub invariant-loop-t : goal.invariant-loop-t

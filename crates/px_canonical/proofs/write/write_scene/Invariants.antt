@@ -1,6 +1,5 @@
 use Rattle.px_num.proofs.Basics.{◌≡◌, ◌++◌, take, All, flat_map}
-use Rattle.px_model.specs.Scenes.{IsLawfulSolid}
-use Rattle.px_canonical.specs.Canonical.{first_lines, solid_lines}
+use Rattle.px_canonical.proofs.Words.{first_lines, IsLawfulSolid, solid_lines}
 use Rattle.px_canonical.proofs.write.write_scene.Given as goal
 
 abbrev pub invariant-loop-solid : goal.invariant-loop-solid

@@ -1,10 +1,10 @@
 use Rattle.px_num.proofs.Basics.{arith}
 use Rattle.px_model.proofs.GridLaws.{exponent_is}
-use Rattle.px_control.proofs.ArrayLaws.{columns_at, rows_at}
+use Rattle.px_control.proofs.GridLaws.{covers_the_picture}
 use Rattle.px_control.proofs.law.law_of_grids.Goals as goal
 
 pub returns-clause-covers : goal.returns-clause-covers
-returns-clause-covers c bits scene n device lawful at = grind (arith, exponent_is, columns_at, rows_at)
+returns-clause-covers c = covers_the_picture
 
 pub returns-clause-least : goal.returns-clause-least
 returns-clause-least c scene lawful = grind (arith, exponent_is)

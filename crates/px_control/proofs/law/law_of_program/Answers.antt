@@ -1,6 +1,6 @@
-use Rattle.px_num.proofs.Basics.{rules}
+use Rattle.px_macro.proofs.MacroLemmas.{is_lawful_in_more}
 use Rattle.px_control.proofs.ProgramLemmas.{good_program}
 use Rattle.px_control.proofs.law.law_of_program.Goals as goal
 
-pub returns-clause-good : goal.returns-clause-good
-returns-clause-good c = search (rules, good_program)
+pub returns : goal.returns
+returns c = record { good = good_program c.args.scene.now c.requires; more = is_lawful_in_more }

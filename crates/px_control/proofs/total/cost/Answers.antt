@@ -1,9 +1,6 @@
 use Rattle.px_num.proofs.Basics.{arith, ◌∙◌, sym}
-use Rattle.px_normal.specs.Forms.{sum_of_products}
-use Rattle.px_sched.specs.Passes.{passes}
+use Rattle.px_control.proofs.Words.{Clocks, counted, Operations, passes}
 use Rattle.px_sched.proofs.DrawnLaws.{kept_drawn}
-use Rattle.px_sched.proofs.WorthLaws.{counted}
-use Rattle.px_control.specs.declared.measure.Measure.TheVariants.{Clocks, Operations}
 use Rattle.px_control.proofs.CostLemmas.{passes_come_to, total_is}
 use Rattle.px_control.proofs.total.cost.Goals as goal
 
@@ -14,16 +11,14 @@ pub returns-clause-macros : goal.returns-clause-macros
 returns-clause-macros c =
     let scene = c.args.scene.now in
     c.products_cost.ensures.first
-    ∙ passes_come_to c.laws_of_edges.ensures.count scene Operations c.of-operations.result c.of-operations.ensures.rates
-    c.as_slice.result.now (c.as_slice.ensures.value ∙ c.requires.products)
-    (c.laws_of_pruning.ensures.apart scene (sum_of_products scene.show))
+    ∙ passes_come_to scene Operations c.of-operations.result c.of-operations.ensures.rates c.as_slice.result.now
+    (c.as_slice.ensures.value ∙ c.requires.products)
     ∙ sym (counted (passes scene))
 
 pub returns-clause-clocks : goal.returns-clause-clocks
 returns-clause-clocks c =
     let scene = c.args.scene.now in
     c.products_cost.ensures.second
-    ∙ passes_come_to c.laws_of_edges.ensures.count scene Clocks c.of-clocks.result c.of-clocks.ensures.rates
-    c.as_slice.result.now (c.as_slice.ensures.value ∙ c.requires.products)
-    (c.laws_of_pruning.ensures.apart scene (sum_of_products scene.show))
+    ∙ passes_come_to scene Clocks c.of-clocks.result c.of-clocks.ensures.rates c.as_slice.result.now
+    (c.as_slice.ensures.value ∙ c.requires.products)
     ∙ sym (total_is scene)

@@ -1,7 +1,5 @@
 use Rattle.px_num.proofs.Basics.{◌≡◌, ℕ, List, ◌*◌, ◌^◌, ◌≤◌, take, sum_by}
-use Rattle.px_sched.specs.declared.literal.Literal.{Literal}
-use Rattle.px_sched.specs.Worths.{share_worth}
-use Rattle.px_control.specs.Costs.{rated}
+use Rattle.px_control.proofs.Words.{Literal, rated, share_worth}
 use Rattle.px_control.proofs.total.literals_cost.Given as goal
 
 -- what the first literals add

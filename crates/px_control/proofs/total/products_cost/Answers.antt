@@ -1,12 +1,6 @@
 use Rattle.px_num.proofs.Basics.{◌≡◌, ℕ, ◌+◌, ◌<◌, ◌≤◌, ◌^◌, ◌∙◌, List, length, get_or, arith, sum_by_more}
-use Rattle.px_normal.specs.declared.product.Product.{Product}
-use Rattle.px_model.specs.Scenes.{SceneView}
-use Rattle.px_sched.specs.declared.literal.Literal.{Literal}
+use Rattle.px_control.proofs.Words.{Literal, literals, Product, rated, Rates, SceneView, shares_worth}
 use Rattle.px_sched.specs.Groups.{no_product}
-use Rattle.px_sched.specs.Passes.{literals}
-use Rattle.px_sched.specs.Worths.{shares_worth}
-use Rattle.px_control.specs.declared.rates.Rates.{Rates}
-use Rattle.px_control.specs.Costs.{rated}
 use Rattle.px_control.proofs.total.products_cost.Invariants.{AreCounted}
 use Rattle.px_control.proofs.total.products_cost.Goals as goal
 

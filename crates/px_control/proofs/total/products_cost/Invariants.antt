@@ -1,9 +1,5 @@
 use Rattle.px_num.proofs.Basics.{◌≡◌, ℕ, List, ◌+◌, ◌*◌, ◌^◌, ◌≤◌, take}
-use Rattle.px_normal.specs.declared.product.Product.{Product}
-use Rattle.px_model.specs.Scenes.{SceneView}
-use Rattle.px_sched.specs.Worths.{products_worth}
-use Rattle.px_control.specs.declared.rates.Rates.{Rates}
-use Rattle.px_control.specs.Costs.{rated}
+use Rattle.px_control.proofs.Words.{Product, products_worth, rated, Rates, SceneView}
 use Rattle.px_control.proofs.total.products_cost.Given as goal
 
 -- the background and the first products

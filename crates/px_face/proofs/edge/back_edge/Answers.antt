@@ -1,6 +1,5 @@
 use Rattle.px_num.proofs.Basics.{◌-◌, ◌+◌, List, ap, arith, ◌∙◌, get_or, length}
-use Rattle.px_model.specs.declared.solid.Face.{Face}
-use Rattle.px_face.specs.Faces.{back_planes, front_planes, level}
+use Rattle.px_face.proofs.Words.{back_planes, Face, front_planes, level}
 use Rattle.px_face.proofs.EdgeLemmas.{back_form_after, back_form_before, back_form_beyond}
 use Rattle.px_face.proofs.edge.back_edge.Goals as goal
 

@@ -1,7 +1,6 @@
 use Rattle.px_num.proofs.Basics.{◌≡◌, All, take}
+use Rattle.px_face.proofs.Words.{edges, IsInTreeRange}
 use Rattle.arrayvec.specs.ArrayVec.{array_vec_len}
-use Rattle.px_num.specs.Forms.{IsInTreeRange}
-use Rattle.px_face.specs.Edges.{edges}
 use Rattle.px_face.proofs.edge.edges.Given as goal
 
 abbrev pub invariant-loop-place : goal.invariant-loop-place

@@ -1,6 +1,5 @@
 use Rattle.px_num.proofs.Basics.{◌-◌, ◌+◌, List, ap, arith, ◌∙◌, get_or, length}
-use Rattle.px_model.specs.declared.solid.Face.{Face}
-use Rattle.px_face.specs.Faces.{back_planes, front_planes, level}
+use Rattle.px_face.proofs.Words.{back_planes, Face, front_planes, level}
 use Rattle.px_face.proofs.EdgeLemmas.{front_form_after, front_form_before, front_form_beyond}
 use Rattle.px_face.proofs.edge.front_edge.Goals as goal
 

@@ -1,6 +1,5 @@
 use Rattle.px_num.proofs.Basics.{◌≡◌, ◌*◌, length, take}
-use Rattle.px_frame.specs.Picture.{row_of_pixels}
-use Rattle.px_frame.specs.Rows.{strip_pixel}
+use Rattle.px_frame.proofs.Words.{row_of_pixels, strip_pixel}
 use Rattle.px_frame.proofs.image.row_bytes.Given as goal
 
 abbrev pub invariant-loop-x : goal.invariant-loop-x

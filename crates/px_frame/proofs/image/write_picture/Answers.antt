@@ -1,8 +1,5 @@
 use Rattle.px_num.proofs.Basics.{◌+◌, ◌^◌, ◌<◌, arith}
-use Rattle.px_io.proofs.ToldLaws.{front_before, on_err}
-use Rattle.px_frame.specs.Picture.{header, row_of_pixels}
-use Rattle.px_frame.specs.Rows.{field_shown}
-use Rattle.px_frame.specs.Stored.{stored_pixel}
+use Rattle.px_frame.proofs.Words.{field_shown, front_before, header, on_err, row_of_pixels, stored_pixel}
 use Rattle.px_frame.proofs.RowLaws.{other_row, row_shown, rows_broken, rows_grown}
 use Rattle.px_frame.proofs.image.write_picture.Goals as goal
 

@@ -1,9 +1,5 @@
 use Rattle.px_num.proofs.Basics.{◌≡◌, ◌≢◌, ◌%◌, ◌++◌, flat_map, range_with_len}
-use Rattle.px_io.specs.Told.{TakesAll}
-use Rattle.px_frame.specs.Picture.{header, row_of_pixels}
-use Rattle.px_frame.specs.Stored.{stored_pixel}
-use Rattle.px_frame.specs.Rows.{field_shown}
-use Rattle.px_frame.specs.Strips.{HoldsRow}
+use Rattle.px_frame.proofs.Words.{field_shown, header, HoldsRow, row_of_pixels, stored_pixel, TakesAll}
 use Rattle.px_frame.proofs.image.write_picture.Given as goal
 
 abbrev pub invariant-loop-y : goal.invariant-loop-y

@@ -1,9 +1,5 @@
 use Rattle.px_num.proofs.Basics.{◌≡◌, suc, arith, ◌+◌, ◌^◌, ◌/◌, ◌%◌, ◌∙◌, ap, get_or, if◌then◌else◌, subst, ◌<◌, sym}
-use Rattle.px_array.specs.Words.{memory_bit}
-use Rattle.px_macro.specs.Fields.{number_from_bits}
-use Rattle.px_num.specs.Bits.{nat_bit}
-use Rattle.px_tree.proofs.PlaceLaws.{power_next}
-use Rattle.px_num.proofs.TruthLaws.{power_grows}
+use Rattle.px_frame.proofs.Words.{memory_bit, nat_bit, number_from_bits, power_grows, power_next}
 use Rattle.px_frame.proofs.StripLemmas.{moved_bit, small_more}
 use Rattle.px_frame.proofs.strip.eight_numbers.Goals as goal
 

@@ -1,6 +1,5 @@
 use Rattle.px_num.proofs.Basics.{◌≡◌, ◌+◌, ◌%◌, ◌^◌, ◌<◌, ℕ, get_or}
-use Rattle.px_array.specs.Words.{memory_bit}
-use Rattle.px_macro.specs.Fields.{number_from_bits}
+use Rattle.px_frame.proofs.Words.{memory_bit, number_from_bits}
 use Rattle.px_frame.proofs.strip.eight_numbers.Given as goal
 
 abbrev pub invariant-loop-t : goal.invariant-loop-t

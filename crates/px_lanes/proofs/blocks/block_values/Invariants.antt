@@ -1,6 +1,5 @@
 use Rattle.px_num.proofs.Basics.{◌≡◌, ℕ, ◌<◌, ◌/◌, ◌%◌, ◌^◌, [], length, get_or}
-use Rattle.px_num.specs.Bits.{bit_of, nat_bit}
-use Rattle.px_num.specs.Forms.{value_at}
+use Rattle.px_lanes.proofs.Words.{bit_of, nat_bit, value_at}
 use Rattle.px_lanes.proofs.blocks.block_values.Given as goal
 
 abbrev pub invariant-loop-k : goal.invariant-loop-k

@@ -1,8 +1,7 @@
 use Rattle.px_num.proofs.Basics.{nat_tests, common_steps, ◌≡◌, ℕ, suc, pos, ◌+◌, ◌<◌, ◌∙◌, arith, inl, inr}
-use Rattle.px_num.proofs.Basics.{if◌then◌else◌, get_or-set_other, get_or-set_same, length-set, bit_and, w64, to_z, of_z}
-use Rattle.px_num.proofs.Basics.{cases_lt}
-use Rattle.px_num.specs.Bits.{bit_of, nat_bit}
-use Rattle.px_rows.proofs.BitLaws.{bit-and}
+use Rattle.px_num.proofs.Basics.{if◌then◌else◌, get_or-set_other, get_or-set_same, length-set, bit_and, w64, to_z}
+use Rattle.px_num.proofs.Basics.{of_z, cases_lt}
+use Rattle.px_lanes.proofs.Words.{bit-and, bit_of, nat_bit}
 use Rattle.px_lanes.proofs.LaneLemmas.{addend_bit, sum_in_lane}
 use Rattle.px_lanes.proofs.lanes.add_constant.Goals as goal
 

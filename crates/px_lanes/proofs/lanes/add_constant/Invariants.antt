@@ -1,6 +1,5 @@
 use Rattle.px_num.proofs.Basics.{◌≡◌, ℕ, ℤ, pos, ◌+ℤ◌, ◌<◌, ◌≤◌, false, if◌then◌else◌, get_or, length}
-use Rattle.px_num.specs.Bits.{bit_of, carry_from, nat_bit}
-use Rattle.px_lanes.specs.Lanes.{HasValue}
+use Rattle.px_lanes.proofs.Words.{bit_of, carry_from, HasValue, nat_bit}
 use Rattle.px_lanes.proofs.lanes.add_constant.Given as goal
 
 abbrev pub invariant-loop-t : goal.invariant-loop-t

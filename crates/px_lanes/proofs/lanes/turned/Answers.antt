@@ -1,7 +1,5 @@
 use Rattle.px_num.proofs.Basics.{◌≡◌, ◌∙◌, Bool, true, false, not, refl}
-use Rattle.px_num.specs.Bits.{nat_bit, xor}
-use Rattle.px_rows.proofs.BitLaws.{bit-xor}
-use Rattle.px_rows.proofs.WordLemmas.{all_ones}
+use Rattle.px_lanes.proofs.Words.{all_ones, bit-xor, nat_bit, xor}
 use Rattle.px_lanes.proofs.lanes.turned.Goals as goal
 
 xor_true : (b : Bool) → xor b true ≡ not b

@@ -1,6 +1,5 @@
 use Rattle.px_num.proofs.Basics.{◌≡◌, ℤ, pos, negsuc, arith, w64, of_z, to_z-of_z}
-use mir.Val.{SFits}
-use Rattle.px_num.specs.Bits.{modulo}
+use Rattle.px_lanes.proofs.Words.{modulo, SFits}
 use Rattle.px_num.proofs.BitLaws.{modulo_bit}
 use Rattle.px_lanes.proofs.lanes.word_of.Goals as goal
 

@@ -1,6 +1,5 @@
 use Rattle.px_num.proofs.Basics.{◌≡◌, ℕ, ◌<◌, ◌≤◌, ◌+ℤ◌, false, is_negative}
-use Rattle.px_num.specs.Bits.{nat_bit}
-use Rattle.px_lanes.specs.Lanes.{offset}
+use Rattle.px_lanes.proofs.Words.{nat_bit, offset}
 use Rattle.px_lanes.proofs.sides.signs_of_pixels.Given as goal
 
 abbrev pub invariant-loop-j : goal.invariant-loop-j

@@ -1,8 +1,6 @@
 use Rattle.px_num.proofs.Basics.{◌≡◌, ℕ, ◌*◌, ◌%◌, ◌^◌, ◌<◌, pos, length, get_or, replicate, sym, ap, ◌∙◌, arith, to_z}
 use Rattle.px_num.proofs.Basics.{of_z, mod-eq_of_lt, to_z-of_z, pow_below, get_or-replicate, length-replicate}
-use Rattle.px_num.specs.Bits.{nat_bit, bit_of}
-use Rattle.px_rows.proofs.BitLaws.{bit_of_zero}
-use Rattle.px_lanes.specs.Lanes.{HasValue}
+use Rattle.px_lanes.proofs.Words.{bit_of, bit_of_zero, HasValue, nat_bit}
 use Rattle.px_lanes.proofs.OffsetLemmas.{offset_step, offset_zero}
 use Rattle.px_lanes.proofs.values.offsets.Goals as goal
 

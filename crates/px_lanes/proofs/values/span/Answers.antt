@@ -1,11 +1,8 @@
 use Rattle.px_num.proofs.Basics.{◌≡◌, ◌∙◌, ℕ, ◌+◌, ◌*◌, ◌%◌, ◌^◌, ◌<◌, ◌≤◌, ℤ, pos, ◌+ℤ◌, ◌≤ℤ◌, Bool, true, false}
 use Rattle.px_num.proofs.Basics.{if◌then◌else◌, ap, arith, w64, to_z, of_z, rules, mod-eq_of_lt, ints, to_z-of_z}
 use Rattle.px_num.proofs.Basics.{pow_below, int_max, int_min}
+use Rattle.px_lanes.proofs.Words.{IsWithin, nat_bit, offset, SFits}
 use Rattle.std.proofs.lemmas.Int.{clamps}
-use mir.Val.{SFits}
-use Rattle.px_num.specs.Forms.{IsWithin}
-use Rattle.px_num.specs.Bits.{nat_bit}
-use Rattle.px_lanes.specs.Lanes.{offset}
 use Rattle.px_lanes.proofs.OffsetLemmas.{offset_step}
 use Rattle.px_lanes.proofs.values.span.Goals as goal
 

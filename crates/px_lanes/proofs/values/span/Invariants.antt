@@ -1,6 +1,5 @@
 use Rattle.px_num.proofs.Basics.{ℕ, ◌<◌, ◌%◌, ◌*◌, ◌^◌, ◌≤ℤ◌}
-use Rattle.px_num.specs.Forms.{IsWithin}
-use Rattle.px_lanes.specs.Lanes.{offset}
+use Rattle.px_lanes.proofs.Words.{IsWithin, offset}
 use Rattle.px_lanes.proofs.values.span.Given as goal
 
 abbrev pub invariant-loop-k : goal.invariant-loop-k

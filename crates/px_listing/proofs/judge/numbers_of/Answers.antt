@@ -1,6 +1,5 @@
 use Rattle.px_num.proofs.Basics.{◌∙◌, sym, arith, subst, to_z, of_z, w64, ◌^◌, All, ints}
-use Rattle.px_num.specs.Forms.{IsWithin}
-use Rattle.px_text.specs.LentWords.{now_of}
+use Rattle.px_listing.proofs.Words.{IsWithin, now_of}
 use Rattle.px_listing.proofs.WordLemmas.{are_small, read_more, read_whole}
 use Rattle.px_listing.proofs.judge.numbers_of.Goals as goal
 

@@ -1,10 +1,9 @@
 use Rattle.px_num.proofs.Basics.{arith, ◌<◌, ◌+◌, ◌++◌, [], ◌∙◌, ap, refl, append_assoc, length, take, drop, get_or}
 use Rattle.px_num.proofs.Basics.{flat_map, take_all}
+use Rattle.px_listing.proofs.Words.{canonical_listing, end_line, listing_head, ListingView, macro_line, on_err}
 use Rattle.std.proofs.lemmas.List.{append-nil}
-use Rattle.px_listing.specs.Listings.{ListingView, canonical_listing, end_line, listing_head, macro_line}
 use Rattle.px_listing.proofs.PieceLaws.{err_cut, ok_all, puts_both, puts_cut}
 use Rattle.px_listing.proofs.RowLaws.{behind, listed_cut, listed_more}
-use Rattle.px_io.proofs.ToldLaws.{on_err}
 use Rattle.px_macro.specs.declared.operation.Macro.TheVariants as m
 use Rattle.px_listing.proofs.write.write_listing.Goals as goal
 

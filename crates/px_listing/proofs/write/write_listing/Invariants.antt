@@ -1,6 +1,5 @@
 use Rattle.px_num.proofs.Basics.{◌≡◌, ◌++◌, [], take, flat_map}
-use Rattle.px_listing.specs.Listings.{listing_head, macro_line}
-use Rattle.px_listing.specs.Pieces.{Puts}
+use Rattle.px_listing.proofs.Words.{listing_head, macro_line, Puts}
 use Rattle.px_listing.proofs.write.write_listing.Given as goal
 
 abbrev pub invariant-loop-m : goal.invariant-loop-m

@@ -1,6 +1,5 @@
 use Rattle.px_num.proofs.Basics.{◌≡◌, take, All}
-use Rattle.px_normal.specs.Live.{boxes_in}
-use Rattle.px_normal.specs.Boxed.{IsBoxed, products_in}
+use Rattle.px_normal.proofs.Words.{boxes_in, IsBoxed, products_in}
 use Rattle.px_normal.proofs.live.boxed_all.Given as goal
 
 abbrev pub invariant-loop-product : goal.invariant-loop-product

@@ -1,8 +1,5 @@
 use Rattle.px_num.proofs.Basics.{◌≡◌, ◌≤◌, ◌*◌, length, take, filter}
-use Rattle.px_normal.specs.Forms.{crossed}
-use Rattle.px_normal.specs.Live.{boxes_in, is_live}
-use Rattle.px_normal.specs.Boxed.{products_in}
-use Rattle.px_normal.specs.declared.product.TheConstants.{MAX_PRODUCTS}
+use Rattle.px_normal.proofs.Words.{boxes_in, crossed, is_live, MAX_PRODUCTS, products_in}
 use Rattle.px_normal.proofs.live.count_crossed.Given as goal
 
 abbrev pub invariant-loop-p : goal.invariant-loop-p

@@ -1,7 +1,5 @@
 use Rattle.px_num.proofs.Basics.{◌≡◌, ◌≤◌, length, take, map, filter}
-use Rattle.px_normal.specs.Forms.{both}
-use Rattle.px_normal.specs.Live.{boxes_in, is_live}
-use Rattle.px_normal.specs.Boxed.{products_in}
+use Rattle.px_normal.proofs.Words.{both, boxes_in, is_live, products_in}
 use Rattle.px_normal.proofs.live.count_with.Given as goal
 
 abbrev pub invariant-loop-q : goal.invariant-loop-q

@@ -1,11 +1,5 @@
 use Rattle.px_num.proofs.Basics.{arith, ◌≡◌, ◌∷◌, List, [], ◌++◌, reverse}
-use Rattle.px_expr.specs.declared.node.Node.{Node}
-use Rattle.px_expr.specs.Tree.{Tree}
-use Rattle.px_expr.specs.Postorder.{nodes_of}
-use Rattle.px_normal.specs.declared.step.Step.{Step}
-use Rattle.px_normal.specs.declared.step.Wanted.{Wanted}
-use Rattle.px_normal.specs.Crowd.{of_root}
-use Rattle.px_normal.specs.Building.{walked, steps_of}
+use Rattle.px_normal.proofs.Words.{Node, nodes_of, of_root, Step, steps_of, Tree, walked, Wanted}
 use Rattle.px_normal.proofs.BuildingLemmas.{walked_all}
 use Rattle.px_normal.proofs.step.steps.Goals as goal
 

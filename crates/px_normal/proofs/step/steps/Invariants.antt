@@ -1,6 +1,5 @@
 use Rattle.px_num.proofs.Basics.{◌≡◌, length, reverse}
-use Rattle.px_normal.specs.Crowd.{of_root}
-use Rattle.px_normal.specs.Building.{steps_of, walked}
+use Rattle.px_normal.proofs.Words.{of_root, steps_of, walked}
 use Rattle.px_normal.proofs.step.steps.Given as goal
 
 abbrev pub invariant-loop-node : goal.invariant-loop-node

@@ -4,7 +4,6 @@ use Rattle.px_plane_tree.proofs.feed.feed_span.Goals as goal
 
 pub loop-h-preserved : goal.loop-h-preserved
 loop-h-preserved c =
-    let g = c.loop-h.h - 2 in
     record {
       from = omega arith;
       to = omega arith;

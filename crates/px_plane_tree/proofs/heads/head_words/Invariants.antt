@@ -1,6 +1,5 @@
 use Rattle.px_num.proofs.Basics.{◌≡◌, ℕ, ◌<◌, ◌+◌, ◌*◌, length, get_or}
-use Rattle.px_num.specs.Bits.{nat_bit}
-use Rattle.px_plane_tree.specs.Heap.{line_bit}
+use Rattle.px_plane_tree.proofs.Words.{line_bit, nat_bit}
 use Rattle.px_plane_tree.proofs.heads.head_words.Given as goal
 
 abbrev pub invariant-loop-w : goal.invariant-loop-w

@@ -1,7 +1,6 @@
 use Rattle.px_num.proofs.Basics.{◌≡◌, ◌-◌, length, subst, ◌∙◌, arith}
-use Rattle.px_num.proofs.TruthLaws.{power_grows}
-use Rattle.px_plane_tree.proofs.LevelLemmas.{IsFedDown, are_still, at_next, fed_heap, fed_more, next_fits, levels}
-use Rattle.px_plane_tree.proofs.LevelLemmas.{next_rest}
+use Rattle.px_plane_tree.proofs.Words.{power_grows}
+use Rattle.px_plane_tree.proofs.LevelLemmas.{IsFedDown, are_still, fed_heap, fed_more, next_fits, levels, next_rest}
 use Rattle.px_plane_tree.proofs.heap.feed_heap.Goals as goal
 
 pub feed_level-requires-clause-from : goal.feed_level-requires-clause-from
@@ -21,14 +20,14 @@ pub feed_level-requires-clause-rest : goal.feed_level-requires-clause-rest
 feed_level-requires-clause-rest c = λ may here.
     rw (c.power.ensures, c.line_of-line.ensures)
     (next_rest c.args.nx c.args.last c.args.now (c.loop-u.u - 1) _ _ _ _ _ _ (omega arith) (omega arith)
-    (at_next _ _ _ _ _ _ _ _ _ (omega arith) c.loop-u.invariant.down) c.requires.still
+    (grind arith) c.requires.still
     (c.may_rest-may_rest.ensures.line may) (c.may_rest-may_rest.ensures.above may) here)
 
 pub loop-u-preserved : goal.loop-u-preserved
 loop-u-preserved c = record {
   low = omega arith;
   down = fed_more c.args.nx c.args.now (c.loop-u.u - 1) _ _ _ _ _ c.loop-u.still _ _ c.feed_level.result (omega arith)
-      (omega arith) c.loop-u.auto.still (at_next _ _ _ _ _ _ _ _ _ (omega arith) c.loop-u.invariant.down)
+      (omega arith) c.loop-u.auto.still (grind arith)
       (rw (c.power.ensures, c.line_of-line.ensures) at c.feed_level.ensures.fed) c.feed_level.ensures.outputs
       c.feed_level.ensures.carries;
 }

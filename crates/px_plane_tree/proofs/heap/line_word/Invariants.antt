@@ -1,6 +1,5 @@
 use Rattle.px_num.proofs.Basics.{◌≡◌, ℕ, ◌<◌, ◌≤◌, ◌+◌, ◌*◌, false}
-use Rattle.px_num.specs.Bits.{nat_bit}
-use Rattle.px_plane_tree.specs.Heap.{line_bit}
+use Rattle.px_plane_tree.proofs.Words.{line_bit, nat_bit}
 use Rattle.px_plane_tree.proofs.heap.line_word.Given as goal
 
 abbrev pub invariant-loop-j : goal.invariant-loop-j

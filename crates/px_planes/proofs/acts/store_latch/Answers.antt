@@ -1,6 +1,5 @@
 use Rattle.px_num.proofs.Basics.{arith, ◌≡◌, ◌∙◌, [], get_or, length, refl, ap, get_or_default}
-use Rattle.px_pixel.specs.declared.act.Act.TheVariants.{StoreLatch}
-use Rattle.px_rows.specs.Rows.{row_bit}
+use Rattle.px_planes.proofs.Words.{row_bit, StoreLatch}
 use Rattle.px_planes.proofs.StoredLemmas.{store_law}
 use Rattle.px_planes.proofs.acts.store_latch.Goals as goal
 

@@ -1,8 +1,5 @@
 use Rattle.px_num.proofs.Basics.{◌∙◌, Bool, ℤ, ◌<◌, ◌%◌, length, not, ap, sym, arith, w64, is_negative, to_z-of_z}
-use Rattle.px_asm.specs.Microprograms.{bits_of}
-use Rattle.px_macro.specs.declared.operation.Macro.TheVariants.{KeepSign}
-use Rattle.px_pixel.specs.Acts.{kept}
-use Rattle.px_planes.specs.Pixels.{pixel_in}
+use Rattle.px_planes.proofs.Words.{bits_of, KeepSign, kept, pixel_in}
 use Rattle.px_planes.proofs.OperationLemmas.{done_by_work, value_here}
 use Rattle.px_planes.proofs.edges.cut_mixed_word.Goals as goal
 

@@ -1,9 +1,5 @@
 use Rattle.px_num.proofs.Basics.{◌≡◌, ℕ, ◌*◌, ◌/◌, ◌%◌, ◌^◌, ◌<◌, ◌≤◌, length}
-use Rattle.px_asm.specs.Microprograms.{bits_of}
-use Rattle.px_macro.specs.Macros.{after_macro}
-use Rattle.px_macro.specs.declared.operation.Macro.TheVariants.{KeepSign}
-use Rattle.px_planes.specs.Operations.{IsLike}
-use Rattle.px_planes.specs.Pixels.{pixel_in}
+use Rattle.px_planes.proofs.Words.{after_macro, bits_of, IsLike, KeepSign, pixel_in}
 use Rattle.px_planes.proofs.edges.keep_sign.Given as goal
 
 abbrev pub invariant-loop-w : goal.invariant-loop-w

@@ -1,9 +1,6 @@
-use Rattle.px_num.proofs.Basics.{rules, ◌≡◌, ◌∙◌, ◌+◌, ◌*◌, ◌/◌, ◌%◌, ◌<◌, ◌≤◌, [], get_or, length, ap, arith, inl, inr}
-use Rattle.px_num.proofs.Basics.{cases_lt, get_or_default}
-use Rattle.px_num.specs.Bits.{bit_at, xor}
-use Rattle.px_rows.specs.Rows.{row_bit}
-use Rattle.px_rows.specs.Sums.{value_on}
-use Rattle.px_planes.specs.Pixels.{pixel_in}
+use Rattle.px_num.proofs.Basics.{rules, ◌≡◌, ◌∙◌, ◌+◌, ◌*◌, ◌/◌, ◌%◌, ◌<◌, ◌≤◌, [], get_or, length, ap, arith, inl}
+use Rattle.px_num.proofs.Basics.{inr, cases_lt, get_or_default}
+use Rattle.px_planes.proofs.Words.{bit_at, pixel_in, row_bit, value_on, xor}
 use Rattle.px_planes.proofs.StoredLemmas.{bit_of_rows}
 use Rattle.px_planes.proofs.WorkLemmas.{put_row_law}
 use Rattle.px_planes.proofs.strips.add_bit.Goals as goal

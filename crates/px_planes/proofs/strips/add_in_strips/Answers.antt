@@ -1,8 +1,5 @@
 use Rattle.px_num.proofs.Basics.{◌≡◌, ◌≢◌, ◌∙◌, ◌/◌, ◌^◌, ◌%◌, length, ap, arith, inl, inr, cases_lt}
-use Rattle.px_asm.specs.Microprograms.{bits_of}
-use Rattle.px_macro.specs.Macros.{after_macro}
-use Rattle.px_macro.specs.declared.operation.Macro.TheVariants.{AddLinear}
-use Rattle.px_pixel.specs.Pixels.{PixelState}
+use Rattle.px_planes.proofs.Words.{AddLinear, after_macro, bits_of, PixelState}
 use Rattle.px_planes.proofs.WorkLemmas.{like_then}
 use Rattle.px_planes.proofs.strips.add_in_strips.Goals as goal
 

@@ -1,10 +1,5 @@
 use Rattle.px_num.proofs.Basics.{◌≡◌, ℕ, ◌*◌, ◌/◌, ◌%◌, ◌^◌, ◌<◌, ◌≤◌, length}
-use Rattle.px_asm.specs.Microprograms.{bits_of}
-use Rattle.px_lanes.specs.Lanes.{AreBlockValues}
-use Rattle.px_macro.specs.Macros.{after_macro}
-use Rattle.px_macro.specs.declared.operation.Macro.TheVariants.{AddLinear}
-use Rattle.px_planes.specs.Operations.{IsLike}
-use Rattle.px_planes.specs.Pixels.{pixel_in}
+use Rattle.px_planes.proofs.Words.{AddLinear, after_macro, AreBlockValues, bits_of, IsLike, pixel_in}
 use Rattle.px_planes.proofs.strips.add_in_strips.Given as goal
 
 abbrev pub invariant-loop-strip : goal.invariant-loop-strip

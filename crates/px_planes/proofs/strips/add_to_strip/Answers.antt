@@ -1,16 +1,8 @@
 use Rattle.px_num.proofs.Basics.{◌≡◌, ◌≢◌, ◌∙◌, ℕ, suc, ℤ, pos, false, ◌+ℤ◌, ◌+◌, ◌*◌, ◌/◌, ◌^◌, ◌<◌, ◌≤◌, ◌%◌, []}
 use Rattle.px_num.proofs.Basics.{length, get_or, get_or-set_other, get_or-set_same, length-set, replicate, sym, refl}
 use Rattle.px_num.proofs.Basics.{arith, inl, inr, cases_lt, ints, to_z-of_z}
-use Rattle.px_lanes.specs.Lanes.{offset}
-use Rattle.px_macro.specs.Fields.{number_in}
-use Rattle.px_num.specs.Bits.{bit_at, bit_of, nat_bit}
-use Rattle.px_num.specs.Forms.{value_at}
-use Rattle.px_num.proofs.AdderLaws.{sum_bit}
-use Rattle.px_num.proofs.BitLaws.{modulo_bit}
-use Rattle.px_planes.specs.Pixels.{pixel_in}
-use Rattle.px_rows.specs.Rows.{row_bit}
-use Rattle.px_rows.specs.Sums.{value_on}
-use Rattle.px_rows.proofs.BitLaws.{bit_of_zero}
+use Rattle.px_planes.proofs.Words.{bit_at, bit_of, bit_of_zero, modulo_bit, nat_bit, number_in, offset, pixel_in}
+use Rattle.px_planes.proofs.Words.{row_bit, sum_bit, value_at, value_on}
 use Rattle.px_planes.proofs.OperationLemmas.{stored_law}
 use Rattle.px_planes.proofs.StepLemmas.{value_in_strip}
 use Rattle.px_planes.proofs.StoredLemmas.{filled_bit}

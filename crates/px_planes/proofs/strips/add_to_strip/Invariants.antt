@@ -1,11 +1,6 @@
 use Rattle.px_num.proofs.Basics.{◌≡◌, ℕ, pos, false, ◌+ℤ◌, ◌<◌, ◌≤◌, ◌+◌, ◌*◌, ◌/◌, ◌%◌, ◌^◌, [], length, get_or}
-use Rattle.px_lanes.specs.Lanes.{offset}
-use Rattle.px_macro.specs.Fields.{number_in}
-use Rattle.px_num.specs.Bits.{bit_of, carry_from, nat_bit}
-use Rattle.px_num.specs.Forms.{value_at}
-use Rattle.px_planes.specs.Operations.{IsWorkedIn, stored_bits}
-use Rattle.px_planes.specs.Pixels.{pixel_in}
-use Rattle.px_rows.specs.Rows.{row_bit}
+use Rattle.px_planes.proofs.Words.{bit_of, carry_from, IsWorkedIn, nat_bit, number_in, offset, pixel_in, row_bit}
+use Rattle.px_planes.proofs.Words.{stored_bits, value_at}
 use Rattle.px_planes.proofs.strips.add_to_strip.Given as goal
 
 abbrev pub invariant-loop-t : goal.invariant-loop-t

@@ -1,6 +1,5 @@
 use Rattle.px_num.proofs.Basics.{◌%◌, length, get_or}
-use Rattle.px_num.specs.Bits.{nat_bit}
-use Rattle.px_planes.specs.Operations.{IsWorked, stored_bits}
+use Rattle.px_planes.proofs.Words.{IsWorked, nat_bit, stored_bits}
 use Rattle.px_planes.proofs.word_acts.store_words.Given as goal
 
 abbrev pub invariant-loop-t : goal.invariant-loop-t

@@ -1,13 +1,8 @@
 use Rattle.px_num.proofs.Basics.{◌≡◌, ◌∙◌, ℕ, suc, ℤ, pos, ◌+ℤ◌, ◌+◌, ◌*◌, ◌/◌, ◌^◌, ◌<◌, ◌%◌, length, get_or, ap}
 use Rattle.px_num.proofs.Basics.{arith, w64, to_z, of_z, rules, ints, to_z-of_z}
+use Rattle.px_planes.proofs.Words.{AddLinear, bit_of, modulo, modulo_bit, nat_bit, number_in, offset, pixel_in}
+use Rattle.px_planes.proofs.Words.{value_at}
 use mir.Val.{SFits}
-use Rattle.px_lanes.specs.Lanes.{offset}
-use Rattle.px_num.specs.Bits.{bit_of, modulo, nat_bit}
-use Rattle.px_num.specs.Forms.{value_at}
-use Rattle.px_num.proofs.BitLaws.{modulo_bit}
-use Rattle.px_macro.specs.Fields.{number_in}
-use Rattle.px_macro.specs.declared.operation.Macro.TheVariants.{AddLinear}
-use Rattle.px_planes.specs.Pixels.{pixel_in}
 use Rattle.px_planes.proofs.OperationLemmas.{done_by_work, stored_law, value_here}
 use Rattle.px_planes.proofs.WorkLemmas.{bit_above, stored_more}
 use Rattle.px_planes.proofs.word_operations.add_linear.Goals as goal

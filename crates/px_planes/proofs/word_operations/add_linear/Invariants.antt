@@ -1,9 +1,5 @@
 use Rattle.px_num.proofs.Basics.{◌≡◌, ℕ, pos, ◌+ℤ◌, ◌<◌, ◌*◌, ◌/◌, ◌%◌, length}
-use Rattle.px_lanes.specs.Lanes.{HasCarries, offset}
-use Rattle.px_macro.specs.Fields.{number_in}
-use Rattle.px_num.specs.Bits.{bit_of}
-use Rattle.px_planes.specs.Operations.{IsWorked, stored_bits}
-use Rattle.px_planes.specs.Pixels.{pixel_in}
+use Rattle.px_planes.proofs.Words.{bit_of, HasCarries, IsWorked, number_in, offset, pixel_in, stored_bits}
 use Rattle.px_planes.proofs.word_operations.add_linear.Given as goal
 
 abbrev pub invariant-loop-t : goal.invariant-loop-t

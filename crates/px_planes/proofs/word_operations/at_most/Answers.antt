@@ -1,9 +1,6 @@
 use Rattle.px_num.proofs.Basics.{◌≡◌, ◌∙◌, suc, ◌+◌, ◌<◌, ◌%◌, not, ap, sym, refl, arith}
+use Rattle.px_planes.proofs.Words.{bit_of, flipped, flipped_bit, nat_bit, number_in, pixel_in}
 use Rattle.px_asm.proofs.ComparingLemmas.{carry_is_at_most}
-use Rattle.px_macro.specs.Fields.{number_in}
-use Rattle.px_num.specs.Bits.{bit_of, nat_bit}
-use Rattle.px_num.proofs.AdderLaws.{flipped, flipped_bit}
-use Rattle.px_planes.specs.Pixels.{pixel_in}
 use Rattle.px_planes.proofs.word_operations.at_most.Goals as goal
 
 pub loop-t-preserved : goal.loop-t-preserved

@@ -1,9 +1,5 @@
 use Rattle.px_num.proofs.Basics.{◌≡◌, ℕ, ℤ, pos, ◌<◌, ◌*◌, ◌/◌, ◌%◌, true, length}
-use Rattle.px_lanes.specs.Lanes.{HasValue}
-use Rattle.px_macro.specs.Fields.{number_in}
-use Rattle.px_num.specs.Bits.{carry_from, nat_bit}
-use Rattle.px_num.proofs.AdderLaws.{flipped}
-use Rattle.px_planes.specs.Pixels.{pixel_in}
+use Rattle.px_planes.proofs.Words.{carry_from, flipped, HasValue, nat_bit, number_in, pixel_in}
 use Rattle.px_planes.proofs.word_operations.at_most.Given as goal
 
 abbrev pub invariant-loop-t : goal.invariant-loop-t

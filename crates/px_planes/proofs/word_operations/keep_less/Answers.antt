@@ -1,11 +1,6 @@
 use Rattle.px_num.proofs.Basics.{◌≡◌, ◌∙◌, Bool, ℕ, pos, ◌^◌, ◌<◌, ◌%◌, length, not, nat_le, nat_lt, ap, arith, rules}
 use Rattle.px_num.proofs.Basics.{mod-eq_of_lt, nat_tests}
-use Rattle.px_asm.specs.Microprograms.{bits_of}
-use Rattle.px_lanes.specs.Lanes.{HasValue}
-use Rattle.px_macro.specs.Fields.{number_in}
-use Rattle.px_macro.specs.declared.operation.Macro.TheVariants.{KeepLess}
-use Rattle.px_pixel.specs.Acts.{kept}
-use Rattle.px_planes.specs.Pixels.{pixel_in}
+use Rattle.px_planes.proofs.Words.{bits_of, HasValue, KeepLess, kept, number_in, pixel_in}
 use Rattle.px_planes.proofs.OperationLemmas.{done_by_work}
 use Rattle.px_planes.proofs.word_operations.keep_less.Goals as goal
 

@@ -1,8 +1,5 @@
 use Rattle.px_num.proofs.Basics.{◌++◌, ◌∙◌, ap, arith}
-use Rattle.px_array.specs.Arrays.{pixel_of}
-use Rattle.px_num.specs.Bits.{bit_at}
-use Rattle.px_playing.specs.Memories.{bit_digit, digits_of}
-use Rattle.px_listing.proofs.RowLaws.{made_more}
+use Rattle.px_playing.proofs.Words.{bit_at, bit_digit, digits_of, made_more, pixel_of}
 use Rattle.px_playing.proofs.memory.memory_digits.Goals as goal
 
 pub loop-at-preserved : goal.loop-at-preserved

@@ -1,6 +1,5 @@
 use Rattle.px_num.proofs.Basics.{◌≡◌, length}
-use Rattle.px_array.specs.Arrays.{pixel_of}
-use Rattle.px_playing.specs.Memories.{digits_of}
+use Rattle.px_playing.proofs.Words.{digits_of, pixel_of}
 use Rattle.px_playing.proofs.memory.memory_digits.Given as goal
 
 abbrev pub invariant-loop-at : goal.invariant-loop-at

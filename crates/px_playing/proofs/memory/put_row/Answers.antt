@@ -1,10 +1,5 @@
 use Rattle.px_num.proofs.Basics.{◌+◌, ◌-◌, ◌<◌, ℕ, List, ◌∙◌, arith, flat_map, range_with_len}
-use Rattle.px_array.specs.Arrays.{pixel_of}
-use Rattle.px_asm.specs.Microprograms.{bits_of}
-use Rattle.px_playing.specs.Memories.{line_of_pixel}
-use Rattle.px_listing.proofs.PieceLaws.{puts_both, puts_cut}
-use Rattle.px_listing.proofs.RowLaws.{made_cut, made_more}
-use Rattle.px_io.proofs.ToldLaws.{on_err}
+use Rattle.px_playing.proofs.Words.{bits_of, line_of_pixel, made_cut, made_more, on_err, pixel_of, puts_both, puts_cut}
 use Rattle.px_playing.proofs.memory.put_row.Goals as goal
 
 pub returns-in_err-put-clause-err : goal.returns-in_err-put-clause-err

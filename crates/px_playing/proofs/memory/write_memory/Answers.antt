@@ -1,11 +1,6 @@
 use Rattle.px_num.proofs.Basics.{◌≡◌, ◌+◌, ◌-◌, ◌^◌, ◌<◌, ℕ, List, [], ◌∙◌, ap, sym, arith, flat_map, range_with_len}
-use Rattle.std.proofs.lemmas.List.{append-nil}
-use Rattle.px_array.specs.Arrays.{pixel_of}
-use Rattle.px_asm.specs.Microprograms.{bits_of}
-use Rattle.px_playing.specs.Memories.{row_lines}
-use Rattle.px_listing.proofs.PieceLaws.{err_cut, ok_flushed, puts_both, puts_cut}
-use Rattle.px_listing.proofs.RowLaws.{made_cut, made_more}
-use Rattle.px_io.proofs.ToldLaws.{on_err}
+use Rattle.px_playing.proofs.Words.{append-nil, bits_of, err_cut, made_cut, made_more, ok_flushed, on_err, pixel_of}
+use Rattle.px_playing.proofs.Words.{puts_both, puts_cut, row_lines}
 use Rattle.px_playing.proofs.memory.write_memory.Goals as goal
 
 pub returns-in_err-put_row-clause-err : goal.returns-in_err-put_row-clause-err

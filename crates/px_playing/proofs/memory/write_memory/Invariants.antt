@@ -1,8 +1,5 @@
 use Rattle.px_num.proofs.Basics.{◌≡◌, ◌^◌, [], flat_map, range_with_len}
-use Rattle.px_array.specs.Arrays.{pixel_of}
-use Rattle.px_asm.specs.Microprograms.{bits_of}
-use Rattle.px_playing.specs.Memories.{row_lines}
-use Rattle.px_listing.specs.Pieces.{Puts}
+use Rattle.px_playing.proofs.Words.{bits_of, pixel_of, Puts, row_lines}
 use Rattle.px_playing.proofs.memory.write_memory.Given as goal
 
 abbrev pub invariant-loop-y : goal.invariant-loop-y

@@ -1,8 +1,6 @@
 use Rattle.px_num.proofs.Basics.{◌≡◌, ◌-◌, length, take, flat_map}
+use Rattle.px_playing.proofs.Words.{macro_line, passes, Puts}
 use Rattle.px_sched.specs.Cursors.{Stands}
-use Rattle.px_sched.specs.Passes.{passes}
-use Rattle.px_listing.specs.Listings.{macro_line}
-use Rattle.px_listing.specs.Pieces.{Puts}
 use Rattle.px_playing.proofs.passes.put_passes.Given as goal
 
 abbrev pub decreases-loop-m : goal.decreases-loop-m

@@ -1,14 +1,11 @@
 use Rattle.px_num.proofs.Basics.{arith, flat_map}
-use Rattle.px_model.specs.Grids.{exponent_of}
-use Rattle.px_sched.specs.Passes.{passes}
-use Rattle.px_listing.specs.Listings.{end_line, listing_head, macro_line}
+use Rattle.px_playing.proofs.Words.{end_line, exponent_of, listing_head, macro_line, on_err, passes, passes_are_few}
 use Rattle.px_playing.proofs.PassesLemmas.{err_to_last, front_of_first, front_of_middle, ok_to_last}
 use Rattle.px_playing.proofs.PassesLemmas.{passes_lawful_in_all}
-use Rattle.px_io.proofs.ToldLaws.{on_err}
 use Rattle.px_playing.proofs.passes.write_passes.Goals as goal
 
 pub put_passes-requires-clause-few : goal.put_passes-requires-clause-few
-put_passes-requires-clause-few g c = grind arith
+put_passes-requires-clause-few g c = grind (arith, passes_are_few)
 
 pub put_passes-requires-clause-lawful : goal.put_passes-requires-clause-lawful
 put_passes-requires-clause-lawful g c = grind (arith, passes_lawful_in_all)

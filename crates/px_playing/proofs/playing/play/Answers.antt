@@ -1,9 +1,5 @@
 use Rattle.px_num.proofs.Basics.{◌∙◌, subst, ap, arith}
-use Rattle.px_array.specs.Arrays.{Device, pixel_of, zero_state}
-use Rattle.px_array.proofs.ClockLaws.{grid_of_zero_state}
-use Rattle.px_asm.specs.Microprograms.{bits_of}
-use Rattle.px_macro.specs.Macros.{after_macros}
-use Rattle.px_listing.specs.Listings.{IsListing}
+use Rattle.px_playing.proofs.Words.{after_macros, bits_of, Device, grid_of_zero_state, IsListing, pixel_of, zero_state}
 use Rattle.px_playing.proofs.PlayLemmas.{clocks_of_all, grid_of_played, zero_in_grid}
 use Rattle.px_playing.proofs.playing.play.Goals as goal
 

@@ -1,6 +1,5 @@
 use Rattle.px_num.proofs.Basics.{sym, ◌∙◌}
-use Rattle.px_model.specs.Cells.{depths, is_inside}
-use Rattle.px_prune.specs.Blocks.{with_block}
+use Rattle.px_prune.proofs.Words.{depths, is_inside, with_block}
 use Rattle.px_prune.proofs.ReachLemmas.{by_halves, joined_on, passed_over}
 use Rattle.px_prune.proofs.bounds.+grown.Goals as goal
 

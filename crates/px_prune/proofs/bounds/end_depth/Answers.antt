@@ -1,6 +1,5 @@
 use Rattle.px_num.proofs.Basics.{arith, ap, sym, ◌∙◌, ◌^◌, ◌≤ℤ◌, ◌<ℤ◌, pos, nat_lt, ints}
-use Rattle.px_prune.specs.Blocks.{greatest_in}
-use Rattle.px_model.specs.Cells.{cell_of, depths}
+use Rattle.px_prune.proofs.Words.{cell_of, depths, greatest_in}
 use Rattle.px_prune.proofs.DepthLemmas.{as_value, cells_before, end_small, far_cell, high_is, no_cells, value_is}
 use Rattle.px_prune.proofs.bounds.end_depth.Goals as goal
 

@@ -1,6 +1,5 @@
 use Rattle.px_num.proofs.Basics.{sym, ap, ◌∙◌, nat_le}
-use Rattle.px_prune.specs.Blocks.{least_in}
-use Rattle.px_model.specs.Cells.{cell_of, depths}
+use Rattle.px_prune.proofs.Words.{cell_of, depths, least_in}
 use Rattle.px_prune.proofs.DepthLemmas.{as_value, cells_behind, small_bits}
 use Rattle.px_prune.proofs.bounds.first_depth.Goals as goal
 

@@ -1,10 +1,9 @@
 use Rattle.px_num.proofs.Basics.{rules, sym, ◌∙◌, None, slice_index_or, YieldsList-at, YieldsList-end}
 use Rattle.px_num.proofs.Basics.{YieldsList-from_filter_map}
+use Rattle.px_prune.proofs.Words.{boxes_in, pruned}
 use Rattle.std.proofs.Common.{tests}
 use Rattle.std.proofs.lemmas.Iterator.{YieldsList-from_slice}
 use Rattle.std.proofs.lemmas.List.{map-id}
-use Rattle.px_normal.specs.Live.{boxes_in}
-use Rattle.px_prune.specs.Kept.{pruned}
 use Rattle.px_prune.proofs.PruningLemmas.{kept_fewer}
 use Rattle.px_prune.proofs.plan.kept_products.Goals as goal
 

@@ -68,12 +68,3 @@ loop-block-preserved c =
           )
           ((s.stepped (j / 64) in_block).each (j % 64) in_word);
     }
-
-pub returns-clause-target : goal.returns-clause-target
-returns-clause-target c p within = c.loop-block.invariant.target p (omega (arith, c.requires.blocks))
-
-pub returns-clause-first : goal.returns-clause-first
-returns-clause-first c p within = c.loop-block.invariant.first p (omega (arith, c.requires.blocks))
-
-pub returns-clause-second : goal.returns-clause-second
-returns-clause-second c p within = c.loop-block.invariant.second p (omega (arith, c.requires.blocks))

@@ -1,5 +1,9 @@
-use Rattle.px_rows.proofs.WordLemmas.{majority_law}
 use Rattle.px_rows.proofs.words.majority_word.Goals as goal
+use Rattle.px_num.proofs.Basics.{arith}
+use Rattle.px_rows.proofs.BitLaws.{bit-xor}
+use Rattle.px_num.proofs.Basics.{bit_and}
+use Rattle.px_num.proofs.Basics.{bit_xor}
+use Rattle.px_rows.proofs.BitLaws.{bit-and}
 
 pub returns : goal.returns
-returns c = majority_law c.args.carry c.args.other c.args.value c.args.turn
+returns c = grind (arith, bit-xor, bit_and, bit_xor, bit-and)

@@ -1,6 +1,5 @@
 use Rattle.px_num.proofs.Basics.{◌≡◌, ◌+◌, ◌++◌, take}
-use Rattle.arrayvec.specs.ArrayVec.{array_vec_len}
-use Rattle.px_sched.specs.Passes.{literals_of}
+use Rattle.px_sched.proofs.Words.{array_vec_len, literals_of}
 use Rattle.px_sched.proofs.literal.push_literals.Given as goal
 
 abbrev pub invariant-loop-solid : goal.invariant-loop-solid

@@ -1,10 +1,7 @@
 use Rattle.px_num.proofs.Basics.{true, ◌∙◌, ◌-◌, ◌^◌, [], ◌∷◌, ◌++◌, ap, get_or, refl}
-use Rattle.px_face.specs.Faces.{face_number, face_plane}
+use Rattle.px_sched.proofs.Words.{deep_part, depths_of, end_of, face_number, face_plane, fraction_part, keep_covered}
+use Rattle.px_sched.proofs.Words.{number_part, plus, where_fraction}
 use Rattle.px_macro.specs.declared.operation.Macro.TheVariants as m
-use Rattle.px_model.specs.Cells.{depths_of, end_of}
-use Rattle.px_num.specs.Forms.{plus}
-use Rattle.px_sched.specs.Layouts.{deep_part, fraction_part, number_part}
-use Rattle.px_sched.specs.Passes.{keep_covered, where_fraction}
 use Rattle.px_sched.proofs.step.candidate.Goals as goal
 
 pub returns-then-is_edge : goal.returns-then-is_edge

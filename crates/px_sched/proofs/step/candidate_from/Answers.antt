@@ -1,6 +1,5 @@
 use Rattle.px_num.proofs.Basics.{arith}
-use Rattle.px_sched.proofs.StepLemmas.{candidate_more}
 use Rattle.px_sched.proofs.step.candidate_from.Goals as goal
 
 pub returns-then-face-candidates_end-clause-left : goal.returns-then-face-candidates_end-clause-left
-returns-then-face-candidates_end-clause-left c = grind (arith, candidate_more)
+returns-then-face-candidates_end-clause-left c = grind arith

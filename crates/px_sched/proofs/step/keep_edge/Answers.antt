@@ -1,4 +1,4 @@
-use Rattle.px_num.proofs.Basics.{◌∙◌, ◌-◌, ap, arith, get_or, subst}
+use Rattle.px_num.proofs.Basics.{arith}
 use Rattle.px_face.specs.Edges.{edges}
 use Rattle.px_sched.proofs.StepLemmas.{sign_of_edge}
 use Rattle.px_sched.proofs.step.keep_edge.Goals as goal

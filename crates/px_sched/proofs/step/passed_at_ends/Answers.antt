@@ -1,7 +1,5 @@
 use Rattle.px_num.proofs.Basics.{ap}
-use Rattle.px_model.specs.Cells.{depths_of, end_of}
-use Rattle.px_sched.specs.Layouts.{LayoutView}
-use Rattle.px_sched.specs.Passes.{solid_of}
+use Rattle.px_sched.proofs.Words.{depths_of, end_of, LayoutView, solid_of}
 use Rattle.px_sched.proofs.StepLemmas.{passed_operation}
 use Rattle.px_sched.proofs.step.passed_at_ends.Goals as goal
 

@@ -1,9 +1,7 @@
 use Rattle.px_num.proofs.Basics.{true, [], ◌∷◌, refl}
-use Rattle.px_macro.specs.declared.operation.Macro.TheVariants as m
-use Rattle.px_model.specs.Cells.{depths_of, end_of}
-use Rattle.px_sched.specs.Layouts.{deep_part}
-use Rattle.px_sched.specs.Passes.{solid_of}
+use Rattle.px_sched.proofs.Words.{deep_part, depths_of, end_of, solid_of}
 use Rattle.px_sched.proofs.StepLemmas.{passed_operation}
+use Rattle.px_macro.specs.declared.operation.Macro.TheVariants as m
 use Rattle.px_sched.proofs.step.where_passed.Goals as goal
 
 pub returns-then-is_edge : goal.returns-then-is_edge

@@ -1,17 +1,16 @@
-use Rattle.px_num.proofs.Basics.{◌≡◌, ◌+◌, ◌≤◌, List, ℕ, take}
+use Rattle.px_num.proofs.Basics.{◌≡◌, ◌+◌, ◌++◌, ◌≤◌, List, ℕ, take}
 use Rattle.px_debug.specs.Moves.{Fits}
-use Rattle.px_session.specs.Buffers.{short}
-use Rattle.px_session.specs.Sessions.{stand}
-use Rattle.px_session.specs.Turns.{Fed, typed}
+use Rattle.px_session.specs.Sessions.{Stand, stand}
+use Rattle.px_session.specs.Turns.{Fed}
 use Rattle.px_debug.specs.declared.session.Going.TheVariants as going
 use Rattle.px_session.proofs.feed.feed.Given as goal
 
 abbrev pub invariant-loop-byte : goal.invariant-loop-byte
 invariant-loop-byte g l = record {
   fits : Fits g.A.Array.BITS l.session (g.A.Array.device l.array) (g.A.Array.slots l.array);
-  fed : (line : List ℕ) → l.fn.held.items ≡ short line
-      → Fed going.More g.A.Array.BITS (typed line (take l.byte-index l.bytes))
-      (stand l.fn.session (g.A.Array.work l.fn.array) (g.O.Sink.state l.fn.out))
+  fed : (from : Stand) (text : List ℕ) → Fed going.More g.A.Array.BITS text from
+      (stand l.fn.session (g.A.Array.work l.fn.array) (g.O.Sink.state l.fn.out)) l.fn.held.items
+      → Fed going.More g.A.Array.BITS (text ++ take l.byte-index l.bytes) from
       (stand l.session (g.A.Array.work l.array) (g.O.Sink.state l.out)) l.held.items;
   count : l.session.lines ≤ l.fn.session.lines + l.byte-index;
   calm : (g.O.Sink.state l.out).faults ≡ (g.O.Sink.state l.fn.out).faults;

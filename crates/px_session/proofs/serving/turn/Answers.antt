@@ -1,92 +1,40 @@
-use Rattle.px_num.proofs.Basics.{◌≤◌, length, take, drop, arith, refl}
-use Rattle.std.proofs.lemmas.List.{length-take}
+use Rattle.px_num.proofs.Basics.{◌≤◌, ◌-◌, arith, ap, drop, length, refl, take, err_from_is_err_and}
+use Rattle.px_num.proofs.Basics.{length-take, take-append-le}
 use Rattle.px_asked.proofs.AskLaws.{read_gave}
-use Rattle.px_session.proofs.TurningLemmas.{caught_fed, prompts_ask, seen_read, stopped_broke, stopped_end}
-use Rattle.px_session.proofs.TurningLemmas.{stopped_fault, stopped_last, stopped_long, stopped_quit}
+use Rattle.px_session.proofs.TurningLemmas.{caught_fed, prompts_ask, stopped_fault, stopped_in}
 use Rattle.px_session.proofs.serving.turn.Goals as goal
 
-pub returns-in_default-clause-stopped : goal.returns-in_default-clause-stopped
-returns-in_default-clause-stopped g c = λ b caught.
-    stopped_fault _ b _ _ _ _ caught c.requires.some c.in_default.ensures.bytes refl
-    (c.in_default.ensures.cause.failed, refl)
+pub returns-in_default-clause-serves : goal.returns-in_default-clause-serves
+returns-in_default-clause-serves g c b caught =
+    stopped_fault _ b _ _ _ _ caught c.requires.some c.in_default.ensures.bytes refl c.in_default.ensures.cause.failed
     (prompts_ask _ b _ _ _ _ _ caught c.requires.some c.ask.ensures.noted (read_gave _ _ _ _ c.ask.ensures.bytes))
 
-pub returns-in-Ok-finish_line-clause-stopped : goal.returns-in-Ok-finish_line-clause-stopped
-returns-in-Ok-finish_line-clause-stopped g c = λ b caught.
-    stopped_end _ b _ _ _ _ (take c.in-Ok.count c.ask.new.buf) caught c.requires.some (rw c.if-count-eq0.true refl)
-    c.in-Ok.ensures.bytes.0 (c.in-Ok.ensures.bytes.1 c.if-count-eq0.true (omega (
-      arith,
-      c.ask.auto.buf,
-      c.min-room.ensures,
-      length-take c.min-room.result c.args.piece.now,
-    )))
-    (c.in-Ok-finish_line.ensures.ok _ (caught.fed.held refl))
-    (c.in-Ok.ensures.cause.calm, c.in-Ok-finish_line.ensures.cause.calm)
-    (prompts_ask _ b _ _ _ _ _ caught c.requires.some c.ask.ensures.noted (read_gave _ _ _ _ c.ask.ensures.bytes))
+pub returns-in_err-answer_piece-clause-serves : goal.returns-in_err-answer_piece-clause-serves
+returns-in_err-answer_piece-clause-serves g c b caught =
+    let p = err_from_is_err_and c.from_residual.result c.from_residual.ensures.1 in
+    let n = c.in-Ok.count in
+    let buf = c.ask.new.buf in
+    let room = length-take c.min-room.result c.args.piece.now in
+    let bound : n ≤ length buf = omega (arith, c.in-Ok.ensures.bound) in
+    let same = take-append-le n buf (drop c.min-room.result c.args.piece.now) bound in
+    rw (p.1, p.2) (stopped_in _ _ b c.args.limit _ _ _ (take n buf) caught c.requires.some
+    (omega (arith, length-take n buf, room, c.ask.auto.buf, c.min-room.ensures)) c.in-Ok.ensures.bytes.0
+    (λ none. c.in-Ok.ensures.bytes.1 (omega (arith, ap length none, length-take n buf, bound))
+    (omega (arith, c.ask.auto.buf, c.min-room.ensures, room)))
+    (rw same at c.in_err-answer_piece.ensures.ended)
+    (rw same at (c.in_err-answer_piece.ensures.served b.was.at _ caught.fed)) c.in-Ok.ensures.cause.calm
+    c.in_err-answer_piece.ensures.cause
+    (prompts_ask _ b _ _ _ _ _ caught c.requires.some c.ask.ensures.noted (read_gave _ _ _ _ c.ask.ensures.bytes)))
 
-pub returns-in-Err-clause-stopped : goal.returns-in-Err-clause-stopped
-returns-in-Err-clause-stopped g c = λ b caught.
-    stopped_last _ b _ _ _ _ (take c.in-Ok.count c.ask.new.buf) caught c.requires.some (rw c.if-count-eq0.true refl)
-    c.in-Ok.ensures.bytes.0 (c.in-Err.ensures.err _ (caught.fed.held refl))
-    (c.in-Err.ensures.cause.failed, c.in-Ok.ensures.cause.calm)
-    (prompts_ask _ b _ _ _ _ _ caught c.requires.some c.ask.ensures.noted (read_gave _ _ _ _ c.ask.ensures.bytes))
-
-pub returns-then-count-limit-clause-caught : goal.returns-then-count-limit-clause-caught
-returns-then-count-limit-clause-caught g c = λ b caught.
+pub returns-clause-caught : goal.returns-clause-caught
+returns-clause-caught g c b caught =
     let n = c.in-Ok.count in
     let buf = c.ask.new.buf in
     let bound : n ≤ length buf = omega (arith, c.in-Ok.ensures.bound) in
-    let fed = seen_read c.args.limit n c.min.result buf (drop c.min-room.result c.args.piece.now) bound c.min.ensures in
-    caught_fed _ b _ _ _ _ _ _ (take n buf) _ caught (omega (arith, c.if-count-limit.true))
-    (omega (arith, length-take n buf, c.if-count-limit.true)) c.in-Ok.ensures.noted c.in-Ok.ensures.bytes.0 fed
-    (rw c.in-Ok-More.field-0-is at (c.in-Ok-More.ensures.ok _ (caught.fed.held refl)))
-    c.in-Ok.ensures.cause.calm c.in-Ok-More.ensures.cause.calm
-
-pub returns-else-count-limit-clause-stopped : goal.returns-else-count-limit-clause-stopped
-returns-else-count-limit-clause-stopped g c = λ b caught.
-    let n = c.in-Ok.count in
-    let buf = c.ask.new.buf in
-    let bound : n ≤ length buf = omega (arith, c.in-Ok.ensures.bound) in
-    let fed = seen_read c.args.limit n c.min.result buf (drop c.min-room.result c.args.piece.now) bound c.min.ensures in
-    stopped_long _ b _ _ _ _ _ (take n buf) _ caught c.requires.some (omega (
-      arith,
-      length-take n buf,
-      length-take c.min-room.result c.args.piece.now,
-      c.ask.auto.buf,
-      c.min-room.ensures,
-      c.if-count-limit.false,
-    )) c.in-Ok.ensures.bytes.0 fed (rw c.in-Ok-More.field-0-is at (c.in-Ok-More.ensures.ok _ (caught.fed.held refl)))
-    (c.in-Ok.ensures.cause.calm, c.in-Ok-More.ensures.cause.calm)
-    (prompts_ask _ b _ _ _ _ _ caught c.requires.some c.ask.ensures.noted (read_gave _ _ _ _ c.ask.ensures.bytes))
-
-pub returns-in-Ok-Quit-clause-stopped : goal.returns-in-Ok-Quit-clause-stopped
-returns-in-Ok-Quit-clause-stopped g c = λ b caught.
-    let n = c.in-Ok.count in
-    let buf = c.ask.new.buf in
-    let bound : n ≤ length buf = omega (arith, c.in-Ok.ensures.bound) in
-    let fed = seen_read c.args.limit n c.min.result buf (drop c.min-room.result c.args.piece.now) bound c.min.ensures in
-    stopped_quit _ b _ _ _ _ _ (take n buf) _ caught c.requires.some (omega (
-      arith,
-      length-take n buf,
-      length-take c.min-room.result c.args.piece.now,
-      c.ask.auto.buf,
-      c.min-room.ensures,
-    )) c.in-Ok.ensures.bytes.0 fed (rw c.in-Ok-Quit.field-0-is at (c.in-Ok-Quit.ensures.ok _ (caught.fed.held refl)))
-    (c.in-Ok.ensures.cause.calm, c.in-Ok-Quit.ensures.cause.calm)
-    (prompts_ask _ b _ _ _ _ _ caught c.requires.some c.ask.ensures.noted (read_gave _ _ _ _ c.ask.ensures.bytes))
-
-pub returns-in-Err-feed-clause-stopped : goal.returns-in-Err-feed-clause-stopped
-returns-in-Err-feed-clause-stopped g c = λ b caught.
-    let n = c.in-Ok.count in
-    let buf = c.ask.new.buf in
-    let bound : n ≤ length buf = omega (arith, c.in-Ok.ensures.bound) in
-    let fed = seen_read c.args.limit n c.min.result buf (drop c.min-room.result c.args.piece.now) bound c.min.ensures in
-    stopped_broke _ b _ _ _ _ (take n buf) _ caught c.requires.some (omega (
-      arith,
-      length-take n buf,
-      length-take c.min-room.result c.args.piece.now,
-      c.ask.auto.buf,
-      c.min-room.ensures,
-    )) c.in-Ok.ensures.bytes.0 fed (c.in-Err-feed.ensures.err _ (caught.fed.held refl))
-    (c.in-Err-feed.ensures.cause.failed, c.in-Ok.ensures.cause.calm)
-    (prompts_ask _ b _ _ _ _ _ caught c.requires.some c.ask.ensures.noted (read_gave _ _ _ _ c.ask.ensures.bytes))
+    let same = take-append-le n buf (drop c.min-room.result c.args.piece.now) bound in
+    let some = rw same at c.in_ok-answer_piece.ensures.some in
+    caught_fed _ b c.args.limit (c.args.limit - n) _ _ _ _ (take n buf) caught
+    (omega (arith, some.1, length-take n buf, bound)) (omega (arith, some.1, length-take n buf, bound))
+    c.in-Ok.ensures.noted c.in-Ok.ensures.bytes.0
+    (rw same at (c.in_ok-answer_piece.ensures.fed b.was.at _ caught.fed)) c.in-Ok.ensures.cause.calm
+    c.in_ok-answer_piece.ensures.calm

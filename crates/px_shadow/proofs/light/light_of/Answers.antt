@@ -1,7 +1,6 @@
 use Rattle.px_num.proofs.Basics.{rules, arith, ap, ◌==◌, ◌∙◌, YieldsList-at, YieldsList-end, YieldsList-from_filter}
 use Rattle.px_num.proofs.Basics.{YieldsList-from_slice_split, before_first}
-use Rattle.px_text.specs.Text.{is_blank, is_some_byte, words_of}
-use Rattle.px_shadow.specs.Saying.{said_of}
+use Rattle.px_shadow.proofs.Words.{is_blank, is_some_byte, said_of, words_of}
 use Rattle.px_shadow.proofs.light.light_of.Goals as goal
 
 pub returns : goal.returns

@@ -1,8 +1,7 @@
 use Rattle.px_num.proofs.Basics.{rules, ◌≡◌, ◌<◌, ◌+◌, ◌==◌, ◌∙◌, [], ◌∷◌, ◌++◌, length, arith, length-append}
 use Rattle.px_num.proofs.Basics.{slice_split, YieldsList-at, YieldsList-end, YieldsList-turn}
 use Rattle.px_num.proofs.Basics.{YieldsList-from_slice_split, length-map}
-use Rattle.px_text.specs.Text.{words_of}
-use Rattle.px_shadow.specs.Saying.{pieces_of}
+use Rattle.px_shadow.proofs.Words.{pieces_of, words_of}
 use Rattle.px_shadow.proofs.LineLemmas.{all_read, line_at, step_bad, step_each, step_good}
 use Rattle.px_shadow.proofs.light.read_pieces.Goals as goal
 

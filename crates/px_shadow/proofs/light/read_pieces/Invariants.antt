@@ -1,8 +1,5 @@
 use Rattle.px_num.proofs.Basics.{◌≡◌, ◌+◌, All, length, take}
-use Rattle.px_sets.specs.Sets.{IsBelow}
-use Rattle.px_show.proofs.JudgedLaws.{AreGood}
-use Rattle.px_shadow.specs.LightLines.{light_fault_behind, lights_of}
-use Rattle.px_shadow.specs.Saying.{pieces_of}
+use Rattle.px_shadow.proofs.Words.{AreGood, IsBelow, light_fault_behind, lights_of, pieces_of}
 use Rattle.px_shadow.proofs.light.read_pieces.Given as goal
 
 -- no line so far is bad, and their lights are read

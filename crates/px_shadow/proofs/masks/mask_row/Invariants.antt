@@ -1,7 +1,6 @@
 use Rattle.px_num.proofs.Basics.{◌≡◌, ◌*◌}
+use Rattle.px_shadow.proofs.Words.{row_bytes, strip_number}
 use Rattle.arrayvec.specs.ArrayVec.{array_vec_len}
-use Rattle.px_frame.specs.Rows.{row_bytes}
-use Rattle.px_frame.specs.Strips.{strip_number}
 use Rattle.px_shadow.proofs.masks.mask_row.Given as goal
 
 abbrev pub invariant-loop-x : goal.invariant-loop-x

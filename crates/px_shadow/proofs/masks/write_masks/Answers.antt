@@ -1,9 +1,6 @@
 use Rattle.px_num.proofs.Basics.{◌≡◌, ◌+◌, ◌^◌, ◌<◌, arith}
+use Rattle.px_shadow.proofs.Words.{header, other_row, row_bytes, rows_broken, rows_grown, stored_number}
 use Rattle.px_io.proofs.ToldLaws.{on_err}
-use Rattle.px_frame.specs.Picture.{header}
-use Rattle.px_frame.specs.Rows.{row_bytes}
-use Rattle.px_frame.proofs.RowLaws.{other_row, rows_broken, rows_grown}
-use Rattle.px_shadow.specs.Stored.{stored_number}
 use Rattle.px_shadow.proofs.MaskLemmas.{row_stored}
 use Rattle.px_shadow.proofs.masks.write_masks.Goals as goal
 

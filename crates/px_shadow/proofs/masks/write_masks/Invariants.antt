@@ -1,9 +1,5 @@
 use Rattle.px_num.proofs.Basics.{◌≡◌, ◌≢◌, ◌%◌, ◌++◌, flat_map, range_with_len}
-use Rattle.px_io.specs.Told.{TakesAll}
-use Rattle.px_frame.specs.Picture.{header}
-use Rattle.px_frame.specs.Rows.{row_bytes}
-use Rattle.px_frame.specs.Strips.{HoldsRow}
-use Rattle.px_shadow.specs.Stored.{stored_number}
+use Rattle.px_shadow.proofs.Words.{header, HoldsRow, row_bytes, stored_number, TakesAll}
 use Rattle.px_shadow.proofs.masks.write_masks.Given as goal
 
 abbrev pub invariant-loop-y : goal.invariant-loop-y

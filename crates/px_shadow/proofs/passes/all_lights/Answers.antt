@@ -1,6 +1,5 @@
 use Rattle.px_num.proofs.Basics.{◌+◌, drop, get_or, subst, drop_all}
-use Rattle.px_shadow.specs.Carrying.{IsRestOf, view_by}
-use Rattle.px_shadow.specs.ShadowPasses.{light_passes, passes_from, shadow_passes}
+use Rattle.px_shadow.proofs.Words.{IsRestOf, light_passes, passes_from, shadow_passes, view_by}
 use Rattle.px_shadow.proofs.DeviceLemmas.{left_first, left_next, none_left}
 use Rattle.px_shadow.proofs.StepLemmas.{next_lights, no_light}
 use Rattle.px_shadow.proofs.passes.all_lights.Goals as goal

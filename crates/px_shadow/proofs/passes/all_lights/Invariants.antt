@@ -1,6 +1,5 @@
 use Rattle.px_num.proofs.Basics.{◌+◌, drop}
-use Rattle.px_shadow.specs.Carrying.{IsRestOf, view_by}
-use Rattle.px_shadow.specs.ShadowPasses.{passes_from, shadow_passes}
+use Rattle.px_shadow.proofs.Words.{IsRestOf, passes_from, shadow_passes, view_by}
 use Rattle.px_shadow.proofs.passes.all_lights.Given as goal
 
 -- the lights from one on are left

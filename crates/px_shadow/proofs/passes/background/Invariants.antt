@@ -1,6 +1,5 @@
 use Rattle.px_num.proofs.Basics.{false, [], ◌∷◌, ◌++◌, drop, flat_map, range_with_len}
-use Rattle.px_shadow.specs.Carrying.{IsRestOf, view_by}
-use Rattle.px_shadow.specs.ShadowPasses.{background_passes, light_bit}
+use Rattle.px_shadow.proofs.Words.{background_passes, IsRestOf, light_bit, view_by}
 use Rattle.px_shadow.proofs.StepLemmas.{bit_test}
 use Rattle.px_macro.specs.declared.operation.Macro.TheVariants as m
 use Rattle.px_shadow.proofs.passes.background.Given as goal

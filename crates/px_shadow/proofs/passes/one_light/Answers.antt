@@ -1,10 +1,6 @@
 use Rattle.px_num.proofs.Basics.{◌<◌, true, [], ◌∷◌, ℕ, List, length, get_or, ap, subst, sym, arith, ◌∙◌}
-use Rattle.px_macro.specs.declared.operation.Macro.{Macro}
-use Rattle.px_sets.specs.Sets.{solids}
-use Rattle.px_model.specs.Cells.{depths_of, end_of}
-use Rattle.px_sched.specs.Passes.{solid_of}
-use Rattle.px_shadow.specs.Carrying.{CanCarryOut, CarriesOut, view_by}
-use Rattle.px_shadow.specs.ShadowPasses.{light_bit, light_passes, solid_passes}
+use Rattle.px_shadow.proofs.Words.{CanCarryOut, CarriesOut, depths_of, end_of, light_bit, light_passes, Macro}
+use Rattle.px_shadow.proofs.Words.{solid_of, solid_passes, solids, view_by}
 use Rattle.px_shadow.proofs.DeviceLemmas.{all_left, can_first, each_first, each_next, left_next}
 use Rattle.px_shadow.proofs.StepLemmas.{all_known, same_solid}
 use Rattle.px_macro.specs.declared.operation.Macro.TheVariants as m

@@ -1,9 +1,6 @@
 use Rattle.px_num.proofs.Basics.{◌++◌, drop, flat_map}
-use Rattle.px_sets.specs.Sets.{solids}
-use Rattle.px_model.specs.Cells.{depths_of, end_of}
-use Rattle.px_sched.specs.Passes.{solid_of}
-use Rattle.px_shadow.specs.Carrying.{IsRestOf, view_by}
-use Rattle.px_shadow.specs.ShadowPasses.{background_passes, light_passes, solid_passes}
+use Rattle.px_shadow.proofs.Words.{background_passes, depths_of, end_of, IsRestOf, light_passes, solid_of}
+use Rattle.px_shadow.proofs.Words.{solid_passes, solids, view_by}
 use Rattle.px_shadow.proofs.passes.one_light.Given as goal
 
 -- the solids from one on are left

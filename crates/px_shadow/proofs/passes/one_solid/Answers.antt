@@ -1,8 +1,6 @@
 use Rattle.px_num.proofs.Basics.{nat_tests, common_steps, ◌≡◌, ◌<◌, false, [], ◌∷◌, ap, arith, range_with_len}
 use Rattle.px_num.proofs.Basics.{length-range_with_len}
-use Rattle.px_face.specs.Faces.{face_count}
-use Rattle.px_sched.specs.Layouts.{LayoutView}
-use Rattle.px_shadow.specs.ShadowPasses.{solid_passes, stored_turn}
+use Rattle.px_shadow.proofs.Words.{face_count, LayoutView, solid_passes, stored_turn}
 use Rattle.px_shadow.proofs.DeviceLemmas.{all_left, can_first, each_done, each_first, each_next, last_made, left_next}
 use Rattle.px_shadow.proofs.StepLemmas.{number_at}
 use Rattle.px_macro.specs.declared.operation.Macro.TheVariants as m

@@ -1,7 +1,5 @@
 use Rattle.px_num.proofs.Basics.{false, true, [], ◌∷◌, ◌++◌, drop, flat_map, range_with_len}
-use Rattle.px_face.specs.Faces.{face_count}
-use Rattle.px_shadow.specs.Carrying.{IsRestOf, view_by}
-use Rattle.px_shadow.specs.ShadowPasses.{light_bit, solid_passes, stored_turn}
+use Rattle.px_shadow.proofs.Words.{face_count, IsRestOf, light_bit, solid_passes, stored_turn, view_by}
 use Rattle.px_macro.specs.declared.operation.Macro.TheVariants as m
 use Rattle.px_shadow.proofs.passes.one_solid.Given as goal
 

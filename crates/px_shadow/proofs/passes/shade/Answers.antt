@@ -1,9 +1,5 @@
 use Rattle.px_num.proofs.Basics.{◌≤◌, List, length, ap, subst, sym, arith, ◌∙◌}
-use Rattle.px_sets.specs.declared.set.SolidSet.{SolidSet}
-use Rattle.px_sched.specs.Layouts.{layout_of}
-use Rattle.px_shadow.specs.declared.passes.TheConstants.{MAX_LIGHTS}
-use Rattle.px_shadow.specs.Carrying.{CanCarryOut, carried_out}
-use Rattle.px_shadow.specs.ShadowPasses.{need_with, shadow_passes}
+use Rattle.px_shadow.proofs.Words.{CanCarryOut, carried_out, layout_of, MAX_LIGHTS, need_with, shadow_passes, SolidSet}
 use Rattle.px_shadow.specs.Shaded.{IsShaded}
 use Rattle.px_shadow.proofs.ArrayLemmas.{can_shade, clocks_made, is_shaded}
 use Rattle.px_shadow.proofs.passes.shade.Given.{Over}

@@ -1,9 +1,6 @@
-use Rattle.px_shadow.specs.Lights.{mask_image}
 use Rattle.px_num.proofs.Basics.{err_from_is_err_and}
-use Rattle.px_outcome.proofs.StopLaws.{stop_serves}
-use Rattle.px_shadow.specs.Shadows.{lit_drawable}
+use Rattle.px_shadow.proofs.Words.{lit_drawable, mask_image, serves_front, serves_whole, stop_serves}
 use Rattle.px_shadow.proofs.ShadowLemmas.{lit_is, stop_shades}
-use Rattle.px_outcome.proofs.RunLaws.{serves_front, serves_whole}
 use Rattle.px_shadow.proofs.shadow.shade_scene.Goals as goal
 
 pub returns-in-Ok-clause-serves : goal.returns-in-Ok-clause-serves

@@ -1,6 +1,5 @@
 use Rattle.px_num.proofs.Basics.{length, reverse}
-use Rattle.px_expr.specs.Postorder.{nodes_of}
-use Rattle.px_model.specs.Scenes.{names_of}
+use Rattle.px_show.proofs.Words.{names_of, nodes_of}
 use Rattle.px_show.proofs.GapLemmas.{IsPrintedTo}
 use Rattle.px_show.proofs.print.printed_back.Given as goal
 

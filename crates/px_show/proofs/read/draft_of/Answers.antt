@@ -1,9 +1,6 @@
 use Rattle.px_num.proofs.Basics.{arith, ◌≡◌, ◌∙◌, Err, Some, [], ap, get_or, inr, map, sym, take, nat_tests}
 use Rattle.px_num.proofs.Basics.{common_steps}
-use Rattle.px_text.specs.LentWords.{now_of}
-use Rattle.px_text.specs.Text.{words_of}
-use Rattle.px_text.proofs.LineLaws.{words_among, words_here}
-use Rattle.px_show.specs.Judged.{fault_at, refused}
+use Rattle.px_show.proofs.Words.{fault_at, now_of, refused, words_among, words_here, words_of}
 use Rattle.px_show.proofs.JudgedLaws.{first_is, good_next, one_more}
 use Rattle.px_show.proofs.read.draft_of.Goals as goal
 

@@ -1,7 +1,5 @@
 use Rattle.px_num.proofs.Basics.{◌≡◌, length, map, sym, ◌∙◌, None, length-map}
-use Rattle.px_model.specs.Scenes.{names_of}
-use Rattle.px_show.specs.Expressions.{parts_of}
-use Rattle.px_show.specs.Stacks.{token_of}
+use Rattle.px_show.proofs.Words.{names_of, parts_of, token_of}
 use Rattle.px_show.proofs.ShowLaws.{small_steps}
 use Rattle.px_show.proofs.show.read_show.Goals as goal
 

@@ -1,6 +1,5 @@
 use Rattle.px_num.proofs.Basics.{◌≡◌, ◌+◌, drop}
-use Rattle.px_model.specs.Scenes.{names_of}
-use Rattle.px_show.specs.Expressions.{place_of}
+use Rattle.px_show.proofs.Words.{names_of, place_of}
 use Rattle.px_show.proofs.stack.place_of.Given as goal
 
 abbrev pub invariant-loop-i : goal.invariant-loop-i

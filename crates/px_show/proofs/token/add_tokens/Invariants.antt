@@ -1,6 +1,5 @@
 use Rattle.px_num.proofs.Basics.{◌≡◌, ◌++◌, length, map}
-use Rattle.px_show.specs.Expressions.{tokens_in}
-use Rattle.px_show.specs.Stacks.{token_of}
+use Rattle.px_show.proofs.Words.{token_of, tokens_in}
 use Rattle.px_show.proofs.token.add_tokens.Given as goal
 
 abbrev pub invariant-loop-token : goal.invariant-loop-token

@@ -1,6 +1,7 @@
 use Rattle.px_num.proofs.Basics.{◌≡◌, Some, sym, ◌∙◌, arith, slice_get}
 use Rattle.px_sched.specs.Passes.{passes}
 use Rattle.px_sched.specs.Layouts.{layout_of, need_of}
+use Rattle.px_macro.proofs.MacroLemmas.{is_lawful_in_more}
 use Rattle.px_control.proofs.ProgramLemmas.{good_program}
 use Rattle.px_control.proofs.StepLemmas.{lawful_here}
 use Rattle.px_playing.specs.PassesText.{passes_listing}
@@ -12,71 +13,51 @@ use Rattle.px_state.proofs.micros.put_passes.Goals as goal
 
 pub overflow_add-end : goal.overflow_add-end
 overflow_add-end c =
-    let good = good_program c.laws_of_passes.ensures.layout c.laws_of_passes.ensures.lawful
-    c.law_of_clocks.ensures.bound
-    c.law_of_clocks.ensures.some c.args.scene.now
-    (record {
+    let good = good_program c.args.scene.now (record {
       lawful = c.laws_of_scenes.ensures.scene;
       solids = c.laws_of_scenes.ensures.solids;
-      few =
-          c.requires.few;
+      few = c.requires.few;
     }) in
     omega (arith, c.requires.within, good.clocks, same_total c.args.scene.now)
 
 pub put_micros-start-requires-clause-lawful : goal.put_micros-start-requires-clause-lawful
 put_micros-start-requires-clause-lawful c =
     let scene = c.args.scene.now in
-    let good = good_program c.laws_of_passes.ensures.layout c.laws_of_passes.ensures.lawful
-    c.law_of_clocks.ensures.bound
-    c.law_of_clocks.ensures.some scene
-    (record {
+    let good = good_program scene (record {
       lawful = c.laws_of_scenes.ensures.scene;
       solids = c.laws_of_scenes.ensures.solids;
-      few =
-          c.requires.few;
+      few = c.requires.few;
     }) in
     let here : slice_get (passes scene) c.loop-m.cursor.given ≡ Some c.in-Some.m = sym c.next_macro.ensures.operation
     ∙ c.in-Some.is in
-    c.laws_of_operations.ensures.more c.in-Some.m (need_of (layout_of scene)) 256 (omega (arith, good.bits))
+    is_lawful_in_more c.in-Some.m (need_of (layout_of scene)) 256 (omega (arith, good.bits))
     (lawful_here (need_of (layout_of scene)) (passes scene) c.loop-m.cursor.given c.in-Some.m here good.lawful)
 
 pub put_micros-start-requires-clause-grid : goal.put_micros-start-requires-clause-grid
 put_micros-start-requires-clause-grid c =
-    let good = good_program c.laws_of_passes.ensures.layout c.laws_of_passes.ensures.lawful
-    c.law_of_clocks.ensures.bound
-    c.law_of_clocks.ensures.some c.args.scene.now
-    (record {
+    let good = good_program c.args.scene.now (record {
       lawful = c.laws_of_scenes.ensures.scene;
       solids = c.laws_of_scenes.ensures.solids;
-      few =
-          c.requires.few;
+      few = c.requires.few;
     }) in
     rw (c.grid-nx.ensures.columns, c.grid-nx.ensures.rows) good.grid
 
 pub put_micros-start-requires-clause-first : goal.put_micros-start-requires-clause-first
 put_micros-start-requires-clause-first c =
-    let good = good_program c.laws_of_passes.ensures.layout c.laws_of_passes.ensures.lawful
-    c.law_of_clocks.ensures.bound
-    c.law_of_clocks.ensures.some c.args.scene.now
-    (record {
+    let good = good_program c.args.scene.now (record {
       lawful = c.laws_of_scenes.ensures.scene;
       solids = c.laws_of_scenes.ensures.solids;
-      few =
-          c.requires.few;
+      few = c.requires.few;
     }) in
     omega (arith, c.requires.within, good.clocks, same_total c.args.scene.now, c.loop-m.invariant.same)
 
 pub put_micros-start-requires-clause-start : goal.put_micros-start-requires-clause-start
 put_micros-start-requires-clause-start c =
     let scene = c.args.scene.now in
-    let good = good_program c.laws_of_passes.ensures.layout c.laws_of_passes.ensures.lawful
-    c.law_of_clocks.ensures.bound
-    c.law_of_clocks.ensures.some scene
-    (record {
+    let good = good_program scene (record {
       lawful = c.laws_of_scenes.ensures.scene;
       solids = c.laws_of_scenes.ensures.solids;
-      few =
-          c.requires.few;
+      few = c.requires.few;
     }) in
     omega (
       arith,

@@ -13,8 +13,7 @@ returns-in-Err-clause-err c =
 
 pub put_passes-requires-clause-good : goal.put_passes-requires-clause-good
 put_passes-requires-clause-good c =
-    good_program c.laws_of_passes.ensures.layout c.laws_of_passes.ensures.lawful c.law_of_clocks.ensures.bound
-    c.law_of_clocks.ensures.some c.args.scene.now (record {
+    good_program c.args.scene.now (record {
       lawful = c.laws_of_scenes.ensures.scene;
       solids = c.laws_of_scenes.ensures.solids;
       few = c.in_ok-layout.ensures.few;

@@ -1,5 +1,6 @@
 use Rattle.px_num.proofs.Basics.{◌≡◌, ◌+◌, ◌<◌, length, refl, sym, subst, ap, ◌∙◌, arith}
 use Rattle.px_asm.specs.Micros.{cycles}
+use Rattle.px_macro.proofs.MacroLemmas.{is_lawful_in_more}
 use Rattle.px_playing.specs.PassesText.{passes_listing}
 use Rattle.px_sched.specs.Layouts.{layout_of}
 use Rattle.px_sched.specs.Passes.{operations}
@@ -17,14 +18,14 @@ told-requires c =
     lawful_op c.args.scene.now c.args.purpose.now.pass c.args.step c.requires.here c.args.layout.now c.loop-at.at
     c.operation-m.result c.requires.layout
     (omega (arith, c.loop-at-test.true, c.count-count.ensures.count (layout_of c.args.scene.now)))
-    c.operation-m.ensures c.laws_of_operations.ensures.more c.requires.good
+    c.operation-m.ensures is_lawful_in_more c.requires.good
 
 pub cycles-requires-clause-lawful : goal.cycles-requires-clause-lawful
 cycles-requires-clause-lawful c =
     lawful_op c.args.scene.now c.args.purpose.now.pass c.args.step c.requires.here c.args.layout.now c.loop-at.at
     c.operation-m.result c.requires.layout
     (omega (arith, c.loop-at-test.true, c.count-count.ensures.count (layout_of c.args.scene.now)))
-    c.operation-m.ensures c.laws_of_operations.ensures.more c.requires.good
+    c.operation-m.ensures is_lawful_in_more c.requires.good
 
 pub overflow_add-operation : goal.overflow_add-operation
 overflow_add-operation c =

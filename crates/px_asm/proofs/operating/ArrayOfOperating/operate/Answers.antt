@@ -1,6 +1,5 @@
 use Rattle.px_num.proofs.Basics.{◌≡◌}
-use Rattle.px_array.proofs.ClockLaws.{grid_after_clocks}
-use Rattle.px_asm.specs.Making.{micros_on}
+use Rattle.px_asm.proofs.Words.{grid_after_clocks, micros_on}
 use Rattle.px_asm.proofs.KeptLemmas.{kept_by_micros}
 use Rattle.px_asm.proofs.operating.ArrayOfOperating.operate.Goals as goal
 

@@ -1,6 +1,5 @@
 use Rattle.px_num.proofs.Basics.{◌∙◌, ap, arith}
-use Rattle.px_array.specs.Arrays.{opened}
-use Rattle.px_control.specs.Program.{columns_of, rows_of}
+use Rattle.px_control.proofs.Words.{columns_of, opened, rows_of}
 use Rattle.px_control.proofs.StepLemmas.{at_opened}
 use Rattle.px_control.proofs.job.Job.open.Goals as goal
 

@@ -1,10 +1,5 @@
 use Rattle.px_num.proofs.Basics.{◌≡◌, ℕ, ◌*◌, ◌≤◌, take, sum_by}
-use Rattle.px_model.specs.Scenes.{SceneView}
-use Rattle.px_sched.specs.declared.step.Step.{Step}
-use Rattle.px_sched.specs.Layouts.{layout_of}
-use Rattle.px_sched.specs.Passes.{operations}
-use Rattle.px_control.specs.declared.measure.Measure.{Measure}
-use Rattle.px_control.specs.Costs.{but_edges}
+use Rattle.px_control.proofs.Words.{but_edges, layout_of, Measure, operations, SceneView, Step}
 use Rattle.px_control.proofs.measure.Measure.of_step.Given as goal
 
 -- what the first operations come to

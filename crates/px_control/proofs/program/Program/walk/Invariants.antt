@@ -1,7 +1,5 @@
 use Rattle.px_num.proofs.Basics.{◌≡◌, ◌-◌, ◌≤◌}
-use Rattle.px_array.specs.Slots.{worked}
-use Rattle.px_control.specs.Program.{IsAt}
-use Rattle.px_control.specs.Standing.{StandsFor}
+use Rattle.px_control.proofs.Words.{IsAt, StandsFor, worked}
 use Rattle.px_control.proofs.program.Program.walk.Given as goal
 
 abbrev pub decreases-loop-place : goal.decreases-loop-place

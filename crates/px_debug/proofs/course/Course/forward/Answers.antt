@@ -1,8 +1,5 @@
 use Rattle.px_num.proofs.Basics.{◌≡◌, ◌+◌, ◌-◌, ◌≤◌, ◌∙◌, inl, inr, [], ap, arith, length, take}
-use Rattle.circular_buffer.specs.Buffer.{Buffer, buffer}
-use Rattle.px_array.specs.declared.micro.Micro.{Micro}
-use Rattle.px_control.specs.Program.{program}
-use Rattle.px_debug.specs.Courses.{IsTraced}
+use Rattle.px_debug.proofs.Words.{Buffer, buffer, IsTraced, Micro, program}
 use Rattle.px_debug.specs.Marks.{last_before}
 use Rattle.px_debug.proofs.TraceLemmas.{kept_few, last_after, last_refilled}
 use Rattle.px_debug.proofs.course.Course.forward.Goals as goal

@@ -1,7 +1,5 @@
 use Rattle.px_num.proofs.Basics.{◌≡◌, ◌+◌, ◌-◌, ◌≤◌}
-use Rattle.px_control.specs.Program.{ends_after, total}
-use Rattle.px_debug.specs.Courses.{IsOnCourse, IsSameCourse, IsTraced}
-use Rattle.px_debug.specs.Moves.{after_ends}
+use Rattle.px_debug.proofs.Words.{after_ends, ends_after, IsOnCourse, IsSameCourse, IsTraced, total}
 use Rattle.px_debug.proofs.course.Course.go_ends.Given as goal
 
 abbrev pub invariant-loop : goal.invariant-loop

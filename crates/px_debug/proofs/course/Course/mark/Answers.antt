@@ -1,6 +1,5 @@
 use Rattle.px_num.proofs.Basics.{◌≡◌, ◌*◌, ◌∙◌, ap, arith, subst, sym}
-use Rattle.px_control.specs.Program.{IsAt}
-use Rattle.px_control.specs.declared.place.Place.{Place}
+use Rattle.px_debug.proofs.Words.{IsAt, Place}
 use Rattle.px_debug.proofs.MarkingLemmas.{marked_at, marks_more, slots_more}
 use Rattle.px_debug.proofs.course.Course.mark.Goals as goal
 

@@ -1,6 +1,5 @@
 use Rattle.px_num.proofs.Basics.{◌≡◌, ◌+◌, ◌*◌, ap, arith, refl}
-use Rattle.px_control.specs.Standing.{JobView}
-use Rattle.px_control.specs.Program.{array_after}
+use Rattle.px_debug.proofs.Words.{array_after, JobView}
 use Rattle.px_debug.proofs.MarkingLemmas.{marked_at, marks_front, same_device}
 use Rattle.px_debug.proofs.course.Course.return_to.Goals as goal
 

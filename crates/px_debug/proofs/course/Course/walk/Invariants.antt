@@ -1,7 +1,5 @@
 use Rattle.px_num.proofs.Basics.{◌≡◌, ◌+◌, ◌≤◌, ◌++◌, drop, take}
-use Rattle.circular_buffer.specs.Buffer.{buffer, keep_last}
-use Rattle.px_control.specs.Program.{program}
-use Rattle.px_debug.specs.Courses.{IsOnCourse, IsSameCourse}
+use Rattle.px_debug.proofs.Words.{buffer, IsOnCourse, IsSameCourse, keep_last, program}
 use Rattle.px_debug.proofs.course.Course.walk.Given as goal
 
 abbrev pub invariant-loop : goal.invariant-loop

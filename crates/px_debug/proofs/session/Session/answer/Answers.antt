@@ -1,7 +1,6 @@
 use Rattle.px_num.proofs.Basics.{◌∙◌, arith, subst, sym}
-use Rattle.px_control.specs.Program.{IsAt}
+use Rattle.px_debug.proofs.Words.{IsAt, SessionView}
 use Rattle.px_debug.specs.Answers.{answer_in}
-use Rattle.px_debug.specs.Moves.{SessionView}
 use Rattle.px_debug.proofs.TracingLemmas.{short_trace, traced_text}
 use Rattle.px_debug.proofs.session.Session.answer.Goals as goal
 

@@ -1,7 +1,5 @@
 use Rattle.px_num.proofs.Basics.{◌≡◌, ◌*◌, ◌∙◌, ap, arith, refl}
-use Rattle.px_control.specs.Program.{IsAt}
-use Rattle.px_control.specs.Standing.{JobView}
-use Rattle.px_debug.specs.Marks.{HasSlots}
+use Rattle.px_debug.proofs.Words.{HasSlots, IsAt, JobView}
 use Rattle.px_debug.proofs.FittingLemmas.{fits_session}
 use Rattle.px_debug.proofs.MarkingLemmas.{slots_more, slots_none}
 use Rattle.px_debug.proofs.session.Session.new.Goals as goal

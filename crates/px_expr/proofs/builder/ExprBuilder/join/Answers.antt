@@ -1,8 +1,5 @@
 use Rattle.px_num.proofs.Basics.{◌∙◌, ap, sym, arith, length}
-use Rattle.px_expr.specs.Postorder.{placed}
-use Rattle.px_expr.specs.Shapes.{joined}
-use Rattle.px_expr.specs.Waiting.{newest}
-use Rattle.px_expr.specs.Tree.{join, nesting}
+use Rattle.px_expr.proofs.Words.{join, joined, nesting, newest, placed}
 use Rattle.px_expr.proofs.PostorderLemmas.{placed_op}
 use Rattle.px_expr.proofs.WaitingLemmas.{counts, kept_joined, after_push, same_kept}
 use Rattle.px_expr.proofs.builder.ExprBuilder.join.Goals as goal

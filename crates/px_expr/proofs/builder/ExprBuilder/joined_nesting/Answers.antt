@@ -1,12 +1,5 @@
 use Rattle.px_num.proofs.Basics.{◌≡◌, ◌≤◌, ◌+◌, ◌-◌, ◌∷◌, [], ◌++◌, List, max, take, length, arith}
-use Rattle.px_expr.specs.Tree.{Tree, join, nesting}
-use Rattle.px_expr.specs.Shapes.{joined}
-use Rattle.px_expr.specs.Waiting.{newest}
-use Rattle.px_expr.specs.Kept.{IsKept}
-use Rattle.px_expr.specs.declared.node.Node.{Node}
-use Rattle.px_expr.specs.declared.node.Op.{Op}
-use Rattle.px_expr.specs.declared.builder.Subtree.{Subtree}
-use Rattle.px_expr.specs.declared.node.TheConstants.{MAX_NESTING}
+use Rattle.px_expr.proofs.Words.{IsKept, join, joined, MAX_NESTING, nesting, newest, Node, Op, Subtree, Tree}
 use Rattle.px_expr.proofs.WaitingLemmas.{counts, nesting_joined, nesting_most}
 use Rattle.px_expr.proofs.builder.ExprBuilder.joined_nesting.Goals as goal
 

@@ -1,6 +1,5 @@
 use Rattle.px_num.proofs.Basics.{◌≡◌, map, reverse, take}
-use Rattle.px_expr.specs.Cells.{is_member, is_true}
-use Rattle.px_expr.specs.Postorder.{trees_after}
+use Rattle.px_expr.proofs.Words.{is_member, is_true, trees_after}
 use Rattle.px_expr.proofs.expr.Expr.holds.Given as goal
 
 abbrev pub invariant-loop-node : goal.invariant-loop-node

@@ -1,6 +1,5 @@
 use Rattle.px_num.proofs.Basics.{◌≡◌, ap, ◌∙◌, arith}
-use Rattle.px_expr.specs.Tree.{IsLawfulTree}
-use Rattle.px_expr.specs.Postorder.{nodes_of}
+use Rattle.px_expr.proofs.Words.{IsLawfulTree, nodes_of}
 use Rattle.px_expr.proofs.PostorderLemmas.{tree_of_nodes, can_place, leaves_below, size_leaves, length-nodes_behind}
 use Rattle.px_expr.proofs.SidesLemmas.{parents, behind_tree, behind_at}
 use Rattle.px_expr.proofs.expr.Expr.nodes.Goals as goal

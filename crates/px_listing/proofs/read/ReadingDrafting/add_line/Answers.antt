@@ -1,6 +1,5 @@
 use Rattle.px_num.proofs.Basics.{arith}
-use Rattle.px_text.specs.LentWords.{now_of}
-use Rattle.px_listing.specs.Drafts.{listing_view_of}
+use Rattle.px_listing.proofs.Words.{listing_view_of, now_of}
 use Rattle.px_listing.proofs.ReadLemmas.{read_next, told}
 use Rattle.px_listing.proofs.read.ReadingDrafting.add_line.Goals as goal
 

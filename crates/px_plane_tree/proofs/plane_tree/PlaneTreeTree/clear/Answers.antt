@@ -1,6 +1,9 @@
 use Rattle.px_num.proofs.Basics.{arith, ◌≡◌, ◌∙◌, true, length, replicate, ap, length-replicate}
-use Rattle.px_plane_tree.proofs.TreeLemmas.{cleared_seen, cleared_tree}
+use Rattle.px_plane_tree.proofs.TreeLemmas.{cleared_seen}
 use Rattle.px_plane_tree.proofs.plane_tree.PlaneTreeTree.clear.Goals as goal
+use Rattle.px_num.proofs.Basics.{nat_tests}
+use Rattle.px_num.proofs.Basics.{common_steps}
+use Rattle.px_plane_tree.proofs.TreeLemmas.{zero_tree}
 
 pub invariant_of-self : goal.invariant_of-self
 invariant_of-self c =
@@ -15,8 +18,7 @@ invariant_of-self c =
     ap length (c.fill-4.ensures.items (λ y e. e)) ∙ (length-replicate inside.still.len true ∙ inside.still.ok.0) in
     record {
       tree = rw (outputs, carries, small, c.no_lines-self-inside.ensures)
-          (cleared_tree inside.nx inside.ny inside.outputs.items inside.carries.items inside.small.items
-          inside.still.items c.fill-4.new.self.items inside.last c.self.invariant.tree still);
+          (grind (arith, nat_tests, common_steps, zero_tree));
       first_b = c.self.invariant.first_b;
       heads = c.self.invariant.heads;
     }

@@ -1,8 +1,5 @@
 use Rattle.px_num.proofs.Basics.{◌≡◌, ◌∙◌, ◌+◌, ◌*◌, ◌^◌, ◌<◌, ℕ, List, [], get_or, length, ap, arith, get_or_default}
-use Rattle.px_num.specs.Bits.{bit_at}
-use Rattle.px_array.specs.Arrays.{no_pixel}
-use Rattle.px_planes.specs.Pixels.{pixels_in}
-use Rattle.px_rows.specs.Rows.{row_bit}
+use Rattle.px_planes.proofs.Words.{bit_at, no_pixel, pixels_in, row_bit}
 use Rattle.px_planes.proofs.GridLemmas.{bit_law}
 use Rattle.px_planes.proofs.plane_grid.PlaneGridGrid.bit.Goals as goal
 

@@ -1,6 +1,5 @@
 use Rattle.px_num.proofs.Basics.{◌≡◌, ◌∙◌, ◌+◌, ◌*◌, ◌^◌, ◌<◌, ℕ, List, [], get_or, length, ap, arith, get_or_default}
-use Rattle.px_num.specs.Bits.{nat_bit}
-use Rattle.px_rows.specs.Rows.{row_bit}
+use Rattle.px_planes.proofs.Words.{nat_bit, row_bit}
 use Rattle.px_planes.proofs.GridLemmas.{row_law}
 use Rattle.px_planes.proofs.plane_grid.PlaneGridGrid.word.Goals as goal
 

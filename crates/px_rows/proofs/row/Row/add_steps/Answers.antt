@@ -4,6 +4,3 @@ use Rattle.px_rows.proofs.row.Row.add_steps.Goals as goal
 
 pub returns-clause-inside : goal.returns-clause-inside
 returns-clause-inside c p small = grind (arith, take_at)
-
-pub returns-clause-second : goal.returns-clause-second
-returns-clause-second c p small = grind arith

@@ -1,6 +1,5 @@
 use Rattle.px_num.proofs.Basics.{◌≡◌, ◌∙◌, IfSome, ap, subst}
-use Rattle.px_scene.specs.Drafts.{DraftView, drawn}
-use Rattle.px_scene.specs.Reading.{is_nothing}
+use Rattle.px_scene.proofs.Words.{DraftView, drawn, is_nothing}
 use Rattle.px_scene.proofs.read.DraftDrafting.finish.Goals as goal
 
 pub into_scene-requires : goal.into_scene-requires

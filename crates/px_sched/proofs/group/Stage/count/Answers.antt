@@ -1,6 +1,5 @@
 use Rattle.px_num.proofs.Basics.{length, ap, ◌∙◌}
-use Rattle.px_sched.specs.declared.group.Stage.{Stage}
-use Rattle.px_sched.specs.Groups.{stage_operations}
+use Rattle.px_sched.proofs.Words.{Stage, stage_operations}
 use Rattle.px_sched.proofs.group.Stage.count.Goals as goal
 
 pub returns-in-Start-clause-count : goal.returns-in-Start-clause-count

@@ -1,8 +1,5 @@
 use Rattle.px_num.proofs.Basics.{ap, sym, ◌∙◌, get_or}
-use Rattle.px_model.specs.Cells.{depths_of}
-use Rattle.px_model.specs.Scenes.{SolidView}
-use Rattle.px_sched.specs.declared.step.Step.{Step}
-use Rattle.px_sched.specs.Passes.{candidate, operations}
+use Rattle.px_sched.proofs.Words.{candidate, depths_of, operations, SolidView, Step}
 use Rattle.px_macro.specs.declared.operation.Macro.TheVariants as m
 use Rattle.px_sched.proofs.step.Step.operation.Goals as goal
 

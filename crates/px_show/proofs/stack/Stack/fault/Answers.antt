@@ -1,6 +1,5 @@
 use Rattle.px_num.proofs.Basics.{◌<◌, ◌^◌, true, false, length, ap, sym, ◌∙◌, arith, count_by}
-use Rattle.px_show.specs.Expressions.{counts_past}
-use Rattle.px_show.specs.Stacks.{is_leaf}
+use Rattle.px_show.proofs.Words.{counts_past, is_leaf}
 use Rattle.px_show.proofs.StackLemmas.{whole_fault, few_counted, few_leaves}
 use Rattle.px_show.proofs.stack.Stack.fault.Goals as goal
 

@@ -1,7 +1,5 @@
 use Rattle.px_num.proofs.Basics.{map, take}
-use Rattle.px_model.specs.Scenes.{names_of}
-use Rattle.px_show.specs.Expressions.{parts_of}
-use Rattle.px_show.specs.Stacks.{token_of, IsStackOf}
+use Rattle.px_show.proofs.Words.{IsStackOf, names_of, parts_of, token_of}
 use Rattle.px_show.proofs.stack.Stack.read.Given as goal
 
 abbrev pub invariant-loop-token : goal.invariant-loop-token
