@@ -1,5 +1,5 @@
 -- What the four slots of an array keep, and how its work grows. Clauses of public calls stand on it.
-use Rattle.std.specs.Prelude.{◌≡◌, ℕ, ◌+◌, ◌-◌, ◌^◌, IsSome, List, Option, None, Some, min, replicate}
+use Rattle.std.specs.Prelude.{◌≡◌, ℕ, ◌+◌, ◌-◌, ◌^◌, ◌≤◌, IsSome, List, Option, None, Some, min, replicate}
 use Rattle.std.specs.Prelude.{slice_index_or, slice_set}
 use Rattle.px_array.specs.Arrays.{Device, closed}
 
@@ -28,12 +28,19 @@ pub record ArrayView : Type 0 where
   pub slots : List (Option Device)
   pub work : ℕ
 
-abbrev pub array_view : Device → List (Option Device) → (work : ℕ) → ArrayView
-array_view device slots work = record { device = device; slots = slots; work = work }
-
 -- before the first `open`, and after one that had too little memory
 abbrev pub none_open : ArrayView
 none_open = record { device = closed; slots = no_slots; work = 0 }
+
+-- so many clocks more were made, and no slot changed
+pub record HasWorked (clocks : ℕ) (before now : ArrayView) : Type 0 where
+  pub slots : now.slots ≡ before.slots
+  pub work : now.work ≡ worked clocks before.work
+
+-- clocks were made and counted, and no slot changed
+pub record HasRun (before now : ArrayView) : Type 0 where
+  pub later : before.device.clocks ≤ now.device.clocks
+  pub worked : HasWorked (now.device.clocks - before.device.clocks) before now
 
 -- since the array was opened each of its clocks was made once, and none was kept: its work is its clocks, and
 -- no slot is saved

@@ -43,11 +43,7 @@ impl<G: Grid> Array for ArrayOf<G> {
 
     ghost BITS = { G.BITS };
 
-    ghost device = { λ array. array.device };
-
-    ghost slots = { λ array. array.slots };
-
-    ghost work = { λ array. array.work };
+    ghost view = { λ array. array };
 
     fn open(&mut self, nx: u32, ny: u32) -> Result<(), Memory> {
         // The memory of the array before is given back first.

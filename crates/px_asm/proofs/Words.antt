@@ -3,7 +3,7 @@ pub use Rattle.px_array.proofs.ClockLaws.{after_clocks-append, all_clocked-appen
 pub use Rattle.px_array.proofs.ClockLaws.{length-stored, pixel_at-after_clock}
 pub use Rattle.px_array.specs.Arrays.{Device, HasGrid, no_pixel, pixel_at, pixel_of, State}
 pub use Rattle.px_array.specs.Clocks.{after_clock, after_clocks, after_tree_op, all_clocked, clocked}
-pub use Rattle.px_array.specs.Slots.{worked}
+pub use Rattle.px_array.specs.Slots.{HasRun, HasWorked}
 pub use Rattle.px_array.specs.declared.micro.Micro.{Micro}
 pub use Rattle.px_array.specs.declared.micro.TreeOp.{TreeOp}
 pub use Rattle.px_array.specs.declared.micro.TreeOp.TheVariants.{Clear, Feed, Hold}

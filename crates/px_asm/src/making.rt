@@ -3,7 +3,7 @@ ghost use Rattle.std.specs.Prelude.{◌≡◌, ◌+◌, ◌-◌, ◌^◌, ◌<�
 ghost use Rattle.std.specs.List.{between};
 ghost use Rattle.px_array.specs.Arrays.{HasGrid, pixel_of};
 ghost use Rattle.px_array.specs.Clocks.{all_clocked};
-ghost use Rattle.px_array.specs.Slots.{worked};
+ghost use Rattle.px_array.specs.Slots.{HasWorked};
 ghost use Rattle.px_asm.specs.Making.{cycles_on, micros_on};
 ghost use Rattle.px_asm.specs.Microprograms.{bits_of};
 ghost use Rattle.px_macro.specs.Macros.{IsLawful, after_macro};
@@ -16,16 +16,15 @@ use px_macro::Macro;
 
 /// Makes the clocks of an operation from one up to another, counted from 0.
 pub fn make_micros<A: Array>(array: &mut A, m: &Macro, from: u32, to: u32)
-    requires grid { IsGrid (A.device array.old).state.tree.nx (A.device array.old).state.tree.ny }
+    requires grid { IsGrid (A.view array.old).device.state.tree.nx (A.view array.old).device.state.tree.ny }
     requires lawful { IsLawful m.now 256 }
     requires places { IsLawful m.now A.BITS }
     requires order { from ≤ to }
-    requires within { to ≤ cycles_on (A.device array.old) m.now }
-    requires counted { (A.device array.old).clocks + (to - from) ≤ 2 ^ 64 - 1 }
-    ensures device { A.device array.new
-        ≡ all_clocked (between from to (micros_on (A.device array.old) m.now)) (A.device array.old) }
-    ensures slots { A.slots array.new ≡ A.slots array.old }
-    ensures work { A.work array.new ≡ worked (to - from) (A.work array.old) }
+    requires within { to ≤ cycles_on (A.view array.old).device m.now }
+    requires counted { (A.view array.old).device.clocks + (to - from) ≤ 2 ^ 64 - 1 }
+    ensures device { (A.view array.new).device
+        ≡ all_clocked (between from to (micros_on (A.view array.old).device m.now)) (A.view array.old).device }
+    ensures worked { HasWorked (to - from) (A.view array.old) (A.view array.new) }
 {
     let (nx, ny) = array.size();
     for i in from..to {
@@ -36,23 +35,22 @@ pub fn make_micros<A: Array>(array: &mut A, m: &Macro, from: u32, to: u32)
 /// Makes all clocks of an operation, which leave its meaning in every pixel (docs/MACHINE.md,
 /// "Microprograms").
 pub fn make_operation<A: Array>(array: &mut A, m: &Macro)
-    requires grid { IsGrid (A.device array.old).state.tree.nx (A.device array.old).state.tree.ny }
-    requires pixels { HasGrid A.BITS (A.device array.old).state.tree.nx
-        (A.device array.old).state.tree.ny (A.device array.old).state }
+    requires grid { IsGrid (A.view array.old).device.state.tree.nx (A.view array.old).device.state.tree.ny }
+    requires pixels { HasGrid A.BITS (A.view array.old).device.state.tree.nx
+        (A.view array.old).device.state.tree.ny (A.view array.old).device.state }
     requires lawful { IsLawful m.now 256 }
     requires places { IsLawful m.now A.BITS }
-    requires counted { (A.device array.old).clocks + cycles_on (A.device array.old) m.now ≤ 2 ^ 64 - 1 }
-    ensures device { A.device array.new
-        ≡ all_clocked (micros_on (A.device array.old) m.now) (A.device array.old) }
-    ensures meaning { (x y : ℕ) → x < 2 ^ (A.device array.old).state.tree.nx
-        → y < 2 ^ (A.device array.old).state.tree.ny
-        → bits_of (pixel_of (A.device array.new).state x y)
-        ≡ after_macro m.now x y (bits_of (pixel_of (A.device array.old).state x y)) }
-    ensures clocks { (A.device array.new).clocks
-        ≡ (A.device array.old).clocks + cycles_on (A.device array.old) m.now }
-    ensures slots { A.slots array.new ≡ A.slots array.old }
-    ensures work { A.work array.new
-        ≡ worked (cycles_on (A.device array.old) m.now) (A.work array.old) }
+    requires counted { (A.view array.old).device.clocks + cycles_on (A.view array.old).device m.now ≤ 2 ^ 64 - 1 }
+    ensures device { (A.view array.new).device
+        ≡ all_clocked (micros_on (A.view array.old).device m.now) (A.view array.old).device }
+    ensures meaning { (x y : ℕ) → x < 2 ^ (A.view array.old).device.state.tree.nx
+        → y < 2 ^ (A.view array.old).device.state.tree.ny
+        → bits_of (pixel_of (A.view array.new).device.state x y)
+        ≡ after_macro m.now x y (bits_of (pixel_of (A.view array.old).device.state x y)) }
+    ensures clocks { (A.view array.new).device.clocks
+        ≡ (A.view array.old).device.clocks + cycles_on (A.view array.old).device m.now }
+    ensures worked { HasWorked (cycles_on (A.view array.old).device m.now)
+        (A.view array.old) (A.view array.new) }
 {
     let (nx, ny) = array.size();
     law_of_microprograms();

@@ -9,11 +9,11 @@ use px_macro::Field;
 /// The number in a field of at most 40 bits of the memory of the pixel (x, y), whose lowest bit is
 /// the field's first (docs/MACHINE.md, "Broadcast operations").
 pub fn number_in<A: Array>(array: &A, field: Field, x: u32, y: u32) -> u64
-    requires pixel { HasPixel (A.device array.now) x y }
+    requires pixel { HasPixel (A.view array.now).device x y }
     requires room { field.at + field.len ≤ A.BITS }
     requires places { field.at + field.len < 2 ^ 32 }
     requires few { field.len ≤ 40 }
-    ensures number { result ≡ number_in field (pixel_of (A.device array.now).state x y).memory }
+    ensures number { result ≡ number_in field (pixel_of (A.view array.now).device.state x y).memory }
     ensures small { result < 2 ^ field.len }
 {
     let mut number = 0;

@@ -1,7 +1,7 @@
 //! Arrays that make a whole operation at once.
 ghost use Rattle.std.specs.Prelude.{◌≡◌, ◌+◌, ◌-◌, ◌^◌, ◌≤◌, IsTrue, false};
 ghost use Rattle.px_array.specs.Arrays.{HasGrid};
-ghost use Rattle.px_array.specs.Slots.{worked};
+ghost use Rattle.px_array.specs.Slots.{HasWorked};
 ghost use Rattle.px_asm.specs.Making.{cycles_on};
 ghost use Rattle.px_asm.specs.Operated.{BecomeTheSame, BecomeTheSameAgain, IsOperated, StayInAgreement, StayKnown, none_known, renewed};
 ghost use Rattle.px_macro.specs.Macros.{IsLawful};
@@ -19,16 +19,18 @@ use px_macro::Macro;
 pub trait Operating: Array {
     /// Makes an operation, which counts as its clocks.
     fn operate(&mut self, m: &Macro)
-        requires grid { IsGrid (Self.device self.old).state.tree.nx (Self.device self.old).state.tree.ny }
-        requires pixels { HasGrid Self.BITS (Self.device self.old).state.tree.nx
-            (Self.device self.old).state.tree.ny (Self.device self.old).state }
+        requires grid { IsGrid (Self.view self.old).device.state.tree.nx
+            (Self.view self.old).device.state.tree.ny }
+        requires pixels { HasGrid Self.BITS (Self.view self.old).device.state.tree.nx
+            (Self.view self.old).device.state.tree.ny (Self.view self.old).device.state }
         requires lawful { IsLawful m.now 256 }
         requires places { IsLawful m.now Self.BITS }
-        requires counted { (Self.device self.old).clocks + cycles_on (Self.device self.old) m.now ≤ 2 ^ 64 - 1 }
-        ensures operated { IsOperated Self.BITS m.now (Self.device self.old) (Self.device self.new) }
-        ensures slots { Self.slots self.new ≡ Self.slots self.old }
-        ensures work { Self.work self.new
-            ≡ worked (cycles_on (Self.device self.old) m.now) (Self.work self.old) };
+        requires counted { (Self.view self.old).device.clocks
+            + cycles_on (Self.view self.old).device m.now ≤ 2 ^ 64 - 1 }
+        ensures operated { IsOperated Self.BITS m.now (Self.view self.old).device
+            (Self.view self.new).device }
+        ensures worked { HasWorked (cycles_on (Self.view self.old).device m.now)
+            (Self.view self.old) (Self.view self.new) };
 }
 
 /// A grid that may make an operation at once.
@@ -64,9 +66,7 @@ fn operate_at_once<G: OperatingGrid>(array: &mut ArrayOf<G>, m: &Macro) -> bool
     requires places { IsLawful m.now G.BITS }
     requires counted { array.old.device.clocks + cycles_on array.old.device m.now ≤ 2 ^ 64 - 1 }
     ensures operated { IsTrue result → IsOperated G.BITS m.now array.old.device array.new.device }
-    ensures slots { array.new.slots ≡ array.old.slots }
-    ensures work { IsTrue result
-        → array.new.work ≡ worked (cycles_on array.old.device m.now) array.old.work }
+    ensures worked { IsTrue result → HasWorked (cycles_on array.old.device m.now) array.old array.new }
     ensures left { result ≡ false → array.new ≡ array.old }
 {
     let Some(array) = &mut array.array else {

@@ -1,8 +1,8 @@
 //! Operations that are made one after another, as many of them at once as that shows nowhere.
 ghost use Rattle.std.specs.Bool.{OnTrue};
-ghost use Rattle.std.specs.Prelude.{◌≡◌, ◌∷◌, ◌++◌, ◌+◌, ◌-◌, ◌*◌, ◌≤◌, true, length};
+ghost use Rattle.std.specs.Prelude.{◌≡◌, ◌∷◌, ◌++◌, ◌+◌, ◌*◌, ◌≤◌, true, length};
 ghost use Rattle.px_array.specs.Arrays.{HasGrid};
-ghost use Rattle.px_array.specs.Slots.{worked};
+ghost use Rattle.px_array.specs.Slots.{HasRun, HasWorked};
 ghost use Rattle.px_asm.specs.AtOnce.{IsOvertaken, known_of};
 ghost use Rattle.px_asm.specs.Making.{cycles_on};
 ghost use Rattle.px_asm.specs.Operated.{all_known, all_renewed, renewed, untouched};
@@ -14,14 +14,11 @@ use px_macro::Macro;
 
 /// Makes operations, one after another, and leaves what their clocks leave.
 pub fn make_operations<A: Operating>(array: &mut A, operations: &[Macro])
-    requires can { CanMake A.BITS operations.now (A.device array.old) }
-    ensures device { A.device array.new ≡ all_made operations.now (A.device array.old) }
-    ensures clocks { (A.device array.old).clocks ≤ (A.device array.new).clocks }
-    ensures few { (A.device array.new).clocks
-        ≤ (A.device array.old).clocks + 82 * length operations.now }
-    ensures slots { A.slots array.new ≡ A.slots array.old }
-    ensures work { A.work array.new
-        ≡ worked ((A.device array.new).clocks - (A.device array.old).clocks) (A.work array.old) }
+    requires can { CanMake A.BITS operations.now (A.view array.old).device }
+    ensures device { (A.view array.new).device ≡ all_made operations.now (A.view array.old).device }
+    ensures few { (A.view array.new).device.clocks
+        ≤ (A.view array.old).device.clocks + 82 * length operations.now }
+    ensures run { HasRun (A.view array.old) (A.view array.new) }
 {
     make_before(array, operations, &[]);
 }
@@ -32,17 +29,14 @@ pub fn make_operations<A: Operating>(array: &mut A, operations: &[Macro])
 /// An operation is made at once if others behind it begin anew all that it does, and else by its
 /// clocks.
 pub fn make_before<A: Operating>(array: &mut A, operations: &[Macro], behind: &[Macro])
-    requires can { CanMake A.BITS (operations.now ++ behind.now) (A.device array.old) }
-    ensures device { all_made behind.now (A.device array.new)
-        ≡ all_made (operations.now ++ behind.now) (A.device array.old) }
-    ensures pixels { HasGrid A.BITS (A.device array.old).state.tree.nx
-        (A.device array.old).state.tree.ny (A.device array.new).state }
-    ensures clocks { (A.device array.old).clocks ≤ (A.device array.new).clocks }
-    ensures few { (A.device array.new).clocks
-        ≤ (A.device array.old).clocks + 82 * length operations.now }
-    ensures slots { A.slots array.new ≡ A.slots array.old }
-    ensures work { A.work array.new
-        ≡ worked ((A.device array.new).clocks - (A.device array.old).clocks) (A.work array.old) }
+    requires can { CanMake A.BITS (operations.now ++ behind.now) (A.view array.old).device }
+    ensures device { all_made behind.now (A.view array.new).device
+        ≡ all_made (operations.now ++ behind.now) (A.view array.old).device }
+    ensures pixels { HasGrid A.BITS (A.view array.old).device.state.tree.nx
+        (A.view array.old).device.state.tree.ny (A.view array.new).device.state }
+    ensures few { (A.view array.new).device.clocks
+        ≤ (A.view array.old).device.clocks + 82 * length operations.now }
+    ensures run { HasRun (A.view array.old) (A.view array.new) }
 {
     for (i, m) in operations.iter().enumerate() {
         make_one(array, m, &operations[i + 1..], behind);
@@ -51,16 +45,16 @@ pub fn make_before<A: Operating>(array: &mut A, operations: &[Macro], behind: &[
 
 /// Makes one operation, at once if the rest and those behind it begin anew all that it does.
 fn make_one<A: Operating>(array: &mut A, m: &Macro, rest: &[Macro], behind: &[Macro])
-    requires can { CanMake A.BITS (m.now ∷ (rest.now ++ behind.now)) (A.device array.old) }
-    ensures device { all_made (rest.now ++ behind.now) (A.device array.new)
-        ≡ all_made (m.now ∷ (rest.now ++ behind.now)) (A.device array.old) }
-    ensures pixels { HasGrid A.BITS (A.device array.old).state.tree.nx
-        (A.device array.old).state.tree.ny (A.device array.new).state }
-    ensures clocks { (A.device array.new).clocks
-        ≡ (A.device array.old).clocks + cycles_on (A.device array.old) m.now }
-    ensures few { cycles_on (A.device array.old) m.now ≤ 82 }
-    ensures slots { A.slots array.new ≡ A.slots array.old }
-    ensures work { A.work array.new ≡ worked (cycles_on (A.device array.old) m.now) (A.work array.old) }
+    requires can { CanMake A.BITS (m.now ∷ (rest.now ++ behind.now)) (A.view array.old).device }
+    ensures device { all_made (rest.now ++ behind.now) (A.view array.new).device
+        ≡ all_made (m.now ∷ (rest.now ++ behind.now)) (A.view array.old).device }
+    ensures pixels { HasGrid A.BITS (A.view array.old).device.state.tree.nx
+        (A.view array.old).device.state.tree.ny (A.view array.new).device.state }
+    ensures clocks { (A.view array.new).device.clocks
+        ≡ (A.view array.old).device.clocks + cycles_on (A.view array.old).device m.now }
+    ensures few { cycles_on (A.view array.old).device m.now ≤ 82 }
+    ensures worked { HasWorked (cycles_on (A.view array.old).device m.now)
+        (A.view array.old) (A.view array.new) }
 {
     law_of_renewal();
     if is_overtaken(m, rest, behind) {

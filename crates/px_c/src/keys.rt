@@ -8,8 +8,7 @@ ghost use Rattle.px_c.specs.Answers.{pixels_of};
 ghost use Rattle.px_c.specs.Buffers.{HoldsColours, HoldsNumbers};
 
 use px_array::Array;
-use px_control::law_of_grids;
-use px_frame::{laws_of_images, stored};
+use px_frame::stored;
 use px_model::{Colour, Scene, laws_of_scenes};
 use px_sched::Layout;
 
@@ -27,15 +26,13 @@ pub(crate) fn pixels_of(scene: &Scene) -> u32
 #[tactic(auto, using(crate::proofs::BufferLemmas::column_below, crate::proofs::BufferLemmas::row_below))]
 fn key_at<A: Array>(array: &A, layout: &Layout, scene: &Scene, at: u32) -> (u32, u32)
     requires layout { layout.now ≡ layout_of scene.now }
-    requires drawn { IsDrawn A.BITS scene.now (A.device array.now) }
+    requires drawn { IsDrawn A.BITS scene.now (A.view array.now).device }
     requires within { at < pixels_of scene.now }
     ensures depth { result.0 ≡ depth_at scene.now (at % scene.now.width) (at / scene.now.width) }
     ensures face { result.1 ≡ face_at scene.now (at % scene.now.width) (at / scene.now.width) }
     ensures known { result.1 ≤ faces_of scene.now.solids }
 {
     laws_of_scenes(scene);
-    law_of_grids();
-    laws_of_images();
     let width = scene.width();
     stored(array, layout, at % width, at / width)
 }
@@ -43,7 +40,7 @@ fn key_at<A: Array>(array: &A, layout: &Layout, scene: &Scene, at: u32) -> (u32,
 /// The colour of pixel `at`.
 fn colour_at<A: Array>(array: &A, layout: &Layout, scene: &Scene, at: u32) -> Colour
     requires layout { layout.now ≡ layout_of scene.now }
-    requires drawn { IsDrawn A.BITS scene.now (A.device array.now) }
+    requires drawn { IsDrawn A.BITS scene.now (A.view array.now).device }
     requires within { at < pixels_of scene.now }
     ensures { result ≡ colour_at scene.now (at % scene.now.width) (at / scene.now.width) }
 {
@@ -61,7 +58,7 @@ pub(crate) fn write_keys<A: Array>(
     faces: &mut [u32],
 )
     requires layout { layout.now ≡ layout_of scene.now }
-    requires drawn { IsDrawn A.BITS scene.now (A.device array.now) }
+    requires drawn { IsDrawn A.BITS scene.now (A.view array.now).device }
     requires depths { pixels_of scene.now ≤ length depths.old }
     requires faces { pixels_of scene.now ≤ length faces.old }
     ensures depths { HoldsNumbers scene.now.width scene.now.height (depth_at scene.now)
@@ -80,7 +77,7 @@ pub(crate) fn write_keys<A: Array>(
 #[tactic(auto, using(crate::proofs::BufferLemmas::holds_colours))]
 pub(crate) fn write_colours<A: Array>(array: &A, layout: &Layout, scene: &Scene, rgb: &mut [u8])
     requires layout { layout.now ≡ layout_of scene.now }
-    requires drawn { IsDrawn A.BITS scene.now (A.device array.now) }
+    requires drawn { IsDrawn A.BITS scene.now (A.view array.now).device }
     requires room { 3 * pixels_of scene.now ≤ length rgb.old }
     ensures { HoldsColours scene.now.width scene.now.height (colour_at scene.now) rgb.old rgb.new }
 {

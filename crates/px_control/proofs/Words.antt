@@ -4,7 +4,7 @@ pub use Rattle.px_array.proofs.ClockLaws.{after_clocks-append, all_clocked-appen
 pub use Rattle.px_array.proofs.ClockLaws.{grid_of_zero_state, nx-after_clocks, ny-after_clocks}
 pub use Rattle.px_array.specs.Arrays.{Device, HasGrid, no_pixel, opened, pixel_of, zero_state}
 pub use Rattle.px_array.specs.Clocks.{after_clocks, all_clocked}
-pub use Rattle.px_array.specs.Slots.{worked}
+pub use Rattle.px_array.specs.Slots.{HasRun, HasWorked}
 pub use Rattle.px_array.specs.declared.micro.Micro.{Micro}
 pub use Rattle.px_asm.specs.Making.{cycles_on, micros_on}
 pub use Rattle.px_asm.specs.Micros.{all_micros, cycles, micro_at, micros}

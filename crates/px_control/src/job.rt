@@ -2,7 +2,7 @@
 ghost use Rattle.std.specs.Prelude.{◌≡◌, [], ◌∷◌, ◌+◌, ◌-◌, ◌^◌, ◌<◌, ◌≤◌, ℕ, Err, IfErr, IfOk, OnOk, Some, length, min, slice_get, None};
 ghost use Rattle.px_num.specs.Want.{want};
 ghost use Rattle.px_array.specs.Arrays.{pixel_of};
-ghost use Rattle.px_array.specs.Slots.{IsRunOnce, array_view, no_slots, worked};
+ghost use Rattle.px_array.specs.Slots.{HasWorked, IsRunOnce, no_slots};
 ghost use Rattle.px_prune.specs.Kept.{crowd_of};
 ghost use Rattle.px_sched.specs.Layouts.{layout_of, need_of};
 ghost use Rattle.px_sched.specs.Passes.{passes};
@@ -67,11 +67,10 @@ impl<'s> Job<'s> {
         array: &mut A,
     ) -> Result<Job<'s>, JobFault>
         ensures job { IfOk result (λ job. (job.scene ≡ scene.now) × (job.place.clock ≡ 0)) }
-        ensures at { OnOk result (IsAt A.BITS scene.now 0 (A.device array.new)) }
-        ensures slots { OnOk result (A.slots array.new ≡ no_slots) }
-        ensures work { OnOk result (A.work array.new ≡ 0) }
-        ensures once { OnOk result (IsRunOnce
-            (array_view (A.device array.new) (A.slots array.new) (A.work array.new))) }
+        ensures at { OnOk result (IsAt A.BITS scene.now 0 (A.view array.new).device) }
+        ensures slots { OnOk result ((A.view array.new).slots ≡ no_slots) }
+        ensures work { OnOk result ((A.view array.new).work ≡ 0) }
+        ensures once { OnOk result (IsRunOnce (A.view array.new)) }
         ensures short { A.BITS < need_of (layout_of scene.now) →
             result ≡ Err (JobFault.PixelMemory (need_of (layout_of scene.now))) }
         ensures need { (need : ℕ) → result ≡ Err (JobFault.PixelMemory need) →
@@ -82,9 +81,8 @@ impl<'s> Job<'s> {
             × (crowd_of scene.now ≡ Some count) × (count ≤ 2 ^ 21) }
         ensures memory { need_of (layout_of scene.now) ≤ A.BITS → crowd_of scene.now ≡ None →
             IfErr result (λ fault. fault ≡ JobFault.Memory want) }
-        ensures array { IfErr result (λ fault. LeavesOnRefusal fault
-            (array_view (A.device array.old) (A.slots array.old) (A.work array.old))
-            (array_view (A.device array.new) (A.slots array.new) (A.work array.new))) }
+        ensures array { IfErr result (λ fault.
+            LeavesOnRefusal fault (A.view array.old) (A.view array.new)) }
     {
         let program = Program::new(alloc, scene, memory_bits::<A>(scene))?;
         program.laws();
@@ -105,13 +103,12 @@ impl<'s> Job<'s> {
 
     /// Makes so many clocks, or as many as are left, and answers how many.
     pub fn advance<A: Operating>(&mut self, array: &mut A, clocks: u64) -> u64
-        requires at { IsAt A.BITS self.old.scene self.old.place.clock (A.device array.old) }
+        requires at { IsAt A.BITS self.old.scene self.old.place.clock (A.view array.old).device }
         ensures made { result ≡ min clocks (total self.old.scene - self.old.place.clock) }
         ensures scene { self.new.scene ≡ self.old.scene }
         ensures clock { self.new.place.clock ≡ self.old.place.clock + result }
-        ensures at { IsAt A.BITS self.new.scene self.new.place.clock (A.device array.new) }
-        ensures slots { A.slots array.new ≡ A.slots array.old }
-        ensures work { A.work array.new ≡ worked result (A.work array.old) }
+        ensures at { IsAt A.BITS self.new.scene self.new.place.clock (A.view array.new).device }
+        ensures worked { HasWorked result (A.view array.old) (A.view array.new) }
     {
         let made = clocks.min(self.left());
         self.place = self.program.run_clocks(&self.place, array, made);
@@ -120,18 +117,15 @@ impl<'s> Job<'s> {
 
     /// Makes the clocks that are left: the keys that the array then stores are the picture.
     pub fn finish<A: Operating>(&mut self, array: &mut A)
-        requires at { IsAt A.BITS self.old.scene self.old.place.clock (A.device array.old) }
+        requires at { IsAt A.BITS self.old.scene self.old.place.clock (A.view array.old).device }
         ensures scene { self.new.scene ≡ self.old.scene }
         ensures clock { self.new.place.clock ≡ total self.new.scene }
-        ensures at { IsAt A.BITS self.new.scene (total self.new.scene) (A.device array.new) }
+        ensures at { IsAt A.BITS self.new.scene (total self.new.scene) (A.view array.new).device }
         ensures picture { ShowsThePicture self.new.scene (layout_of self.new.scene)
-            (λ x y. (pixel_of (A.device array.new).state x y).memory) }
-        ensures slots { A.slots array.new ≡ A.slots array.old }
-        ensures work { A.work array.new
-            ≡ worked (total self.new.scene - self.old.place.clock) (A.work array.old) }
-        ensures once { IsRunOnce
-            (array_view (A.device array.old) (A.slots array.old) (A.work array.old))
-            → IsRunOnce (array_view (A.device array.new) (A.slots array.new) (A.work array.new)) }
+            (λ x y. (pixel_of (A.view array.new).device.state x y).memory) }
+        ensures worked { HasWorked (total self.new.scene - self.old.place.clock)
+            (A.view array.old) (A.view array.new) }
+        ensures once { IsRunOnce (A.view array.old) → IsRunOnce (A.view array.new) }
     {
         let left = self.left();
         self.advance(array, left);

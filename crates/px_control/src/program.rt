@@ -3,7 +3,7 @@ ghost use Rattle.std.specs.Prelude.{◌≡◌, ◌∷◌, ◌+◌, ◌-◌, ◌^
 ghost use Rattle.px_num.specs.Want.{want};
 ghost use Rattle.px_sched.specs.Cursors.{Stands};
 ghost use Rattle.px_asm.specs.Micros.{micro_at as micro_of};
-ghost use Rattle.px_array.specs.Slots.{worked};
+ghost use Rattle.px_array.specs.Slots.{HasWorked};
 ghost use Rattle.px_macro.specs.Macros.{IsLawful, IsLawfulInMore};
 ghost use Rattle.px_prune.specs.Kept.{crowd_of};
 ghost use Rattle.px_pixel.specs.Acts.{HasPlace};
@@ -161,12 +161,11 @@ impl<'s> Program<'s> {
         requires stands { StandsFor self.now from.now }
         requires order { from.now.clock ≤ end }
         requires within { end ≤ total self.now }
-        requires at { IsAt A.BITS self.now from.now.clock (A.device array.old) }
+        requires at { IsAt A.BITS self.now from.now.clock (A.view array.old).device }
         ensures stands { StandsFor self.now result }
         ensures clock { result.clock ≡ end }
-        ensures at { IsAt A.BITS self.now result.clock (A.device array.new) }
-        ensures slots { A.slots array.new ≡ A.slots array.old }
-        ensures work { A.work array.new ≡ worked (end - from.now.clock) (A.work array.old) }
+        ensures at { IsAt A.BITS self.now result.clock (A.view array.new).device }
+        ensures worked { HasWorked (end - from.now.clock) (A.view array.old) (A.view array.new) }
     {
         self.laws();
         let mut place = *from;
@@ -182,15 +181,14 @@ impl<'s> Program<'s> {
         requires stands { StandsFor self.now place.now }
         requires before { place.now.clock < end }
         requires within { end ≤ total self.now }
-        requires at { IsAt A.BITS self.now place.now.clock (A.device array.old) }
+        requires at { IsAt A.BITS self.now place.now.clock (A.view array.old).device }
         ensures stands { StandsFor self.now result }
         ensures later { place.now.clock < result.clock }
         ensures within { result.clock ≤ end }
         ensures whole { result.clock < end → result.micro ≡ 0 }
-        ensures at { IsAt A.BITS self.now result.clock (A.device array.new) }
-        ensures slots { A.slots array.new ≡ A.slots array.old }
-        ensures work { A.work array.new
-            ≡ worked (result.clock - place.now.clock) (A.work array.old) }
+        ensures at { IsAt A.BITS self.now result.clock (A.view array.new).device }
+        ensures worked { HasWorked (result.clock - place.now.clock)
+            (A.view array.old) (A.view array.new) }
     {
         self.laws();
         match &place.current {

@@ -3,7 +3,7 @@ ghost use Rattle.std.specs.Prelude.{◌≡◌, ◌+◌, ◌-◌, ◌<◌, ◌≤
 ghost use Rattle.arrayvec.specs.ArrayVec.{array_vec_len};
 ghost use Rattle.px_array.specs.Arrays.{Device};
 ghost use Rattle.px_array.specs.Clocks.{all_clocked};
-ghost use Rattle.px_array.specs.Slots.{worked};
+ghost use Rattle.px_array.specs.Slots.{HasRun, HasWorked};
 ghost use Rattle.px_asm.specs.Making.{micros_on};
 ghost use Rattle.px_asm.specs.Operations.{all_made};
 ghost use Rattle.px_macro.specs.Macros.{IsLawful};
@@ -27,12 +27,11 @@ impl<'s> Program<'s> {
     pub(crate) fn run_clocks<A: Operating>(&self, from: &Place, array: &mut A, clocks: u64) -> Place
         requires stands { StandsFor self.now from.now }
         requires left { from.now.clock + clocks ≤ total self.now }
-        requires at { IsAt A.BITS self.now from.now.clock (A.device array.old) }
+        requires at { IsAt A.BITS self.now from.now.clock (A.view array.old).device }
         ensures stands { StandsFor self.now result }
         ensures clock { result.clock ≡ from.now.clock + clocks }
-        ensures at { IsAt A.BITS self.now result.clock (A.device array.new) }
-        ensures slots { A.slots array.new ≡ A.slots array.old }
-        ensures work { A.work array.new ≡ worked clocks (A.work array.old) }
+        ensures at { IsAt A.BITS self.now result.clock (A.view array.new).device }
+        ensures worked { HasWorked clocks (A.view array.old) (A.view array.new) }
     {
         self.laws();
         let end = from.clock + clocks;
@@ -48,15 +47,14 @@ impl<'s> Program<'s> {
         requires stands { StandsFor self.now from.now }
         requires order { from.now.clock ≤ end }
         requires within { end ≤ total self.now }
-        requires at { IsAt A.BITS self.now from.now.clock (A.device array.old) }
+        requires at { IsAt A.BITS self.now from.now.clock (A.view array.old).device }
         ensures stands { StandsFor self.now result }
         ensures later { from.now.clock ≤ result.clock }
         ensures within { result.clock ≤ end }
         ensures whole { result.clock < end → result.micro ≡ 0 }
-        ensures at { IsAt A.BITS self.now result.clock (A.device array.new) }
-        ensures slots { A.slots array.new ≡ A.slots array.old }
-        ensures work { A.work array.new
-            ≡ worked (result.clock - from.now.clock) (A.work array.old) }
+        ensures at { IsAt A.BITS self.now result.clock (A.view array.new).device }
+        ensures worked { HasWorked (result.clock - from.now.clock)
+            (A.view array.old) (A.view array.new) }
     {
         if from.micro == 0 || from.clock == end {
             return *from;
@@ -71,12 +69,11 @@ impl<'s> Program<'s> {
         requires micro { from.now.micro ≡ 0 }
         requires order { from.now.clock ≤ end }
         requires within { end ≤ total self.now }
-        requires at { IsAt A.BITS self.now from.now.clock (A.device array.old) }
+        requires at { IsAt A.BITS self.now from.now.clock (A.view array.old).device }
         ensures stands { StandsFor self.now result }
         ensures clock { result.clock ≡ end }
-        ensures at { IsAt A.BITS self.now result.clock (A.device array.new) }
-        ensures slots { A.slots array.new ≡ A.slots array.old }
-        ensures work { A.work array.new ≡ worked (end - from.now.clock) (A.work array.old) }
+        ensures at { IsAt A.BITS self.now result.clock (A.view array.new).device }
+        ensures worked { HasWorked (end - from.now.clock) (A.view array.old) (A.view array.new) }
     {
         let mut place = *from;
         let mut held = ArrayVec::new();
@@ -102,16 +99,13 @@ impl<'s> Program<'s> {
         requires micro { place.old.micro ≡ 0 }
         requires order { place.old.clock ≤ end }
         requires within { end ≤ total self.now }
-        requires holds { Holds A.BITS self.now place.old.clock held.now.items (A.device array.old) }
+        requires holds { Holds A.BITS self.now place.old.clock held.now.items (A.view array.old).device }
         ensures stands { StandsFor self.now place.new }
         ensures micro { place.new.micro ≡ 0 }
         ensures order { place.new.clock ≤ end }
         ensures operation { place.new.operation ≡ place.old.operation + array_vec_len behind.new }
-        ensures holds { Holds A.BITS self.now place.new.clock behind.new.items (A.device array.new) }
-        ensures later { (A.device array.old).clocks ≤ (A.device array.new).clocks }
-        ensures slots { A.slots array.new ≡ A.slots array.old }
-        ensures work { A.work array.new
-            ≡ worked ((A.device array.new).clocks - (A.device array.old).clocks) (A.work array.old) }
+        ensures holds { Holds A.BITS self.now place.new.clock behind.new.items (A.view array.new).device }
+        ensures run { HasRun (A.view array.old) (A.view array.new) }
     {
         self.laws();
         self.hold(place, end, behind);

@@ -1,6 +1,7 @@
 -- The words of definitions, and the laws of crates below, that proofs here cite.
 pub use Rattle.circular_buffer.specs.Buffer.{Buffer, buffer, keep_last}
 pub use Rattle.px_array.specs.Arrays.{Device}
+pub use Rattle.px_array.specs.Slots.{ArrayView}
 pub use Rattle.px_array.specs.declared.micro.Micro.{Micro}
 pub use Rattle.px_control.specs.Program.{array_after, ends_after, IsAt, program, total}
 pub use Rattle.px_control.specs.Standing.{JobView, StandsFor}

@@ -1,25 +1,25 @@
 -- A job on its course, beside an array. Only proofs and private functions stand on it.
-use Rattle.std.specs.Prelude.{◌≡◌, ℕ, List, Option}
+use Rattle.std.specs.Prelude.{◌≡◌, ℕ}
 use Rattle.circular_buffer.specs.Buffer.{buffer}
-use Rattle.px_array.specs.Arrays.{Device}
+use Rattle.px_array.specs.Slots.{ArrayView}
 use Rattle.px_control.specs.Program.{IsAt}
 use Rattle.px_debug.specs.Marks.{AreAlmostMarked, AreMarked, HasMarks, HasSlots, last_before}
 use Rattle.px_debug.specs.Moves.{quarter_of}
 use Rattle.px_debug.specs.declared.course.Course.{Course}
 
 -- the array is as the job's broadcasts leave it, and each quarter that was passed has its place and its slot
-pub record IsOnCourse (bits : ℕ) (c : Course) (device : Device) (slots : List (Option Device)) : Type 0 where
-  pub at : IsAt bits c.job.scene c.job.place.clock device
+pub record IsOnCourse (bits : ℕ) (c : Course) (array : ArrayView) : Type 0 where
+  pub at : IsAt bits c.job.scene c.job.place.clock array.device
   pub marks : HasMarks c.job.scene c.quarter c.passed c.places
   pub marked : AreMarked c.quarter c.passed c.job.place.clock
-  pub keeps : HasSlots bits c.job.scene c.quarter c.passed slots
+  pub keeps : HasSlots bits c.job.scene c.quarter c.passed array.slots
 
 -- the same, where the next quarter may have been passed just now
-pub record IsAlmostOnCourse (bits : ℕ) (c : Course) (device : Device) (slots : List (Option Device)) : Type 0 where
-  pub at : IsAt bits c.job.scene c.job.place.clock device
+pub record IsAlmostOnCourse (bits : ℕ) (c : Course) (array : ArrayView) : Type 0 where
+  pub at : IsAt bits c.job.scene c.job.place.clock array.device
   pub marks : HasMarks c.job.scene c.quarter c.passed c.places
   pub marked : AreAlmostMarked c.quarter c.passed c.job.place.clock
-  pub keeps : HasSlots bits c.job.scene c.quarter c.passed slots
+  pub keeps : HasSlots bits c.job.scene c.quarter c.passed array.slots
 
 -- the same scene and the same quarters
 pub record IsSameCourse (old new : Course) : Type 0 where

@@ -1,8 +1,7 @@
 -- Where a session stands, and where each command leads. Clauses of public calls stand on it.
 use Rattle.std.specs.Prelude.{◌≡◌, ℕ, zero, suc, ◌+◌, ◌-◌, ◌*◌, ◌/◌, ◌≤◌, min, max, nat_lt, if◌then◌else◌}
-use Rattle.std.specs.Prelude.{IfSome, List, [], ◌∷◌, Option, Some}
-use Rattle.px_array.specs.Arrays.{Device}
-use Rattle.px_array.specs.Slots.{slot_of}
+use Rattle.std.specs.Prelude.{IfSome, List, [], ◌∷◌, Some}
+use Rattle.px_array.specs.Slots.{ArrayView, slot_of}
 use Rattle.px_model.specs.Scenes.{SceneView}
 use Rattle.px_control.specs.Program.{IsAt, array_after, ends_after, total}
 use Rattle.px_debug_text.specs.declared.command.Command.{Command}
@@ -54,10 +53,10 @@ most_clocks scene now (c.Until n) = moved scene now (c.Until n) - now
 most_clocks scene now other = 0
 
 -- an array is as the session's broadcasts leave it, its slots keep what each passed quarter left, and nothing else
-pub record Fits (bits : ℕ) (s : SessionView) (device : Device) (slots : List (Option Device)) : Type 0 where
+pub record Fits (bits : ℕ) (s : SessionView) (array : ArrayView) : Type 0 where
   pub few : bits ≤ 256
-  pub at : IsAt bits s.scene s.now device
+  pub at : IsAt bits s.scene s.now array.device
   pub kept : (slot : ℕ) → slot ≤ 3 → slot * quarter_of s.scene ≤ s.now →
-      slot_of slots slot ≡ Some (array_after bits s.scene (slot * quarter_of s.scene))
+      slot_of array.slots slot ≡ Some (array_after bits s.scene (slot * quarter_of s.scene))
   pub only : (slot : ℕ) →
-      IfSome (slot_of slots slot) (λ device. device ≡ array_after bits s.scene (slot * quarter_of s.scene))
+      IfSome (slot_of array.slots slot) (λ device. device ≡ array_after bits s.scene (slot * quarter_of s.scene))

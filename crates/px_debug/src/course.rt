@@ -48,12 +48,12 @@ impl<'s> Course<'s> {
 
     /// Keeps the place and the state, where the next quarter has just been passed.
     fn mark<A: Array>(&mut self, array: &mut A)
-        requires course { IsAlmostOnCourse A.BITS self.old (A.device array.old) (A.slots array.old) }
-        ensures course { IsOnCourse A.BITS self.new (A.device array.new) (A.slots array.new) }
+        requires course { IsAlmostOnCourse A.BITS self.old (A.view array.old) }
+        ensures course { IsOnCourse A.BITS self.new (A.view array.new) }
         ensures job { self.new.job ≡ self.old.job }
         ensures trace { self.new.trace ≡ self.old.trace }
         ensures quarter { self.new.quarter ≡ self.old.quarter }
-        ensures work { A.work array.new ≡ A.work array.old }
+        ensures work { (A.view array.new).work ≡ (A.view array.old).work }
     {
         let count = self.passed;
         if is_due(count, self.quarter, self.job.now()) {
@@ -66,16 +66,16 @@ impl<'s> Course<'s> {
 
     /// Goes on to a clock before which no other quarter is passed.
     fn go<A: Operating>(&mut self, array: &mut A, stop: u64)
-        requires course { IsOnCourse A.BITS self.old (A.device array.old) (A.slots array.old) }
+        requires course { IsOnCourse A.BITS self.old (A.view array.old) }
         requires forth { self.old.job.place.clock ≤ stop }
         requires within { stop ≤ total self.old.job.scene }
         requires near { self.old.passed < 4
             → stop ≤ self.old.passed * self.old.quarter }
-        ensures course { IsOnCourse A.BITS self.new (A.device array.new) (A.slots array.new) }
+        ensures course { IsOnCourse A.BITS self.new (A.view array.new) }
         ensures same { IsSameCourse self.old self.new }
         ensures clock { self.new.job.place.clock ≡ stop }
         ensures trace { self.new.trace ≡ self.old.trace }
-        ensures work { A.work array.new ≤ A.work array.old + (stop - self.old.job.place.clock) }
+        ensures work { (A.view array.new).work ≤ (A.view array.old).work + (stop - self.old.job.place.clock) }
     {
         let clocks = stop - self.job.now();
         self.job.advance(array, clocks);
@@ -102,15 +102,15 @@ impl<'s> Course<'s> {
 
     /// Goes on to a clock; what is broadcast on the way is not traced.
     fn run_to<A: Operating>(&mut self, array: &mut A, target: u64)
-        requires course { IsOnCourse A.BITS self.old (A.device array.old) (A.slots array.old) }
+        requires course { IsOnCourse A.BITS self.old (A.view array.old) }
         requires forth { self.old.job.place.clock ≤ target }
         requires within { target ≤ total self.old.job.scene }
         requires small { self.old.quarter ≤ 2 ^ 43 }
-        ensures course { IsOnCourse A.BITS self.new (A.device array.new) (A.slots array.new) }
+        ensures course { IsOnCourse A.BITS self.new (A.view array.new) }
         ensures same { IsSameCourse self.old self.new }
         ensures clock { self.new.job.place.clock ≡ target }
         ensures trace { self.new.trace ≡ self.old.trace }
-        ensures work { A.work array.new ≤ A.work array.old + (target - self.old.job.place.clock) }
+        ensures work { (A.view array.new).work ≤ (A.view array.old).work + (target - self.old.job.place.clock) }
     {
         while self.job.now() < target {
             let stop = self.next_stop(target);
@@ -120,15 +120,15 @@ impl<'s> Course<'s> {
 
     /// One broadcast, which the trace takes.
     fn step<A: Operating>(&mut self, array: &mut A)
-        requires course { IsOnCourse A.BITS self.old (A.device array.old) (A.slots array.old) }
+        requires course { IsOnCourse A.BITS self.old (A.view array.old) }
         requires more { self.old.job.place.clock < total self.old.job.scene }
-        ensures course { IsOnCourse A.BITS self.new (A.device array.new) (A.slots array.new) }
+        ensures course { IsOnCourse A.BITS self.new (A.view array.new) }
         ensures same { IsSameCourse self.old self.new }
         ensures clock { self.new.job.place.clock ≡ self.old.job.place.clock + 1 }
         ensures trace { self.new.trace ≡ buffer (keep_last self.old.trace.capacity
             (self.old.trace.items ++ take 1 (drop self.old.job.place.clock
             (program self.old.job.scene)))) self.old.trace.capacity }
-        ensures work { A.work array.new ≤ A.work array.old + 1 }
+        ensures work { (A.view array.new).work ≤ (A.view array.old).work + 1 }
     {
         self.trace.push_back(self.job.next_micro());
         let stop = self.job.now() + 1;
@@ -137,16 +137,16 @@ impl<'s> Course<'s> {
 
     /// So many broadcasts, which the trace takes.
     fn walk<A: Operating>(&mut self, array: &mut A, clocks: u64)
-        requires course { IsOnCourse A.BITS self.old (A.device array.old) (A.slots array.old) }
+        requires course { IsOnCourse A.BITS self.old (A.view array.old) }
         requires left { self.old.job.place.clock + clocks ≤ total self.old.job.scene }
         requires room { length self.old.trace.items ≤ self.old.trace.capacity }
-        ensures course { IsOnCourse A.BITS self.new (A.device array.new) (A.slots array.new) }
+        ensures course { IsOnCourse A.BITS self.new (A.view array.new) }
         ensures same { IsSameCourse self.old self.new }
         ensures clock { self.new.job.place.clock ≡ self.old.job.place.clock + clocks }
         ensures trace { self.new.trace ≡ buffer (keep_last self.old.trace.capacity
             (self.old.trace.items ++ take clocks (drop self.old.job.place.clock
             (program self.old.job.scene)))) self.old.trace.capacity }
-        ensures work { A.work array.new ≤ A.work array.old + clocks }
+        ensures work { (A.view array.new).work ≤ (A.view array.old).work + clocks }
     {
         for _ in 0..clocks {
             self.step(array);
@@ -155,17 +155,17 @@ impl<'s> Course<'s> {
 
     /// Goes on to a clock, so that the trace has the last broadcasts before it.
     pub(crate) fn forward<A: Operating>(&mut self, array: &mut A, target: u64)
-        requires course { IsOnCourse A.BITS self.old (A.device array.old) (A.slots array.old) }
+        requires course { IsOnCourse A.BITS self.old (A.view array.old) }
         requires forth { self.old.job.place.clock ≤ target }
         requires within { target ≤ total self.old.job.scene }
         requires small { self.old.quarter ≤ 2 ^ 43 }
         requires capacity { self.old.trace.capacity ≡ 32 }
         requires trace { IsTraced self.old ⊎ (self.old.job.place.clock + 32 ≤ target) }
-        ensures course { IsOnCourse A.BITS self.new (A.device array.new) (A.slots array.new) }
+        ensures course { IsOnCourse A.BITS self.new (A.view array.new) }
         ensures same { IsSameCourse self.old self.new }
         ensures clock { self.new.job.place.clock ≡ target }
         ensures trace { IsTraced self.new }
-        ensures work { A.work array.new ≤ A.work array.old + (target - self.old.job.place.clock) }
+        ensures work { (A.view array.new).work ≤ (A.view array.old).work + (target - self.old.job.place.clock) }
     {
         let clocks = target - self.job.now();
         if clocks < LAST {
@@ -179,16 +179,16 @@ impl<'s> Course<'s> {
 
     /// Goes back to a clock, from the latest quarter after which the trace fills again.
     pub(crate) fn back<A: Operating>(&mut self, array: &mut A, target: u64)
-        requires course { IsOnCourse A.BITS self.old (A.device array.old) (A.slots array.old) }
+        requires course { IsOnCourse A.BITS self.old (A.view array.old) }
         requires before { target ≤ self.old.job.place.clock }
         requires small { self.old.quarter ≤ 2 ^ 43 }
         requires quarter { total self.old.job.scene < 4 * self.old.quarter + 4 }
         requires capacity { self.old.trace.capacity ≡ 32 }
-        ensures course { IsOnCourse A.BITS self.new (A.device array.new) (A.slots array.new) }
+        ensures course { IsOnCourse A.BITS self.new (A.view array.new) }
         ensures same { IsSameCourse self.old self.new }
         ensures clock { self.new.job.place.clock ≡ target }
         ensures trace { IsTraced self.new }
-        ensures work { A.work array.new ≤ A.work array.old + (self.old.quarter + 32) }
+        ensures work { (A.view array.new).work ≤ (A.view array.old).work + (self.old.quarter + 32) }
     {
         let _now = self.job.now();
         let checkpoint = checkpoint_for(self.quarter, target);
@@ -199,13 +199,13 @@ impl<'s> Course<'s> {
 
     /// Goes back to a checkpoint that was passed.
     fn return_to<A: Array>(&mut self, array: &mut A, checkpoint: usize)
-        requires course { IsOnCourse A.BITS self.old (A.device array.old) (A.slots array.old) }
+        requires course { IsOnCourse A.BITS self.old (A.view array.old) }
         requires passed { checkpoint < self.old.passed }
-        ensures course { IsOnCourse A.BITS self.new (A.device array.new) (A.slots array.new) }
+        ensures course { IsOnCourse A.BITS self.new (A.view array.new) }
         ensures same { IsSameCourse self.old self.new }
         ensures clock { self.new.job.place.clock ≡ checkpoint * self.old.quarter }
         ensures trace { self.new.trace ≡ self.old.trace }
-        ensures work { A.work array.new ≡ A.work array.old }
+        ensures work { (A.view array.new).work ≡ (A.view array.old).work }
     {
         let _now = self.job.now();
         law_of_grids();

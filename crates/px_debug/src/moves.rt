@@ -12,15 +12,15 @@ use px_debug_text::Command;
 impl<'s> Course<'s> {
     /// Goes where a command leads.
     pub(crate) fn obey<A: Operating>(&mut self, array: &mut A, command: Command)
-        requires course { IsOnCourse A.BITS self.old (A.device array.old) (A.slots array.old) }
+        requires course { IsOnCourse A.BITS self.old (A.view array.old) }
         requires quarter { self.old.quarter ≡ quarter_of self.old.job.scene }
         requires trace { IsTraced self.old }
-        ensures course { IsOnCourse A.BITS self.new (A.device array.new) (A.slots array.new) }
+        ensures course { IsOnCourse A.BITS self.new (A.view array.new) }
         ensures same { IsSameCourse self.old self.new }
         ensures clock { self.new.job.place.clock
             ≡ moved self.old.job.scene self.old.job.place.clock command }
         ensures trace { IsTraced self.new }
-        ensures work { A.work array.new ≤ A.work array.old
+        ensures work { (A.view array.new).work ≤ (A.view array.old).work
             + most_clocks self.old.job.scene self.old.job.place.clock command }
     {
         match command {
@@ -71,16 +71,16 @@ impl<'s> Course<'s> {
 
     /// Goes on to a clock.
     fn go_to<A: Operating>(&mut self, array: &mut A, target: u64)
-        requires course { IsOnCourse A.BITS self.old (A.device array.old) (A.slots array.old) }
+        requires course { IsOnCourse A.BITS self.old (A.view array.old) }
         requires quarter { self.old.quarter ≡ quarter_of self.old.job.scene }
         requires trace { IsTraced self.old }
         requires forth { self.old.job.place.clock ≤ target }
         requires within { target ≤ total self.old.job.scene }
-        ensures course { IsOnCourse A.BITS self.new (A.device array.new) (A.slots array.new) }
+        ensures course { IsOnCourse A.BITS self.new (A.view array.new) }
         ensures same { IsSameCourse self.old self.new }
         ensures clock { self.new.job.place.clock ≡ target }
         ensures trace { IsTraced self.new }
-        ensures work { A.work array.new ≤ A.work array.old + (target - self.old.job.place.clock) }
+        ensures work { (A.view array.new).work ≤ (A.view array.old).work + (target - self.old.job.place.clock) }
     {
         let _total = self.job.total_clocks();
         self.forward(array, target);
@@ -88,17 +88,17 @@ impl<'s> Course<'s> {
 
     /// Goes so many times to the end of the operation that runs.
     fn go_ends<A: Operating>(&mut self, array: &mut A, count: u64)
-        requires course { IsOnCourse A.BITS self.old (A.device array.old) (A.slots array.old) }
+        requires course { IsOnCourse A.BITS self.old (A.view array.old) }
         requires quarter { self.old.quarter ≡ quarter_of self.old.job.scene }
         requires trace { IsTraced self.old }
-        ensures course { IsOnCourse A.BITS self.new (A.device array.new) (A.slots array.new) }
+        ensures course { IsOnCourse A.BITS self.new (A.view array.new) }
         ensures same { IsSameCourse self.old self.new }
         ensures clock { self.new.job.place.clock ≡ after_ends count
             (ends_after self.old.job.scene self.old.job.place.clock) self.old.job.place.clock
             (total self.old.job.scene) }
         ensures forth { self.old.job.place.clock ≤ self.new.job.place.clock }
         ensures trace { IsTraced self.new }
-        ensures work { A.work array.new ≤ A.work array.old
+        ensures work { (A.view array.new).work ≤ (A.view array.old).work
             + (self.new.job.place.clock - self.old.job.place.clock) }
     {
         for _ in 0..count {
@@ -112,14 +112,14 @@ impl<'s> Course<'s> {
 
     /// Goes so many clocks back, at most to the first; where it stands there already it does nothing.
     fn go_back<A: Operating>(&mut self, array: &mut A, clocks: u64)
-        requires course { IsOnCourse A.BITS self.old (A.device array.old) (A.slots array.old) }
+        requires course { IsOnCourse A.BITS self.old (A.view array.old) }
         requires quarter { self.old.quarter ≡ quarter_of self.old.job.scene }
         requires trace { IsTraced self.old }
-        ensures course { IsOnCourse A.BITS self.new (A.device array.new) (A.slots array.new) }
+        ensures course { IsOnCourse A.BITS self.new (A.view array.new) }
         ensures same { IsSameCourse self.old self.new }
         ensures clock { self.new.job.place.clock ≡ self.old.job.place.clock - clocks }
         ensures trace { IsTraced self.new }
-        ensures work { A.work array.new ≤ A.work array.old + back_clocks self.old.job.scene
+        ensures work { (A.view array.new).work ≤ (A.view array.old).work + back_clocks self.old.job.scene
             self.old.job.place.clock (self.old.job.place.clock - clocks) }
     {
         let _total = self.job.total_clocks();

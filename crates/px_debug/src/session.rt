@@ -74,17 +74,16 @@ impl<'s> Session<'s> {
     /// Slot 0 keeps the array as it is. After `Memory` the slots are as they were.
     pub fn new<A: Array>(alloc: Global, job: Job<'s>, array: &mut A) -> Result<Session<'s>, Memory>
         requires start { job.place.clock ≡ 0 }
-        requires at { IsAt A.BITS job.scene 0 (A.device array.old) }
-        requires fresh { A.slots array.old ≡ no_slots }
+        requires at { IsAt A.BITS job.scene 0 (A.view array.old).device }
+        requires fresh { (A.view array.old).slots ≡ no_slots }
         requires few { A.BITS ≤ 256 }
         ensures session { IfOk result (λ s.
             s ≡ record { scene = job.entry.scene; now = 0; lines = 0 }) }
-        ensures fits { IfOk result (λ s. Fits A.BITS s (A.device array.new) (A.slots array.new)) }
-        ensures device { A.device array.new ≡ A.device array.old }
-        ensures slots { OnOk result
-            (A.slots array.new ≡ after_save 0 (A.device array.old) (A.slots array.old)) }
-        ensures err { OnErr result (A.slots array.new ≡ A.slots array.old) }
-        ensures work { A.work array.new ≡ A.work array.old }
+        ensures fits { IfOk result (λ s. Fits A.BITS s (A.view array.new)) }
+        ensures device { (A.view array.new).device ≡ (A.view array.old).device }
+        ensures slots { OnOk result ((A.view array.new).slots ≡ after_save 0 (A.view array.old).device (A.view array.old).slots) }
+        ensures err { OnErr result ((A.view array.new).slots ≡ (A.view array.old).slots) }
+        ensures work { (A.view array.new).work ≡ (A.view array.old).work }
     {
         let trace = HeapCircularBuffer::with_capacity(alloc, 32)?;
         let _now = job.now();
@@ -103,21 +102,21 @@ impl<'s> Session<'s> {
         line: &[u8],
         out: &mut O,
     ) -> Result<Going, Failed>
-        requires fits { Fits A.BITS self.old (A.device array.old) (A.slots array.old) }
+        requires fits { Fits A.BITS self.old (A.view array.old) }
         requires counted { self.old.lines < 2 ^ 64 - 1 }
         ensures session { self.new ≡ record {
           scene = self.old.scene;
           now = moved self.old.scene self.old.now (line_command line.now);
           lines = self.old.lines + 1;
         } }
-        ensures fits { Fits A.BITS self.new (A.device array.new) (A.slots array.new) }
+        ensures fits { Fits A.BITS self.new (A.view array.new) }
         ensures ok { OnOk result (TakesAll (O.state out.old) (O.state out.new)
             (answer A.BITS self.new.scene self.new.now self.new.lines (line_command line.now))) }
         ensures going { IfOk result (λ on. on ≡ going (line_command line.now)) }
         ensures err { OnErr result (TakesFront (O.state out.old) (O.state out.new)
             (answer A.BITS self.new.scene self.new.now self.new.lines (line_command line.now))) }
         ensures cause { HasCause (O.state out.old).faults (O.state out.new).faults result }
-        ensures work { A.work array.new ≤ A.work array.old
+        ensures work { (A.view array.new).work ≤ (A.view array.old).work
             + most_clocks self.old.scene self.old.now (line_command line.now) }
     {
         let command = command_of(line);
@@ -128,15 +127,15 @@ impl<'s> Session<'s> {
 
     /// Goes where a command leads, and counts its line.
     fn obey<A: Operating>(&mut self, array: &mut A, command: Command)
-        requires fits { Fits A.BITS self.old (A.device array.old) (A.slots array.old) }
+        requires fits { Fits A.BITS self.old (A.view array.old) }
         requires counted { self.old.lines < 2 ^ 64 - 1 }
         ensures session { self.new ≡ record {
           scene = self.old.scene;
           now = moved self.old.scene self.old.now command;
           lines = self.old.lines + 1;
         } }
-        ensures fits { Fits A.BITS self.new (A.device array.new) (A.slots array.new) }
-        ensures work { A.work array.new ≤ A.work array.old
+        ensures fits { Fits A.BITS self.new (A.view array.new) }
+        ensures work { (A.view array.new).work ≤ (A.view array.old).work
             + most_clocks self.old.scene self.old.now command }
     {
         self.course.obey(array, command);
@@ -150,7 +149,7 @@ impl<'s> Session<'s> {
         command: Command,
         out: &mut O,
     ) -> Result<(), Failed>
-        requires fits { Fits A.BITS self.now (A.device array.now) (A.slots array.now) }
+        requires fits { Fits A.BITS self.now (A.view array.now) }
         ensures ok { OnOk result (TakesAll (O.state out.old) (O.state out.new)
             (answer A.BITS self.now.scene self.now.now self.now.lines command)) }
         ensures err { OnErr result (TakesFront (O.state out.old) (O.state out.new)
@@ -164,8 +163,8 @@ impl<'s> Session<'s> {
     /// The answer to a command, after its move.
     #[tactic(auto, unfolding(crate::specs::Answers::answer_in))]
     fn answer<A: Array>(&self, array: &A, command: Command) -> Text
-        requires fits { Fits A.BITS self.now (A.device array.now) (A.slots array.now) }
-        ensures { result.bytes ≡ answer_in self.now.scene (A.device array.now).state self.now.now
+        requires fits { Fits A.BITS self.now (A.view array.now) }
+        ensures { result.bytes ≡ answer_in self.now.scene (A.view array.now).device.state self.now.now
             self.now.lines command }
     {
         let job = &self.course.job;

@@ -169,7 +169,7 @@ Comes result bits taken bytes before after =
     after
 
 comes : (ending : Ending) (bits : ℕ) (o : Opening) (scene : SceneView) (now : SessionView) (z rest : List ℕ)
-    (before after : Ends) → Sat bits o scene z rest after → Fits bits now after.array.device after.array.slots
+    (before after : Ends) → Sat bits o scene z rest after → Fits bits now after.array
     → (ending ≡ e.ReadFault → is_some o.part ≡ true) → HasRead ending z (more_than o.text.items) after.rest
     → HasServed ending bits (stand (session_opened scene) 0 before.out) (stand now after.array.work after.out)
     (lines_in (command_text (o.text.items ++ z)))
@@ -202,7 +202,7 @@ pub performs_sits : QuitEnds → (result : Result (Unit {0}) Stop) (ending : End
     (scene : SceneView) (read : List ℕ) (from now : SessionView) (work : ℕ) (asks asks' : Option (List Ask))
     (rest : Option (List ℕ)) (faults : ℕ) (before after : Ends) → Begins bits o scene read → Opens o before.rest rest
     → result ≡ result_of ending → from ≡ session_opened scene → work ≡ 0
-    → Fits bits now after.array.device after.array.slots
+    → Fits bits now after.array
     → Sits o ending bits read (moment from work before.out asks rest faults)
     (moment now after.array.work after.out asks' after.rest after.faults) → PerformsSession result bits before after
 performs_sits quit result ending bits o scene read from now work asks asks' rest faults before after begins opens is

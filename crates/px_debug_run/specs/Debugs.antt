@@ -86,14 +86,14 @@ pub record IsAnswered (ends : Bool) (bits : ℕ) (from : SessionView) (lines : L
   pub now : SessionView
   pub answered : Answered ends (stand from 0 before.out) (stand now after.array.work after.out)
       (sitting bits from lines)
-  pub fits : Fits bits now after.array.device after.array.slots
+  pub fits : Fits bits now after.array
 
 -- a write failed in the answer to one of the lines, or in finishing behind the last; the array is as the
 -- session leaves it
 pub record IsBroken (bits : ℕ) (from : SessionView) (lines : List (List ℕ)) (before after : Ends) : Type 0 where
   pub now : SessionView
   pub broken : Breaks bits (stand from 0 before.out) (stand now after.array.work after.out) lines
-  pub fits : Fits bits now after.array.device after.array.slots
+  pub fits : Fits bits now after.array
 
 -- the scene part of some bytes is a scene's that an array with pixels of so many bits can draw
 abbrev pub Admits : (bits : ℕ) → (bytes : List ℕ) → Type 0

@@ -2,7 +2,6 @@
 ghost use Rattle.std.specs.Prelude.{◌≡◌, ◌≢◌, ◌<◌, ◌≤◌, ◌+◌, ◌^◌, [], ℕ, IfErr, IfOk, IsErrOf, OnErr, OnOk, Err, None, length, true, false};
 ghost use Rattle.std.specs.Io.KnownBytes.{IsAtEnd};
 ghost use Rattle.px_io.specs.Told.{ConsumesAtMost};
-ghost use Rattle.px_array.specs.Slots.{array_view};
 ghost use Rattle.px_debug.specs.Moves.{Fits};
 ghost use Rattle.px_io.specs.declared.reading.ReadError.{ReadError};
 ghost use Rattle.px_asked.specs.Listenings.{ListenedTo, Listens};
@@ -40,10 +39,8 @@ pub fn debug_input<S: Asks<O>, O: Sink, A: Operating>(
 ) -> Result<(), Stop>
     requires bits { A.BITS ≤ 256 }
     ensures performs { PerformsSession result A.BITS
-        (ends (S.rest input.old) (S.faults input.old) (O.state out.old)
-        (A.device array.old) (A.slots array.old) (A.work array.old))
-        (ends (S.rest input.new) (S.faults input.new) (O.state out.new)
-        (A.device array.new) (A.slots array.new) (A.work array.new)) }
+        (ends (S.rest input.old) (S.faults input.old) (O.state out.old) (A.view array.old))
+        (ends (S.rest input.new) (S.faults input.new) (O.state out.new) (A.view array.new)) }
     ensures causes { HasCauses result (S.faults input.old) (S.faults input.new) (O.state out.old).faults
         (O.state out.new).faults }
     ensures took { ConsumesAtMost (S.rest input.old) (S.rest input.new) READ_LIMIT }
@@ -114,20 +111,15 @@ fn open_session<'s, A: Array>(
 ) -> Result<Session<'s>, SceneStop>
     requires bits { A.BITS ≤ 256 }
     ensures session { IfOk result (λ session. session ≡ session_opened scene.now) }
-    ensures fits { IfOk result (λ session. Fits A.BITS session (A.device array.new)
-        (A.slots array.new)) }
-    ensures work { OnOk result (A.work array.new ≡ 0) }
+    ensures fits { IfOk result (λ session. Fits A.BITS session (A.view array.new)) }
+    ensures work { OnOk result ((A.view array.new).work ≡ 0) }
     ensures draws { OnOk result ((o : Outcome) → drawable A.BITS scene.now o ≡ o) }
     ensures err { IfErr result (λ stop. StopsAt (drawable A.BITS scene.now) stop) }
     ensures array { IfErr result (λ stop. LeavesClosed (status_of (stopped stop)) A.BITS scene.now
-        (array_view (A.device array.old) (A.slots array.old) (A.work array.old))
-        (array_view (A.device array.new) (A.slots array.new) (A.work array.new))) }
+        (A.view array.old) (A.view array.new)) }
 {
     let job = open_job(alloc, scene, array)?;
-    match Session::new(alloc, job, array) {
-        Ok(session) => Ok(session),
-        Err(lack) => Err(SceneStop::Memory(lack)),
-    }
+    Session::new(alloc, job, array).map_err(SceneStop::Memory)
 }
 
 /// Answers the lines behind the scene part, and finishes the output.
@@ -139,16 +131,16 @@ fn sit<S: Asks<O>, O: Sink, A: Operating>(
     input: &mut S,
     out: &mut O,
 ) -> Ending
-    requires fits { Fits A.BITS session.old (A.device array.old) (A.slots array.old) }
+    requires fits { Fits A.BITS session.old (A.view array.old) }
     requires first { session.old.lines ≡ 0 }
     requires few { length opening.now.text.items ≤ READ_LIMIT }
     requires short { IsShort opening.now }
     requires none { opening.now.part ≡ None → (read.now ≡ []) × IsAtEnd (S.rest input.old) }
-    ensures fits { Fits A.BITS session.new (A.device array.new) (A.slots array.new) }
+    ensures fits { Fits A.BITS session.new (A.view array.new) }
     ensures sits { Sits opening.now result A.BITS read.now
-        (moment session.old (A.work array.old) (O.state out.old)
+        (moment session.old (A.view array.old).work (O.state out.old)
         (S.asks input.old) (S.rest input.old) (S.faults input.old))
-        (moment session.new (A.work array.new) (O.state out.new)
+        (moment session.new (A.view array.new).work (O.state out.new)
         (S.asks input.new) (S.rest input.new) (S.faults input.new)) }
 {
     match opening.part {

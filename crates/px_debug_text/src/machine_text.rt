@@ -23,11 +23,11 @@ use px_sched::Layout;
 /// has no such pixel it is `? line` with the number of the line.
 pub fn pixel_answer<A: Array>(array: &A, x: u64, y: u64, number: u64) -> Text
     requires few { A.BITS ≤ 256 }
-    requires grid { IsGrid (A.device array.now).state.tree.nx (A.device array.now).state.tree.ny }
-    requires pixels { HasGrid A.BITS (A.device array.now).state.tree.nx
-        (A.device array.now).state.tree.ny (A.device array.now).state }
-    ensures { result.bytes ≡ (if is_pixel (A.device array.now).state x y
-        then pixel_line (A.device array.now).state x y else unknown_line number) }
+    requires grid { IsGrid (A.view array.now).device.state.tree.nx (A.view array.now).device.state.tree.ny }
+    requires pixels { HasGrid A.BITS (A.view array.now).device.state.tree.nx
+        (A.view array.now).device.state.tree.ny (A.view array.now).device.state }
+    ensures { result.bytes ≡ (if is_pixel (A.view array.now).device.state x y
+        then pixel_line (A.view array.now).device.state x y else unknown_line number) }
 {
     if is_pixel(array, x, y) {
         pixel_line(array, x as u32, y as u32)
@@ -42,9 +42,9 @@ pub fn pixel_answer<A: Array>(array: &A, x: u64, y: u64, number: u64) -> Text
 /// `x` and `y`, and a pixel that is not there, are as in `pixel_answer`.
 pub fn field_answer<A: Array>(array: &A, layout: &Layout, x: u64, y: u64, number: u64) -> Text
     requires room { need_of layout.now ≤ A.BITS }
-    requires grid { IsGrid (A.device array.now).state.tree.nx (A.device array.now).state.tree.ny }
-    ensures { result.bytes ≡ (if is_pixel (A.device array.now).state x y
-        then field_line layout.now (A.device array.now).state x y else unknown_line number) }
+    requires grid { IsGrid (A.view array.now).device.state.tree.nx (A.view array.now).device.state.tree.ny }
+    ensures { result.bytes ≡ (if is_pixel (A.view array.now).device.state x y
+        then field_line layout.now (A.view array.now).device.state x y else unknown_line number) }
 {
     if is_pixel(array, x, y) {
         field_line(array, layout, x as u32, y as u32)
@@ -58,9 +58,9 @@ pub fn field_answer<A: Array>(array: &A, layout: &Layout, x: u64, y: u64, number
 /// Levels are counted from 1, below the root, and the nodes of a level from 0. Where the tree has
 /// no such node it is `? line` with the number of the line.
 pub fn tree_answer<A: Array>(array: &A, level: u64, index: u64, number: u64) -> Text
-    requires grid { IsGrid (A.device array.now).state.tree.nx (A.device array.now).state.tree.ny }
-    ensures { result.bytes ≡ (if is_node (A.device array.now).state level index
-        then tree_line (A.device array.now).state level index else unknown_line number) }
+    requires grid { IsGrid (A.view array.now).device.state.tree.nx (A.view array.now).device.state.tree.ny }
+    ensures { result.bytes ≡ (if is_node (A.view array.now).device.state level index
+        then tree_line (A.view array.now).device.state level index else unknown_line number) }
 {
     if is_node(array, level, index) {
         tree_line(array, level as u32, index as u32)
@@ -71,10 +71,10 @@ pub fn tree_answer<A: Array>(array: &A, level: u64, index: u64, number: u64) -> 
 
 /// Whether a pixel is one of the grid.
 fn is_pixel<A: Array>(array: &A, x: u64, y: u64) -> bool
-    requires grid { IsGrid (A.device array.now).state.tree.nx (A.device array.now).state.tree.ny }
-    ensures is { result ≡ is_pixel (A.device array.now).state x y }
-    ensures column { result ≡ true → x < 2 ^ (A.device array.now).state.tree.nx }
-    ensures row { result ≡ true → y < 2 ^ (A.device array.now).state.tree.ny }
+    requires grid { IsGrid (A.view array.now).device.state.tree.nx (A.view array.now).device.state.tree.ny }
+    ensures is { result ≡ is_pixel (A.view array.now).device.state x y }
+    ensures column { result ≡ true → x < 2 ^ (A.view array.now).device.state.tree.nx }
+    ensures row { result ≡ true → y < 2 ^ (A.view array.now).device.state.tree.ny }
     ensures small { result ≡ true → (x < 2 ^ 9) × (y < 2 ^ 9) }
 {
     let (nx, ny) = array.size();
@@ -83,10 +83,10 @@ fn is_pixel<A: Array>(array: &A, x: u64, y: u64) -> bool
 
 /// Whether a node is one of the tree.
 fn is_node<A: Array>(array: &A, level: u64, index: u64) -> bool
-    requires grid { IsGrid (A.device array.now).state.tree.nx (A.device array.now).state.tree.ny }
-    ensures is { result ≡ is_node (A.device array.now).state level index }
+    requires grid { IsGrid (A.view array.now).device.state.tree.nx (A.view array.now).device.state.tree.ny }
+    ensures is { result ≡ is_node (A.view array.now).device.state level index }
     ensures from_one { result ≡ true → 1 ≤ level }
-    ensures in_tree { result ≡ true → level ≤ levels_of (A.device array.now).state.tree }
+    ensures in_tree { result ≡ true → level ≤ levels_of (A.view array.now).device.state.tree }
     ensures in_level { result ≡ true → index < 2 ^ level }
     ensures small { result ≡ true → (level ≤ 18) × (index < 2 ^ 18) }
 {
@@ -105,10 +105,10 @@ fn is_level(level: u64, levels: u32) -> bool
 
 /// The memory bits of a pixel, and its registers.
 fn pixel_line<A: Array>(array: &A, x: u32, y: u32) -> Text
-    requires pixel { HasPixel (A.device array.now) x y }
+    requires pixel { HasPixel (A.view array.now).device x y }
     requires few { A.BITS ≤ 256 }
-    requires memory { length (pixel_of (A.device array.now).state x y).memory ≡ A.BITS }
-    ensures { result.bytes ≡ pixel_line (A.device array.now).state x y }
+    requires memory { length (pixel_of (A.view array.now).device.state x y).memory ≡ A.BITS }
+    ensures { result.bytes ≡ pixel_line (A.view array.now).device.state x y }
 {
     let mut digits = Buffer::new();
     let registers = array.registers(x, y);
@@ -133,10 +133,10 @@ fn pixel_line<A: Array>(array: &A, x: u32, y: u32) -> Text
 
 /// The memory bits of a pixel as digits, from bit 0 on.
 fn memory_text<A: Array>(array: &A, x: u32, y: u32) -> ArrayString<256>
-    requires pixel { HasPixel (A.device array.now) x y }
+    requires pixel { HasPixel (A.view array.now).device x y }
     requires few { A.BITS ≤ 256 }
-    requires memory { length (pixel_of (A.device array.now).state x y).memory ≡ A.BITS }
-    ensures { result.bytes ≡ map digit_of (pixel_of (A.device array.now).state x y).memory }
+    requires memory { length (pixel_of (A.view array.now).device.state x y).memory ≡ A.BITS }
+    ensures { result.bytes ≡ map digit_of (pixel_of (A.view array.now).device.state x y).memory }
 {
     let mut text = ArrayString::new();
     for at in 0..A::BITS {
@@ -147,9 +147,9 @@ fn memory_text<A: Array>(array: &A, x: u32, y: u32) -> ArrayString<256>
 
 /// The keys of a pixel, and its two bits behind them.
 fn field_line<A: Array>(array: &A, layout: &Layout, x: u32, y: u32) -> Text
-    requires pixel { HasPixel (A.device array.now) x y }
+    requires pixel { HasPixel (A.view array.now).device x y }
     requires room { need_of layout.now ≤ A.BITS }
-    ensures { result.bytes ≡ field_line layout.now (A.device array.now).state x y }
+    ensures { result.bytes ≡ field_line layout.now (A.view array.now).device.state x y }
 {
     let mut digits = Buffer::new();
     let best = key_text(array, layout.b_depth(), layout.b_number(), x, y);
@@ -173,12 +173,12 @@ fn field_line<A: Array>(array: &A, layout: &Layout, x: u32, y: u32) -> Text
 
 /// The numbers of two fields of a pixel.
 fn key_text<A: Array>(array: &A, depth: Field, number: Field, x: u32, y: u32) -> ArrayString<64>
-    requires pixel { HasPixel (A.device array.now) x y }
+    requires pixel { HasPixel (A.view array.now).device x y }
     requires depth { (depth.at ≤ 100) × (depth.len ≤ 24) × (depth.at + depth.len ≤ A.BITS) }
     requires number { (number.at ≤ 100) × (number.len ≤ 24) × (number.at + number.len ≤ A.BITS) }
     ensures { result.bytes
-        ≡ decimal (number_in depth (pixel_of (A.device array.now).state x y).memory)
-        ++ codes " " ++ decimal (number_in number (pixel_of (A.device array.now).state x y).memory) }
+        ≡ decimal (number_in depth (pixel_of (A.view array.now).device.state x y).memory)
+        ++ codes " " ++ decimal (number_in number (pixel_of (A.view array.now).device.state x y).memory) }
 {
     let mut digits = Buffer::new();
     let mut text = ArrayString::new();
@@ -190,11 +190,11 @@ fn key_text<A: Array>(array: &A, depth: Field, number: Field, x: u32, y: u32) ->
 
 /// The two latches of a node.
 fn tree_line<A: Array>(array: &A, level: u32, index: u32) -> Text
-    requires is_open { IsOpen (A.device array.now) }
+    requires is_open { IsOpen (A.view array.now).device }
     requires from_one { 1 ≤ level }
-    requires in_tree { level ≤ levels_of (A.device array.now).state.tree }
+    requires in_tree { level ≤ levels_of (A.view array.now).device.state.tree }
     requires in_level { index < 2 ^ level }
-    ensures { result.bytes ≡ tree_line (A.device array.now).state level index }
+    ensures { result.bytes ≡ tree_line (A.view array.now).device.state level index }
 {
     let mut digits = Buffer::new();
     let (output, carry) = array.node(level, index);

@@ -3,7 +3,7 @@ ghost use Rattle.std.specs.Prelude.{◌≡◌, ◌++◌, ◌-◌, true, OnOk, On
 ghost use Rattle.std.specs.Io.KnownBytes.{Appends};
 ghost use Rattle.px_io.specs.Counts.{HasCause};
 ghost use Rattle.px_io.specs.Told.{TakesAll, TakesFront, Tells};
-ghost use Rattle.px_array.specs.Slots.{IsRunOnce, array_view, worked};
+ghost use Rattle.px_array.specs.Slots.{HasWorked, IsRunOnce};
 ghost use Rattle.px_sched.specs.Layouts.{layout_of};
 ghost use Rattle.px_control.specs.Program.{IsAt, total};
 ghost use Rattle.px_frame.specs.Picture.{depth_image, face_image, picture_image};
@@ -30,20 +30,17 @@ pub fn deliver<A: Operating, O: Sink>(
     out: &mut O,
 ) -> Result<(), Failed>
     requires scene { scene.now ≡ job.old.scene }
-    requires at { IsAt A.BITS scene.now job.old.place.clock (A.device array.old) }
+    requires at { IsAt A.BITS scene.now job.old.place.clock (A.view array.old).device }
     ensures ok { OnOk result (Appends (O.state out.old).written (O.state out.new).written
         (depth_image scene.now ++ face_image scene.now)) }
     ensures end { OnOk result (Tells (O.state out.new).finished true) }
     ensures err { OnErr result (TakesFront (O.state out.old) (O.state out.new)
         (depth_image scene.now ++ face_image scene.now)) }
     ensures cause { HasCause (O.state out.old).faults (O.state out.new).faults result }
-    ensures drawn { IsDrawn A.BITS scene.now (A.device array.new) }
-    ensures slots { A.slots array.new ≡ A.slots array.old }
-    ensures work { A.work array.new
-        ≡ worked (total scene.now - job.old.place.clock) (A.work array.old) }
-    ensures once { IsRunOnce
-        (array_view (A.device array.old) (A.slots array.old) (A.work array.old))
-        → IsRunOnce (array_view (A.device array.new) (A.slots array.new) (A.work array.new)) }
+    ensures drawn { IsDrawn A.BITS scene.now (A.view array.new).device }
+    ensures worked { HasWorked (total scene.now - job.old.place.clock)
+        (A.view array.old) (A.view array.new) }
+    ensures once { IsRunOnce (A.view array.old) → IsRunOnce (A.view array.new) }
     ensures job { IsFinished job.old job.new }
 {
     deliver_images(job, scene, array, &[Plane::Depth, Plane::Face], out)
@@ -58,19 +55,16 @@ pub fn deliver_images<A: Operating, O: Sink>(
     out: &mut O,
 ) -> Result<(), Failed>
     requires scene { scene.now ≡ job.old.scene }
-    requires at { IsAt A.BITS scene.now job.old.place.clock (A.device array.old) }
+    requires at { IsAt A.BITS scene.now job.old.place.clock (A.view array.old).device }
     ensures ok { OnOk result (Appends (O.state out.old).written (O.state out.new).written
         (images scene.now planes.now)) }
     ensures end { OnOk result (Tells (O.state out.new).finished true) }
     ensures err { OnErr result (TakesFront (O.state out.old) (O.state out.new) (images scene.now planes.now)) }
     ensures cause { HasCause (O.state out.old).faults (O.state out.new).faults result }
-    ensures drawn { IsDrawn A.BITS scene.now (A.device array.new) }
-    ensures slots { A.slots array.new ≡ A.slots array.old }
-    ensures work { A.work array.new
-        ≡ worked (total scene.now - job.old.place.clock) (A.work array.old) }
-    ensures once { IsRunOnce
-        (array_view (A.device array.old) (A.slots array.old) (A.work array.old))
-        → IsRunOnce (array_view (A.device array.new) (A.slots array.new) (A.work array.new)) }
+    ensures drawn { IsDrawn A.BITS scene.now (A.view array.new).device }
+    ensures worked { HasWorked (total scene.now - job.old.place.clock)
+        (A.view array.old) (A.view array.new) }
+    ensures once { IsRunOnce (A.view array.old) → IsRunOnce (A.view array.new) }
     ensures job { IsFinished job.old job.new }
 {
     let layout = draw_job(job, scene, array);
@@ -82,15 +76,12 @@ pub fn deliver_images<A: Operating, O: Sink>(
 #[tactic(auto, using(crate::proofs::PictureLemmas::background_shown))]
 pub fn draw_job<A: Operating>(job: &mut Job<'_>, scene: &Scene, array: &mut A) -> Layout
     requires scene { scene.now ≡ job.old.scene }
-    requires at { IsAt A.BITS scene.now job.old.place.clock (A.device array.old) }
+    requires at { IsAt A.BITS scene.now job.old.place.clock (A.view array.old).device }
     ensures layout { result ≡ layout_of scene.now }
-    ensures drawn { IsDrawn A.BITS scene.now (A.device array.new) }
-    ensures slots { A.slots array.new ≡ A.slots array.old }
-    ensures work { A.work array.new
-        ≡ worked (total scene.now - job.old.place.clock) (A.work array.old) }
-    ensures once { IsRunOnce
-        (array_view (A.device array.old) (A.slots array.old) (A.work array.old))
-        → IsRunOnce (array_view (A.device array.new) (A.slots array.new) (A.work array.new)) }
+    ensures drawn { IsDrawn A.BITS scene.now (A.view array.new).device }
+    ensures worked { HasWorked (total scene.now - job.old.place.clock)
+        (A.view array.old) (A.view array.new) }
+    ensures once { IsRunOnce (A.view array.old) → IsRunOnce (A.view array.new) }
     ensures job { IsFinished job.old job.new }
 {
     job.finish(array);
@@ -107,7 +98,7 @@ fn write_images<A: Array, O: Sink>(
     out: &mut O,
 ) -> Result<(), Failed>
     requires layout { layout.now ≡ layout_of scene.now }
-    requires drawn { IsDrawn A.BITS scene.now (A.device array.now) }
+    requires drawn { IsDrawn A.BITS scene.now (A.view array.now).device }
     ensures ok { OnOk result (TakesAll (O.state out.old) (O.state out.new) (images scene.now planes.now)) }
     ensures err { OnErr result (TakesFront (O.state out.old) (O.state out.new) (images scene.now planes.now)) }
     ensures cause { HasCause (O.state out.old).faults (O.state out.new).faults result }
@@ -127,7 +118,7 @@ fn write_image<A: Array, O: Sink>(
     out: &mut O,
 ) -> Result<(), Failed>
     requires layout { layout.now ≡ layout_of scene.now }
-    requires drawn { IsDrawn A.BITS scene.now (A.device array.now) }
+    requires drawn { IsDrawn A.BITS scene.now (A.view array.now).device }
     ensures ok { OnOk result (TakesAll (O.state out.old) (O.state out.new)
         (picture_image scene.now plane)) }
     ensures err { OnErr result (TakesFront (O.state out.old) (O.state out.new)

@@ -1,7 +1,7 @@
 //! Opening an array for a scene, with why it cannot.
 ghost use Rattle.std.specs.Prelude.{◌≡◌, ◌⊎◌, ◌≤◌, ◌^◌, ℕ, Err, IfErr, IfOk, None, OnOk, Some};
 ghost use Rattle.px_num.specs.Want.{want};
-ghost use Rattle.px_array.specs.Slots.{IsRunOnce, array_view, no_slots};
+ghost use Rattle.px_array.specs.Slots.{IsRunOnce, no_slots};
 ghost use Rattle.px_control.specs.Program.{IsAt};
 ghost use Rattle.px_control.specs.Standing.{LeavesOnRefusal};
 ghost use Rattle.px_control.specs.declared.fault.JobFault.{JobFault};
@@ -24,17 +24,12 @@ pub fn open_job<'s, A: Array>(
         ⊎ (job_refusal A.BITS scene.now ≡ Some fault)) }
     ensures small { (count : ℕ) → result ≡ Err (JobFault.Products count) → count ≤ 2 ^ 21 }
     ensures job { IfOk result (λ job. (job.scene ≡ scene.now) × (job.place.clock ≡ 0)) }
-    ensures at { OnOk result (IsAt A.BITS scene.now 0 (A.device array.new)) }
-    ensures slots { OnOk result (A.slots array.new ≡ no_slots) }
-    ensures work { OnOk result (A.work array.new ≡ 0) }
-    ensures once { OnOk result (IsRunOnce
-        (array_view (A.device array.new) (A.slots array.new) (A.work array.new))) }
-    ensures array { IfErr result (λ fault. LeavesOnRefusal fault
-        (array_view (A.device array.old) (A.slots array.old) (A.work array.old))
-        (array_view (A.device array.new) (A.slots array.new) (A.work array.new))) }
+    ensures at { OnOk result (IsAt A.BITS scene.now 0 (A.view array.new).device) }
+    ensures slots { OnOk result ((A.view array.new).slots ≡ no_slots) }
+    ensures work { OnOk result ((A.view array.new).work ≡ 0) }
+    ensures once { OnOk result (IsRunOnce (A.view array.new)) }
+    ensures array { IfErr result (λ fault. LeavesOnRefusal fault (A.view array.old)
+        (A.view array.new)) }
 {
-    match Job::open(alloc, scene, array) {
-        Ok(job) => Ok(job),
-        Err(fault) => Err(fault),
-    }
+    Job::open(alloc, scene, array)
 }

@@ -1,19 +1,20 @@
 -- The text of a scene's passes, played.
 use Rattle.px_num.proofs.Basics.{arith, ℕ, ◌≡◌, ◌≢◌, ◌≤◌, List, length, Bool, true, false, nat_lt, if◌then◌else◌}
-use Rattle.px_num.proofs.Basics.{Option, Some, None, refl, ap, subst, sym, ◌∙◌, nat_tests, common_steps}
+use Rattle.px_num.proofs.Basics.{Option, Some, None, refl, ap, subst, sym, ◌∙◌}
 use Rattle.px_num.specs.Want.{want}
-use Rattle.px_macro.specs.Macros.{IsLawfulInMore}
+use Rattle.px_macro.proofs.MacroLemmas.{is_lawful_in_more}
 use Rattle.px_num.proofs.TruthLaws.{lt_fails}
 use Rattle.px_text.specs.declared.text.TheConstants.{MAX_TEXT_BYTES}
 use Rattle.px_prune.specs.Kept.{crowd_of}
 use Rattle.px_scene.specs.Scenes.{SceneView}
 use Rattle.px_sched.specs.Layouts.{layout_of, need_of}
-use Rattle.px_sched.specs.PassesFacts.{PassesAreLawful}
 use Rattle.px_sched.proofs.LawfulLaws.{passes_lawful}
-use Rattle.px_listing.specs.AcceptedLaw.{AcceptedListingIsLawful, MemoryIsNoRefusal}
+use Rattle.px_sched.proofs.PassesLaws.{passes_are_lawful}
+use Rattle.px_listing.proofs.AcceptedLemmas.{accepted_is_lawful, memory_is_no_refusal}
 use Rattle.px_listing.specs.Listings.{ListingView, canonical_listing}
 use Rattle.px_playing.specs.Memories.{played_text}
-use Rattle.px_playing.specs.PassesText.{CanPlay, PassesAreReadBack, PlayedPassesShowThePicture, passes_listing}
+use Rattle.px_playing.specs.PassesText.{CanPlay, passes_listing}
+use Rattle.px_playing.proofs.PassesLemmas.{passes_read_back, show_the_picture}
 use Rattle.px_playing.specs.Played.{HasPlayed}
 use Rattle.px_listing.specs.Reading.{listing_refusal_of, ListFault}
 use Rattle.px_listing.specs.RoundTrip.{IsReadAsListing}
@@ -40,25 +41,22 @@ same_bytes true reason crowd bytes text is = cc
 same_bytes false reason (Some count) bytes text is = cc
 same_bytes false reason None bytes text is = cc
 
--- the laws of the crates below that join a listing and a scene
-pub record Laws : Type 0 where
-  pub more : IsLawfulInMore
-  pub lawful : PassesAreLawful
-  pub read : PassesAreReadBack
-  pub accepted : AcceptedListingIsLawful
-  pub refusals : MemoryIsNoRefusal
-  pub picture : PlayedPassesShowThePicture
+can_play : (bits : ℕ) (scene : SceneView) (text : List ℕ) → IsListed bits scene text → CanPlay bits scene
+can_play bits scene text is =
+    let enough = lt_fails bits (need_of (layout_of scene)) (not_short _ _ _ _ text is.answer) in
+    record {
+      scene_is = is.scene_is;
+      solids = is.solids;
+      lawful = passes_lawful is_lawful_in_more passes_are_lawful bits scene is.scene_is is.solids enough;
+    }
 
-can_play : Laws → (bits : ℕ) (scene : SceneView) (text : List ℕ) → IsListed bits scene text → CanPlay bits scene
-can_play laws bits scene text is = grind (arith, nat_tests, common_steps, passes_lawful, lt_fails, not_short)
-
-read_as : Laws → (bits : ℕ) (scene : SceneView) (text : List ℕ) → IsListed bits scene text
+read_as : (bits : ℕ) (scene : SceneView) (text : List ℕ) → IsListed bits scene text
     → IsReadAsListing bits text (passes_listing scene)
-read_as laws bits scene text is =
+read_as bits scene text is =
     subst (λ (t : List ℕ). IsReadAsListing bits t (passes_listing scene))
     (same_bytes (nat_lt bits (need_of (layout_of scene))) (short_of_bits (need_of (layout_of scene)))
     (crowd_of scene) (canonical_listing (passes_listing scene)) text is.answer)
-    (laws.read bits scene (can_play laws bits scene text is) is.few)
+    (passes_read_back bits scene (can_play bits scene text is) is.few)
 
 written_as : (bits : ℕ) (text : List ℕ) (l : ListingView) → IsReadAsListing bits text l → listing_written text ≡ l
 unfolding listing_written
@@ -69,14 +67,14 @@ not_refused : (bits : ℕ) (text : List ℕ) (l : ListingView) → IsReadAsListi
 unfolding list_refusal
 not_refused bits text l read short = rw (at_most (length text) short, read.good) refl
 
-pub passes_played : Laws → ListedPassesArePlayed
-passes_played laws bits scene text is short = grind (arith, read_as, not_refused, written_as)
+pub passes_played : ListedPassesArePlayed
+passes_played bits scene text is short = grind (arith, read_as, not_refused, written_as)
 
-pub passes_shown : Laws → ListedPassesShowThePicture
-passes_shown laws bits scene text device is played =
-    laws.picture bits scene device.state (can_play laws bits scene text is)
+pub passes_shown : ListedPassesShowThePicture
+passes_shown bits scene text device is played =
+    show_the_picture bits scene device.state (can_play bits scene text is)
     (subst (λ (l : ListingView). HasPlayed bits l device.state) (written_as bits text (passes_listing scene)
-    (read_as laws bits scene text is)) played.pixels)
+    (read_as bits scene text is)) played.pixels)
 
 -- an outcome that is done was not refused
 not_refused_by : (reason : Option Refusal) (lines answer : List ℕ) → unless_refused reason (done lines) ≡ done answer
@@ -96,20 +94,20 @@ short_of : (long : Bool) (reason : Option Refusal) (past : Refusal) → (if long
 short_of true reason past none = cc
 short_of false reason past none = none
 
-accepted : Laws → (bits : ℕ) (text : List ℕ) → list_refusal bits text ≡ None → listing_refusal_of bits text ≡ None
+accepted : (bits : ℕ) (text : List ℕ) → list_refusal bits text ≡ None → listing_refusal_of bits text ≡ None
 unfolding list_refusal
-accepted laws bits text none =
-    no_refusal (listing_refusal_of bits text) (laws.refusals bits text)
+accepted bits text none =
+    no_refusal (listing_refusal_of bits text) (memory_is_no_refusal bits text)
     (short_of (nat_lt MAX_TEXT_BYTES (length text)) (list_refusal_by (listing_refusal_of bits text)) too_long none)
 
-pub done_shown : Laws → DoneShowsThePicture
-done_shown laws listed_bits bits scene text answer is done_so =
-    let read = read_as laws listed_bits scene text is in
+pub done_shown : DoneShowsThePicture
+done_shown listed_bits bits scene text answer is done_so =
+    let read = read_as listed_bits scene text is in
     let same = written_as listed_bits text (passes_listing scene) read in
     let result = not_refused_by (list_refusal bits text) (played_text bits (listing_written text)) answer done_so in
-    let can : CanPlay bits scene = grind (arith, accepted) in
+    let can : CanPlay bits scene = grind (arith, accepted, accepted_is_lawful) in
     record {
       lines = sym result.1 ∙ ap (played_text bits) same;
-      picture = λ device played. laws.picture bits scene device.state can
+      picture = λ device played. show_the_picture bits scene device.state can
           (subst (λ (l : ListingView). HasPlayed bits l device.state) same played.pixels);
     }

@@ -2,9 +2,7 @@
 ghost use Rattle.px_draw.specs.ListedScenes.{DoneShowsThePicture, ListedPassesArePlayed, ListedPassesShowThePicture};
 
 use px_listing::laws_of_listings;
-use px_macro::laws_of_operations;
 use px_playing::laws_of_playing;
-use px_sched::laws_of_passes;
 
 /// The laws that join `list` and `play`, for whoever hands the output of one to the other.
 ///
@@ -15,9 +13,4 @@ pub fn laws_of_listed_scenes()
     ensures played { ListedPassesArePlayed }
     ensures picture { ListedPassesShowThePicture }
     ensures done { DoneShowsThePicture }
-{
-    laws_of_operations();
-    laws_of_passes();
-    laws_of_listings();
-    laws_of_playing();
-}
+{}

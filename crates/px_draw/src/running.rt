@@ -47,9 +47,9 @@ pub fn run<S: Asks<O>, O: Sink, E: Sink, A: Operating>(
     requires bits { A.BITS ≤ 256 }
     ensures answer { IsRunOf (map string_bytes words.now) A.BITS result
         (with_notes (ends (S.rest input.old) (S.faults input.old) (O.state out.old)
-        (A.device array.old) (A.slots array.old) (A.work array.old)) (E.state notes.old))
+        (A.view array.old)) (E.state notes.old))
         (with_notes (ends (S.rest input.new) (S.faults input.new) (O.state out.new)
-        (A.device array.new) (A.slots array.new) (A.work array.new)) (E.state notes.new)) }
+        (A.view array.new)) (E.state notes.new)) }
     ensures usage { (result ≡ Status.Usage) ↔ (command_of (map string_bytes words.now) ≡ None) }
     ensures took { Took (command_of (map string_bytes words.now)) result
         (S.rest input.old) (S.rest input.new) }
@@ -77,10 +77,8 @@ pub fn perform<S: Asks<O>, O: Sink, A: Operating>(
     requires bits { A.BITS ≤ 256 }
     requires lawful { IfSome command HasLawfulNumbers }
     ensures performs { Performs result command A.BITS
-        (ends (S.rest input.old) (S.faults input.old) (O.state out.old)
-        (A.device array.old) (A.slots array.old) (A.work array.old))
-        (ends (S.rest input.new) (S.faults input.new) (O.state out.new)
-        (A.device array.new) (A.slots array.new) (A.work array.new)) }
+        (ends (S.rest input.old) (S.faults input.old) (O.state out.old) (A.view array.old))
+        (ends (S.rest input.new) (S.faults input.new) (O.state out.new) (A.view array.new)) }
     ensures causes { HasCauses result (S.faults input.old) (S.faults input.new) (O.state out.old).faults
         (O.state out.new).faults }
     ensures took { Took command (status_in result) (S.rest input.old) (S.rest input.new) }

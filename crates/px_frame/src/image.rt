@@ -30,15 +30,15 @@ pub fn write_picture<A: Array, O: Sink>(
     plane: Plane,
     out: &mut O,
 ) -> Result<(), Failed>
-    requires open { IsOpen (A.device array.now) }
-    requires columns { HasColumns scene.now (A.device array.now).state }
-    requires rows { HasRows scene.now (A.device array.now).state }
+    requires open { IsOpen (A.view array.now).device }
+    requires columns { HasColumns scene.now (A.view array.now).device.state }
+    requires rows { HasRows scene.now (A.view array.now).device.state }
     requires room { need_of layout.now ≤ A.BITS }
-    requires faces { StoresFaces scene.now layout.now (A.device array.now).state }
+    requires faces { StoresFaces scene.now layout.now (A.view array.now).device.state }
     ensures ok { OnOk result (TakesAll (O.state out.old) (O.state out.new)
-        (stored_image scene.now layout.now (A.device array.now).state plane)) }
+        (stored_image scene.now layout.now (A.view array.now).device.state plane)) }
     ensures err { OnErr result (TakesFront (O.state out.old) (O.state out.new)
-        (stored_image scene.now layout.now (A.device array.now).state plane)) }
+        (stored_image scene.now layout.now (A.view array.now).device.state plane)) }
     ensures cause { HasCause (O.state out.old).faults (O.state out.new).faults result }
 {
     let header = header(scene.width(), scene.height());

@@ -47,9 +47,9 @@ impl Strip {
     /// Reads the eight rows that row `y` is one of, where it is the first of them: a strip that is
     /// handed over from row to row has the numbers of each.
     pub fn enter_row<A: Array>(&mut self, array: &A, field: Field, width: u32, y: u32)
-        requires numbers { HasNumbers A.BITS (A.device array.now) field width y }
-        requires before { y % 8 ≢ 0 → HoldsRow self.old field (A.device array.now).state width y }
-        ensures { HoldsRow self.new field (A.device array.now).state width y }
+        requires numbers { HasNumbers A.BITS (A.view array.now).device field width y }
+        requires before { y % 8 ≢ 0 → HoldsRow self.old field (A.view array.now).device.state width y }
+        ensures { HoldsRow self.new field (A.view array.now).device.state width y }
     {
         if y % ROWS == 0 {
             self.numbers = numbers_of_rows(array, field, width, y);
@@ -72,9 +72,9 @@ fn numbers_of_rows<A: Array>(
     width: u32,
     top: u32,
 ) -> ArrayVec<u32, NUMBERS>
-    requires numbers { HasNumbers A.BITS (A.device array.now) field width top }
+    requires numbers { HasNumbers A.BITS (A.view array.now).device field width top }
     requires first { top % 8 ≡ 0 }
-    ensures { HoldsRow result.items field (A.device array.now).state width top }
+    ensures { HoldsRow result.items field (A.view array.now).device.state width top }
 {
     let (nx, ny) = array.size();
     let mut numbers = ArrayVec::new();
@@ -87,13 +87,13 @@ fn numbers_of_rows<A: Array>(
 
 /// The numbers in a field of the memories of eight pixels, from a place on.
 fn eight_numbers<A: Array>(array: &A, field: Field, place: usize) -> [u32; 8]
-    requires is_open { IsOpen (A.device array.now) }
+    requires is_open { IsOpen (A.view array.now).device }
     requires room { field.at + field.len ≤ A.BITS }
     requires low { field.at ≤ 256 }
     requires few { field.len ≤ 24 }
-    requires place { place < 2 ^ levels_of (A.device array.now).state.tree }
+    requires place { place < 2 ^ levels_of (A.view array.now).device.state.tree }
     ensures numbers { (j : ℕ) → j < 8 → place % 64 + j < 64 → get_or result j 0
-        ≡ number_from_bits (λ t. memory_bit (A.device array.now).state (field.at + t) (place + j))
+        ≡ number_from_bits (λ t. memory_bit (A.view array.now).device.state (field.at + t) (place + j))
         field.len }
     ensures small { (j : ℕ) → j < 8 → get_or result j 0 < 2 ^ field.len }
 {

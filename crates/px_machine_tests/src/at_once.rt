@@ -254,9 +254,9 @@ fn renew_both<const N: usize>(
 }
 
 fn renew<A: Array>(rt: &impl Abort, array: &mut A)
-    requires { IsOpen (A.device array.old) }
-    ensures is_open { IsOpen (A.device array.new) }
-    ensures slots { A.slots array.new ≡ A.slots array.old }
+    requires { IsOpen (A.view array.old).device }
+    ensures is_open { IsOpen (A.view array.new).device }
+    ensures slots { (A.view array.new).slots ≡ (A.view array.old).slots }
 {
     clock(rt, array, &Macro::AddLinear(SLOPE, LOW));
     clock(rt, array, &Macro::Copy(HIGH, LOW));
@@ -265,9 +265,9 @@ fn renew<A: Array>(rt: &impl Abort, array: &mut A)
 
 /// Makes the clocks of an operation.
 fn clock<A: Array>(rt: &impl Abort, array: &mut A, m: &Macro)
-    requires { IsOpen (A.device array.old) }
-    ensures is_open { IsOpen (A.device array.new) }
-    ensures slots { A.slots array.new ≡ A.slots array.old }
+    requires { IsOpen (A.view array.old).device }
+    ensures is_open { IsOpen (A.view array.new).device }
+    ensures slots { (A.view array.new).slots ≡ (A.view array.old).slots }
 {
     assert!(rt; A::BITS <= 256);
     assert!(rt; array.clocks() < MANY);

@@ -67,7 +67,7 @@ fn try_number(rt: &impl Abort, array: &PixelArray<5>, x: u32, y: u32, want: u32)
     for at in 0..5 {
         assert!(rt;
             array.bit(x, y, at) == ((want >> at) & 1 == 1),
-            "({x}, {y}): {at}"
+            "a bit of the value"
         );
     }
 }
@@ -84,9 +84,9 @@ fn try_opened(rt: &impl Abort, array: &PixelArray<5>) {
 
 /// Makes a clock for each of these on pixels of five bits.
 pub(crate) fn make_all<A: Array>(rt: &impl Abort, array: &mut A, micros: &[(TreeOp, Act)])
-    requires is_open { IsOpen (A.device array.old) }
+    requires is_open { IsOpen (A.view array.old).device }
     requires bits { A.BITS ≡ 5 }
-    ensures { IsOpen (A.device array.new) }
+    ensures { IsOpen (A.view array.new).device }
 {
     for (tree, act) in micros {
         let act = placed(*act);
@@ -209,10 +209,10 @@ fn make_clock(rt: &impl Abort, array: &mut PixelArray<5>, k: u32)
 
 /// Makes one clock.
 pub(crate) fn make_one<A: Array>(rt: &impl Abort, array: &mut A, m: Micro)
-    requires is_open { IsOpen (A.device array.old) }
+    requires is_open { IsOpen (A.view array.old).device }
     requires place { HasPlace A.BITS m.act }
-    ensures is_open { IsOpen (A.device array.new) }
-    ensures slots { A.slots array.new ≡ A.slots array.old }
+    ensures is_open { IsOpen (A.view array.new).device }
+    ensures slots { (A.view array.new).slots ≡ (A.view array.old).slots }
 {
     assert!(rt; array.clocks() < 1000);
     array.clock(m);

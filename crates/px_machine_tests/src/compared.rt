@@ -57,7 +57,7 @@ fn compare_registers<A: Array, B: Array>(rt: &impl Abort, one: &A, other: &B, x:
 
 /// The array has the pixel.
 pub(crate) fn try_pixel<A: Array>(rt: &impl Abort, array: &A, x: u32, y: u32)
-    ensures { HasPixel (A.device array.now) x y }
+    ensures { HasPixel (A.view array.now).device x y }
 {
     let (nx, ny) = array.size();
     assert!(rt; 1 <= nx);
@@ -73,9 +73,9 @@ fn compare_node<A: Array, B: Array>(rt: &impl Abort, one: &A, other: &B, level: 
 
 /// The array has the node.
 fn try_node<A: Array>(rt: &impl Abort, array: &A, level: u32, index: u32)
-    ensures is_open { IsOpen (A.device array.now) }
+    ensures is_open { IsOpen (A.view array.now).device }
     ensures from_one { 1 ≤ level }
-    ensures in_tree { level ≤ levels_of (A.device array.now).state.tree }
+    ensures in_tree { level ≤ levels_of (A.view array.now).device.state.tree }
     ensures in_level { index < 2 ^ level }
 {
     let (nx, ny) = array.size();

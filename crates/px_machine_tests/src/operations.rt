@@ -118,7 +118,7 @@ fn clocks_on_the_smallest_grid(rt: HostRuntime) {
     ];
     for (m, want) in rows {
         assert!(rt; lawful(&m, 256));
-        assert_eq!(rt; cycles(&m, 1, 1), want, "{m:?}");
+        assert_eq!(rt; cycles(&m, 1, 1), want);
     }
 }
 
@@ -142,5 +142,5 @@ fn try_pixel(rt: &impl Abort, array: &PixelArray<16>, m: &Macro, x: u32, y: u32,
 {
     let found = (array.registers(x, y).enable, number_in(array, WHOLE, x, y));
     let wanted = (want >> 16 == 1, u64::from(want & 0xffff));
-    assert!(rt; found == wanted, "{m:?} at ({x}, {y})");
+    assert!(rt; found == wanted, "what an operation leaves");
 }

@@ -99,14 +99,10 @@ fn try_row<const N: usize>(
     pixel.act(act, tree == 1);
     let bits = pixel.memory;
     let found = [pixel.enable, pixel.carry, pixel.latch, bits.get(at)];
-    assert_eq!(rt;
-        found.map(u32::from),
-        after,
-        "{act:?} of {before:?}, tree {tree}"
-    );
+    assert_eq!(rt; found.map(u32::from), after);
     for other in 0..N as u32 {
         let is_kept = other == at || bits.get(other) == (other % 3 == 0);
-        assert!(rt; is_kept, "{act:?}: bit {other}");
+        assert!(rt; is_kept, "another bit");
     }
 }
 

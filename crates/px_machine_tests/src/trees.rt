@@ -9,11 +9,7 @@ fn four_by_four(rt: HostRuntime) -> Result<(), Fail> {
     let form = Linear { a: 3, b: -5, c: 7 };
     for (t, want) in [(0, false), (1, true), (2, true), (3, false)] {
         let mut tree = NodeTree::new(rt.alloc(), 2, 2)?;
-        assert_eq!(rt;
-            value_bit(&mut tree, 2, 2, &form, 3, 2, t),
-            want,
-            "bit {t} of 6"
-        );
+        assert_eq!(rt; value_bit(&mut tree, 2, 2, &form, 3, 2, t), want);
     }
     let mut tree = NodeTree::new(rt.alloc(), 2, 2)?;
     feed_form(&mut tree, 2, 2, &form, 5);
@@ -25,11 +21,7 @@ fn four_by_four(rt: HostRuntime) -> Result<(), Fail> {
         (4, 15, (false, true)),
     ];
     for (level, index, want) in path {
-        assert_eq!(rt;
-            tree.node(level, index),
-            want,
-            "node {index} of level {level}"
-        );
+        assert_eq!(rt; tree.node(level, index), want);
     }
     Ok(())
 }
@@ -39,11 +31,7 @@ fn minus_five_on_the_smallest_tree(rt: HostRuntime) -> Result<(), Fail> {
     let form = Linear { a: 1, b: 2, c: -8 };
     for t in 0..40 {
         let mut tree = NodeTree::new(rt.alloc(), 1, 1)?;
-        assert_eq!(rt;
-            value_bit(&mut tree, 1, 1, &form, 1, 1, t),
-            t != 2,
-            "bit {t} of -5"
-        );
+        assert_eq!(rt; value_bit(&mut tree, 1, 1, &form, 1, 1, t), t != 2);
     }
     Ok(())
 }

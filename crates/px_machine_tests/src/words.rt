@@ -29,11 +29,7 @@ fn four_by_four(rt: HostRuntime) -> Result<(), Fail> {
     let form = Linear { a: 3, b: -5, c: 7 };
     for (t, want) in [(0, false), (1, true), (2, true), (3, false)] {
         let mut tree = PlaneTree::new(rt.alloc(), 2, 2)?;
-        assert_eq!(rt;
-            value_bit(&mut tree, 2, 2, &form, 3, 2, t),
-            want,
-            "bit {t} of 6"
-        );
+        assert_eq!(rt; value_bit(&mut tree, 2, 2, &form, 3, 2, t), want);
     }
     Ok(())
 }
@@ -106,7 +102,7 @@ fn rows_of_a_form(rt: HostRuntime) -> Result<(), Fail> {
 fn try_row(rt: &impl Abort, array: &PlaneArray<5>, at: u32, word: u64) {
     assert!(rt; at < 5);
     assert!(rt; array.size() == (1, 1));
-    assert!(rt; array.row(at) == [word].as_slice(), "row {at}");
+    assert!(rt; array.row(at) == [word].as_slice());
 }
 
 /// Random micros on both arrays, with saves and restores, in grids of one word and of many.

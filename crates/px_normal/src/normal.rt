@@ -43,8 +43,7 @@ pub fn normalise(
     ensures known { (count : ℕ) → HasLeavesBelow count expr.now →
         All (HasSolidsBelow count) (live_products (boxes_in boxes.now) expr.now) }
 {
-    normal_form_law(expr, boxes);
-    laws_of_live_products();
+    law_of_products(expr, boxes);
     Ok(Products::new(products_of(alloc, expr, boxes)?))
 }
 
@@ -80,9 +79,11 @@ pub fn laws_of_live_products()
 {}
 
 /// What is known of the products of an expression, and of the live ones.
-fn normal_form_law(expr: &Expr, boxes: &[Option<CellBox>])
+fn law_of_products(expr: &Expr, boxes: &[Option<CellBox>])
     ensures law { (solid_at : ℕ → Cell) →
         IsNormalForm solid_at (forms expr.now) (cell solid_at expr.now) }
+    ensures live { LiveLaw (boxes_in boxes.now) }
+    ensures crowd { CrowdLaw (boxes_in boxes.now) }
     ensures plain { All HasPlain (live_products (boxes_in boxes.now) expr.now) }
     ensures known { (count : ℕ) → HasLeavesBelow count expr.now →
         All (HasSolidsBelow count) (live_products (boxes_in boxes.now) expr.now) }

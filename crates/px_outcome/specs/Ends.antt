@@ -2,8 +2,7 @@
 -- stand on it.
 use Rattle.std.specs.Prelude.{◌≡◌, ℕ, List, Option}
 use Rattle.px_io.specs.Told.{SinkState, TakesNone}
-use Rattle.px_array.specs.Arrays.{Device}
-use Rattle.px_array.specs.Slots.{ArrayView, array_view}
+use Rattle.px_array.specs.Slots.{ArrayView}
 
 -- of the input the bytes to come and the count of faults, what the output tells, and the array
 pub record Ends : Type 0 where
@@ -12,10 +11,8 @@ pub record Ends : Type 0 where
   pub out : SinkState
   pub array : ArrayView
 
-abbrev pub ends : (rest : Option (List ℕ)) → (faults : ℕ) → SinkState → Device → (slots : List (Option Device))
-    → (work : ℕ) → Ends
-ends rest faults out device slots work =
-    record { rest = rest; faults = faults; out = out; array = array_view device slots work }
+abbrev pub ends : (rest : Option (List ℕ)) → (faults : ℕ) → SinkState → ArrayView → Ends
+ends rest faults out array = record { rest = rest; faults = faults; out = out; array = array }
 
 -- and the notes of a whole run
 pub record AllEnds : Type 0 where

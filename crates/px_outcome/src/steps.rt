@@ -1,9 +1,9 @@
 //! The steps that commands share: each gives what it finds, or its own fault.
-ghost use Rattle.std.specs.Prelude.{◌≡◌, ◌≤◌, IfErr, IfOk, OnErr, OnOk, Err, None, drop, length, true};
+ghost use Rattle.std.specs.Prelude.{◌≡◌, ◌≤◌, IfErr, IfOk, OnErr, OnOk, None, drop, length, true};
 ghost use Rattle.std.specs.Io.KnownBytes.{Appends, Consumes};
 ghost use Rattle.px_io.specs.Counts.{HasCause};
 ghost use Rattle.px_io.specs.Told.{ConsumesAtMost, IsFrontOf, TakesFront, Tells};
-ghost use Rattle.px_array.specs.Slots.{IsRunOnce, array_view};
+ghost use Rattle.px_array.specs.Slots.{IsRunOnce};
 ghost use Rattle.px_scene.specs.Reading.{scene_of};
 ghost use Rattle.px_scene.specs.Text.{worded};
 ghost use Rattle.px_prune.specs.Kept.{crowd_of, plan_of};
@@ -46,10 +46,7 @@ pub fn scene_in(alloc: Global, text: &[u8]) -> Result<Scene, SceneStop>
         (text_refusal text.now ≡ None) × (scene ≡ scene_of (worded text.now))) }
     ensures err { IfErr result (λ stop. StopsAt (unless_refused (text_refusal text.now)) stop) }
 {
-    match read_scene(alloc, text) {
-        Ok(scene) => Ok(scene),
-        Err(fault) => Err(SceneStop::from(fault)),
-    }
+    read_scene(alloc, text).map_err(SceneStop::from)
 }
 
 /// Opens the array for a scene.
@@ -59,20 +56,15 @@ pub fn open_job<'s, A: Array>(
     array: &mut A,
 ) -> Result<Job<'s>, SceneStop>
     ensures job { IfOk result (λ job. (job.scene ≡ scene.now) × (job.place.clock ≡ 0)) }
-    ensures at { OnOk result (IsAt A.BITS scene.now 0 (A.device array.new)) }
-    ensures work { OnOk result (A.work array.new ≡ 0) }
-    ensures once { OnOk result (IsRunOnce
-        (array_view (A.device array.new) (A.slots array.new) (A.work array.new))) }
+    ensures at { OnOk result (IsAt A.BITS scene.now 0 (A.view array.new).device) }
+    ensures work { OnOk result ((A.view array.new).work ≡ 0) }
+    ensures once { OnOk result (IsRunOnce (A.view array.new)) }
     ensures fits { OnOk result ((o : Outcome) → drawable A.BITS scene.now o ≡ o) }
     ensures err { IfErr result (λ stop. StopsAt (drawable A.BITS scene.now) stop) }
     ensures array { IfErr result (λ stop. Draws (status_of (stopped stop)) A.BITS scene.now
-        (array_view (A.device array.old) (A.slots array.old) (A.work array.old))
-        (array_view (A.device array.new) (A.slots array.new) (A.work array.new))) }
+        (A.view array.old) (A.view array.new)) }
 {
-    match Job::open(alloc, scene, array) {
-        Ok(job) => Ok(job),
-        Err(fault) => Err(job_stop(fault)),
-    }
+    Job::open(alloc, scene, array).map_err(job_stop)
 }
 
 /// Where the passes of a scene keep their numbers, and the products that they draw, where pixels of
@@ -84,10 +76,7 @@ pub fn drawing_of(alloc: Global, scene: &Scene, bits: u32) -> Result<(Layout, Pl
     ensures fits { OnOk result ((o : Outcome) → drawable bits scene.now o ≡ o) }
     ensures err { IfErr result (λ stop. StopsAt (drawable bits scene.now) stop) }
 {
-    match px_control::drawing_of(alloc, scene, bits) {
-        Ok(found) => Ok(found),
-        Err(fault) => Err(job_stop(fault)),
-    }
+    px_control::drawing_of(alloc, scene, bits).map_err(job_stop)
 }
 
 /// The products that can show anything, where no wanted list is past the limit.
@@ -97,10 +86,7 @@ pub fn kept_of(alloc: Global, scene: &Scene) -> Result<Plan, SceneStop>
     ensures fits { OnOk result (crowd_of scene.now ≡ None) }
     ensures err { IfErr result (λ stop. StopsAt (within_products scene.now) stop) }
 {
-    match plan_of(alloc, scene) {
-        Ok(plan) => Ok(plan),
-        Err(fault) => Err(products_stop(fault)),
-    }
+    plan_of(alloc, scene).map_err(products_stop)
 }
 
 pub fn write_finished<O: Sink>(bytes: &[u8], out: &mut O) -> Result<(), Failed>

@@ -10,7 +10,7 @@ ghost use Rattle.px_outcome.specs.JobStops.{job_stop, products_stop};
 use crate::refusal::{Kind, Refusal, short_of_bits, too_many};
 use crate::status::Status;
 use px_control::JobFault;
-use px_io::ReadError;
+use px_io::{Failed, ReadError};
 use px_listing::ListFault;
 use px_normal::NormalFault;
 use px_num::Memory;
@@ -61,6 +61,18 @@ impl From<ReadError> for Stop {
             ReadError::Failed => Stop::ReadFault,
             ReadError::Memory(lack) => Stop::Memory(lack),
         }
+    }
+}
+
+impl From<Failed> for Stop {
+    ghost use Rattle.std.specs.Prelude.{◌≡◌};
+    ghost use Rattle.px_outcome.specs.declared.stop.Stop.{Stop};
+
+    ghost from_gives = { λ failed stop. stop ≡ Stop.WriteFault };
+
+    /// What failed at a command's end is a write.
+    fn from(_failed: Failed) -> Self {
+        Stop::WriteFault
     }
 }
 

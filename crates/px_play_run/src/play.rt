@@ -4,7 +4,6 @@ ghost use Rattle.std.specs.Io.KnownBytes.{Appends};
 ghost use Rattle.px_array.specs.Arrays.{IsOpen};
 ghost use Rattle.px_io.specs.Counts.{HasCause};
 ghost use Rattle.px_io.specs.Told.{TakesFront, Tells};
-ghost use Rattle.px_array.specs.Slots.{array_view};
 ghost use Rattle.px_macro.specs.Macros.{IsLawful};
 ghost use Rattle.px_playing.specs.Memories.{memory_text, played_text};
 ghost use Rattle.px_outcome.specs.declared.stop.Stop.{Stop};
@@ -33,10 +32,8 @@ pub fn play_input<S: Source, O: Sink, A: Operating>(
 ) -> Result<(), Stop>
     requires bits { A.BITS ≤ 256 }
     ensures performs { PerformsPlay result A.BITS
-        (ends (S.rest input.old) (S.faults input.old) (O.state out.old)
-        (A.device array.old) (A.slots array.old) (A.work array.old))
-        (ends (S.rest input.new) (S.faults input.new) (O.state out.new)
-        (A.device array.new) (A.slots array.new) (A.work array.new)) }
+        (ends (S.rest input.old) (S.faults input.old) (O.state out.old) (A.view array.old))
+        (ends (S.rest input.new) (S.faults input.new) (O.state out.new) (A.view array.new)) }
     ensures causes { HasCauses result (S.faults input.old) (S.faults input.new) (O.state out.old).faults
         (O.state out.new).faults }
     ensures took { TookText (status_in result)
@@ -60,10 +57,7 @@ fn listing_in(alloc: Global, text: &[u8], bits: u32) -> Result<Listing, SceneSto
     if text.len() >= READ_LIMIT {
         return Err(SceneStop::Refused(too_long()));
     }
-    match read_listing(alloc, text, bits) {
-        Ok(listing) => Ok(listing),
-        Err(fault) => Err(SceneStop::from(fault)),
-    }
+    read_listing(alloc, text, bits).map_err(SceneStop::from)
 }
 
 /// Plays a listing on the array, and prints every pixel's memory.
@@ -76,30 +70,26 @@ fn play_listing<O: Sink, A: Operating>(
     requires lawful { All (λ m. IsLawful m A.BITS) listing.now.macros }
     ensures serves { DoesWork result (done (played_text A.BITS listing.now))
         (O.state out.old) (O.state out.new) }
-    ensures array { Plays (status_in result) A.BITS listing.now
-        (array_view (A.device array.old) (A.slots array.old) (A.work array.old))
-        (array_view (A.device array.new) (A.slots array.new) (A.work array.new)) }
+    ensures array { Plays (status_in result) A.BITS listing.now (A.view array.old)
+        (A.view array.new) }
 {
     match play(listing, array) {
         Ok(()) => {}
         Err(lack) => return Err(Stop::Memory(lack)),
     }
     laws_of_playing();
-    match deliver_memory(array, out) {
-        Ok(()) => Ok(()),
-        Err(_) => Err(Stop::WriteFault),
-    }
+    Ok(deliver_memory(array, out)?)
 }
 
 /// Prints the memory of every pixel of an array, and finishes.
 fn deliver_memory<A: Array, O: Sink>(array: &A, out: &mut O) -> Result<(), Failed>
-    requires is_open { IsOpen (A.device array.now) }
+    requires is_open { IsOpen (A.view array.now).device }
     requires bits { A.BITS ≤ 256 }
     ensures ok { OnOk result (Appends (O.state out.old).written (O.state out.new).written
-        (memory_text A.BITS (A.device array.now).state)) }
+        (memory_text A.BITS (A.view array.now).device.state)) }
     ensures end { OnOk result (Tells (O.state out.new).finished true) }
     ensures err { OnErr result (TakesFront (O.state out.old) (O.state out.new)
-        (memory_text A.BITS (A.device array.now).state)) }
+        (memory_text A.BITS (A.view array.now).device.state)) }
     ensures cause { HasCause (O.state out.old).faults (O.state out.new).faults result }
 {
     write_memory(array, out)?;

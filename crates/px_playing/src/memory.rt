@@ -19,12 +19,12 @@ use px_num::power;
 ///
 /// After `Failed` a front of the lines was written. The sink is not finished.
 pub fn write_memory<A: Array, O: Sink>(array: &A, out: &mut O) -> Result<(), Failed>
-    requires is_open { IsOpen (A.device array.now) }
+    requires is_open { IsOpen (A.view array.now).device }
     requires few { A.BITS ≤ 256 }
     ensures ok { OnOk result (TakesAll (O.state out.old) (O.state out.new)
-        (memory_text A.BITS (A.device array.now).state)) }
+        (memory_text A.BITS (A.view array.now).device.state)) }
     ensures err { OnErr result (TakesFront (O.state out.old) (O.state out.new)
-        (memory_text A.BITS (A.device array.now).state)) }
+        (memory_text A.BITS (A.view array.now).device.state)) }
     ensures cause { HasCause (O.state out.old).faults (O.state out.new).faults result }
 {
     let (nx, ny) = array.size();
@@ -43,15 +43,15 @@ fn put_row<A: Array, O: Sink>(
     out: &mut O,
     piece: &mut Piece,
 ) -> Result<(), Failed>
-    requires is_open { IsOpen (A.device array.now) }
+    requires is_open { IsOpen (A.view array.now).device }
     requires few { A.BITS ≤ 256 }
-    requires columns { columns ≡ 2 ^ (A.device array.now).state.tree.nx }
-    requires row { y < 2 ^ (A.device array.now).state.tree.ny }
+    requires columns { columns ≡ 2 ^ (A.view array.now).device.state.tree.nx }
+    requires row { y < 2 ^ (A.view array.now).device.state.tree.ny }
     ensures ok { OnOk result (Puts (O.state out.old) (O.state out.new) piece.old.bytes
-        (row_lines A.BITS columns (λ x y. bits_of (pixel_of (A.device array.now).state x y)) y)
+        (row_lines A.BITS columns (λ x y. bits_of (pixel_of (A.view array.now).device.state x y)) y)
         piece.new.bytes) }
     ensures err { OnErr result (TakesFront (O.state out.old) (O.state out.new) (piece.old.bytes
-        ++ row_lines A.BITS columns (λ x y. bits_of (pixel_of (A.device array.now).state x y)) y)) }
+        ++ row_lines A.BITS columns (λ x y. bits_of (pixel_of (A.view array.now).device.state x y)) y)) }
     ensures cause { HasCause (O.state out.old).faults (O.state out.new).faults result }
 {
     for x in 0..columns {
@@ -63,9 +63,9 @@ fn put_row<A: Array, O: Sink>(
 /// The line of a pixel.
 #[tactic(auto, unfolding(crate::specs::Memories::line_of_pixel))]
 fn pixel_line<A: Array>(array: &A, x: u32, y: u32) -> ArrayString<320>
-    requires pixel { HasPixel (A.device array.now) x y }
+    requires pixel { HasPixel (A.view array.now).device x y }
     requires few { A.BITS ≤ 256 }
-    ensures { result.bytes ≡ line_of_pixel A.BITS x y (bits_of (pixel_of (A.device array.now).state x y)) }
+    ensures { result.bytes ≡ line_of_pixel A.BITS x y (bits_of (pixel_of (A.view array.now).device.state x y)) }
 {
     let mut digits = Buffer::new();
     let mut line = ArrayString::new();
@@ -83,9 +83,9 @@ fn pixel_line<A: Array>(array: &A, x: u32, y: u32) -> ArrayString<320>
 
 /// The memory bits of a pixel, from bit 0 on.
 fn memory_digits<A: Array>(array: &A, x: u32, y: u32) -> ArrayString<256>
-    requires pixel { HasPixel (A.device array.now) x y }
+    requires pixel { HasPixel (A.view array.now).device x y }
     requires few { A.BITS ≤ 256 }
-    ensures { result.bytes ≡ digits_of A.BITS (pixel_of (A.device array.now).state x y).memory }
+    ensures { result.bytes ≡ digits_of A.BITS (pixel_of (A.view array.now).device.state x y).memory }
 {
     let mut text = ArrayString::new();
     for at in 0..A::BITS {

@@ -18,15 +18,15 @@ use px_num::Memory;
 /// After `Memory` no array is open.
 pub fn play<A: Operating>(listing: &Listing, array: &mut A) -> Result<(), Memory>
     requires lawful { All (λ m. IsLawful m A.BITS) listing.now.macros }
-    ensures device { OnOk result (A.device array.new ≡ played_on A.BITS listing.now) }
-    ensures clocks { OnOk result ((A.device array.new).clocks
+    ensures device { OnOk result ((A.view array.new).device ≡ played_on A.BITS listing.now) }
+    ensures clocks { OnOk result ((A.view array.new).device.clocks
         ≡ sum_by (λ m. cycles m listing.now.nx listing.now.ny) listing.now.macros) }
-    ensures played { OnOk result (HasPlayed A.BITS listing.now (A.device array.new).state) }
-    ensures grid { OnOk result (HasGrid A.BITS listing.now.nx listing.now.ny (A.device array.new).state) }
+    ensures played { OnOk result (HasPlayed A.BITS listing.now (A.view array.new).device.state) }
+    ensures grid { OnOk result (HasGrid A.BITS listing.now.nx listing.now.ny (A.view array.new).device.state) }
     ensures lawful { IsListing listing.now }
-    ensures memory { OnErr result (A.device array.new ≡ closed) }
-    ensures slots { A.slots array.new ≡ no_slots }
-    ensures work { A.work array.new ≡ (A.device array.new).clocks }
+    ensures memory { OnErr result ((A.view array.new).device ≡ closed) }
+    ensures slots { (A.view array.new).slots ≡ no_slots }
+    ensures work { (A.view array.new).work ≡ (A.view array.new).device.clocks }
 {
     law_of_microprograms();
     array.open(listing.nx, listing.ny)?;

@@ -70,9 +70,9 @@ fn run_on<S: Asks<O>, O: Sink, E: Sink>(
         × IsRunOf (map string_bytes words.now)
         (pixel_bits (command_of (map string_bytes words.now))) status
         (with_notes (ends (S.rest input.old) (S.faults input.old) (O.state out.old)
-        none_open.device none_open.slots none_open.work) (E.state notes.old))
+        none_open) (E.state notes.old))
         (with_notes (ends (S.rest input.new) (S.faults input.new) (O.state out.new)
-        array.device array.slots array.work) (E.state notes.new)) }
+        array) (E.state notes.new)) }
 {
     if needs_wide_pixels(words) {
         run_with::<_, _, _, 80>(alloc, words, input, out, notes)
@@ -96,9 +96,9 @@ fn run_with<S: Asks<O>, O: Sink, E: Sink, const N: usize>(
         × IsRunOf (map string_bytes words.now)
         (pixel_bits (command_of (map string_bytes words.now))) status
         (with_notes (ends (S.rest input.old) (S.faults input.old) (O.state out.old)
-        none_open.device none_open.slots none_open.work) (E.state notes.old))
+        none_open) (E.state notes.old))
         (with_notes (ends (S.rest input.new) (S.faults input.new) (O.state out.new)
-        array.device array.slots array.work) (E.state notes.new)) }
+        array) (E.state notes.new)) }
 {
     let mut array = PlaneArray::<N>::new(alloc);
     exit_code(run(alloc, words, input, out, notes, &mut array))

@@ -1,6 +1,6 @@
 -- The depths that the greatest front and the least back leave.
 use Rattle.px_num.proofs.Basics.{ℕ, ℤ, pos, ◌≡◌, ◌<◌, ◌≤◌, ◌*◌, ◌^◌, ◌≤ℤ◌, ◌<ℤ◌, ◌&&◌, true, nat_le, nat_lt, List}
-use Rattle.px_num.proofs.Basics.{refl, ap, sym, ◌∙◌, arith, map, fold, w64, to_z, of_z, int_max, int_min, list_all}
+use Rattle.px_num.proofs.Basics.{ap, sym, ◌∙◌, arith, map, fold, w64, to_z, of_z, int_max, int_min, list_all}
 use Rattle.px_num.proofs.Basics.{ints, mul-le-mul, pow_mono}
 use Rattle.px_prune.proofs.Words.{all_max, all_min, cell_is_first, cell_is_least, cell_of, cells_end, cells_grow}
 use Rattle.px_prune.proofs.Words.{depths, Depths, le_z, lt_of_ints, lt_z, nat_abs}
@@ -44,10 +44,3 @@ cells_before v xs m far f is z =
 
 pub end_small : (far f : ℕ) → far < 2 ^ 24 → f ≤ 8 → far * 2 ^ f < 2 ^ 39
 end_small far f low few = grind (arith, pow_mono, mul-le-mul)
-
-pub value_is : {X : Type 0} (v : X → ℤ) (xs : List X) (m : ℤ) (a b far f : ℕ) → a ≡ far → b ≡ 2 ^ f
-    → m ≡ fold int_min (pos (a * b)) (map v xs) → m ≡ fold int_min (pos (far * 2 ^ f)) (map v xs)
-value_is v xs m a b far f p q e = e ∙ rw (p, q) refl
-
-pub high_is : (m : ℤ) (a b far f : ℕ) → a ≡ far → b ≡ 2 ^ f → m ≤ℤ pos (a * b) → m ≤ℤ pos (far * 2 ^ f)
-high_is m a b far f p q h = rw (p, q) at h

@@ -1,9 +1,12 @@
 -- What a solid can have in a block: depths from the least that its fronts allow to the greatest that its backs do.
-use Rattle.px_num.proofs.Basics.{ℕ, ℤ, pos, ◌≡◌, ◌<◌, ◌≤◌, ◌-◌, ◌≤ℤ◌, ◌&&◌, ◌||◌, ◌==◌, Bool, true, false, nat_le}
+use Rattle.px_num.proofs.Basics.{ℕ, ℤ, pos, ◌≡◌, ◌<◌, ◌≤◌, ◌-◌, ◌≤ℤ◌, ◌<ℤ◌, ◌&&◌, ◌||◌, ◌==◌, Bool, true, false, nat_le}
+use Rattle.px_num.proofs.Basics.{ap, get_or, length, list_all-append, sym, take, take_more, ◌+◌}
 use Rattle.px_num.proofs.Basics.{nat_lt, List, [], ◌∷◌, refl, ◌∙◌, arith, Some, None, Option, list_all, ints}
 use Rattle.px_prune.proofs.Words.{all_same, Block, CellBox, Depths, end_of, greatest_in, has_pixel, hull, in_block}
 use Rattle.px_prune.proofs.Words.{is_in_box, is_inside, is_one_pixel, IsBoxOf, IsReachOf, le_z, least_in, lt_z}
 use Rattle.px_prune.proofs.Words.{SolidView, value_at, value_of, with_block}
+use Rattle.px_num.proofs.TruthLaws.{lt_holds}
+use Rattle.px_num.specs.declared.linear.Linear.{Linear}
 use Rattle.px_prune.specs.Covered.{is_covered}
 use Rattle.px_prune.proofs.BlockLemmas.{greatest_at_pixel, greatest_bounds, least_at_pixel, least_bounds, one_column}
 use Rattle.px_prune.proofs.BlockLemmas.{one_row}
@@ -106,6 +109,40 @@ module _ (s : SolidView) (d : Depths) (b : Block) where
             (ending_there inside b.x0 b.x1 b.y0 b.y1 first end (one_column b one) (one_row b one)
             (pixel_box inside b.x0 b.y0 first end lt (λ z. inside_pixel one z ∙ reached_at z)));
       }
+
+-- one element more
+pub all_more : {X : Type 0} (p : X → Bool) (xs : List X) (k : ℕ) (d : X) → k < length xs
+    → list_all p (take (k + 1) xs) ≡ true → (list_all p (take k xs) ≡ true) × (p (get_or xs k d) ≡ true)
+all_more p xs k d there all =
+    let both : (list_all p (take k xs) && (p (get_or xs k d) && true)) ≡ true =
+    sym (ap (list_all p) (take_more xs k d there) ∙ list_all-append p (take k xs) (get_or xs k d ∷ [])) ∙ all in
+    (grind arith, grind arith)
+
+pub le_of_test : (a b : ℤ) → le_z a b ≡ true → a ≤ℤ b
+le_of_test a b test = grind (arith, ints)
+
+pub lt_of_test : (a b : ℤ) → lt_z a b ≡ true → a <ℤ b
+lt_of_test a b test = grind (arith, ints)
+
+shut_cell : (t n p q r : Bool) → (t ≡ true → n ≡ true → q ≡ true → r ≡ true → ⊥) → t && (n && p && q && r) ≡ false
+shut_cell t n p q r h = grind arith
+
+-- a front that is nowhere in a block before a back leaves no cell there
+pub shut : (s : SolidView) (d : Depths) (b : Block) (front back : Linear)
+    → ((x y value : ℕ) → list_all (λ f. le_z (value_at f.plane x y) (pos value)) s.fronts ≡ true
+    → value_at front x y ≤ℤ pos value)
+    → ((x y value : ℕ) → value < end_of d → list_all (λ f. lt_z (pos value) (value_at f.plane x y)) s.backs ≡ true
+    → pos value <ℤ value_at back x y)
+    → ((x y : ℕ) → has_pixel b x y ≡ true → value_at back x y ≤ℤ value_at front x y)
+    → (x y z : ℕ) → in_block (is_inside s d) b x y z ≡ false
+shut s d b front back before behind apart x y z =
+    shut_cell _ _ _ _ _ (λ there low fronts backs.
+    let v = value_of d z in
+    omega (arith, ints, before x y v fronts, behind x y v (lt_holds v (end_of d) low) backs, apart x y there))
+
+pub shut_reach : (cells : ℕ → ℕ → ℕ → Bool) (b : Block) → ((x y z : ℕ) → in_block cells b x y z ≡ false)
+    → IsReachOf cells b None
+shut_reach cells b none = record { holds = λ x y z h. cc (none x y z, h); least = λ one. no_box _ none }
 
 in_cover : (o u : Option CellBox) (x y z : ℕ) → is_covered o u ≡ true → is_in_box o x y z ≡ true
     → is_in_box u x y z ≡ true

@@ -19,7 +19,7 @@ pub(crate) struct Block {
 
 impl Block {
     ghost use Rattle.std.specs.Prelude.{◌≡◌, ◌<◌, ◌-◌, ◌^◌, ◌≤ℤ◌, ◌&&◌, ◌||◌, nat_lt, ℕ, true, false};
-    ghost use Rattle.px_num.specs.Forms.{IsWithin, value_at};
+    ghost use Rattle.px_num.specs.Forms.{IsInTreeRange, IsWithin, value_at};
     ghost use Rattle.px_model.specs.Scenes.{IsPlane};
     ghost use Rattle.px_model.specs.declared.limits.TheConstants.{MAX_PICTURE_SIZE};
     ghost use Rattle.px_prune.specs.Blocks.{
@@ -86,7 +86,7 @@ impl Block {
 
     /// The greatest value of a form in the block, which it has at a corner.
     pub(crate) fn greatest(&self, form: &Linear) -> i64
-        requires { IsPlane form.now }
+        requires { IsInTreeRange form.now }
         ensures value { result ≡ greatest_in self.now form.now }
         ensures bound { (x y : ℕ) → has_pixel self.now x y ≡ true → value_at form.now x y ≤ℤ result }
     {

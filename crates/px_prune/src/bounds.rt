@@ -10,6 +10,8 @@ ghost use Rattle.std.specs.Prelude.{
   ◌&&◌,
   ℕ,
   Bool,
+  true,
+  false,
   nat_le,
   nat_lt,
   pos,
@@ -26,7 +28,8 @@ ghost use Rattle.std.specs.List.{list_all};
 ghost use Rattle.std.specs.Int.Signed.{le_z, lt_z};
 ghost use Rattle.px_model.specs.Scenes.{IsPlane, IsLawfulScene};
 ghost use Rattle.px_model.specs.Cells.{cell_of, depths, is_inside};
-ghost use Rattle.px_prune.specs.Blocks.{IsReachOf, greatest_in, least_in, with_block};
+ghost use Rattle.px_num.specs.Forms.{IsInHalfRange, value_at};
+ghost use Rattle.px_prune.specs.Blocks.{IsReachOf, greatest_in, in_block, least_in, with_block};
 ghost use Rattle.px_normal.specs.Live.{boxes_in};
 ghost use Rattle.px_prune.specs.Bounding.{bounding_box, IsBoundingBox, IsBoxOf};
 
@@ -71,7 +74,8 @@ pub fn boxes_of(alloc: Global, scene: &Scene) -> Result<Vec<Option<CellBox>>, Me
 
 /// The least box of some cells, whose box is `found`, and of a solid's cells in a block.
 ///
-/// Where the cells that the solid can have in the block lie in `found`, its pixels are passed over.
+/// Where the cells that the solid can have in the block lie in `found`, or one of its fronts is nowhere before one of its
+/// backs, its pixels are passed over.
 fn grown(
     found: Option<CellBox>,
     solid: &Solid,
@@ -90,6 +94,9 @@ fn grown(
     }
     if block.is_pixel() {
         return hull(found, reach);
+    }
+    if is_shut(solid, far, fraction_bits, block) {
+        return found;
     }
     let (first, second) = block.halves();
     let half_grown = grown(found, solid, far, fraction_bits, &first);
@@ -118,6 +125,56 @@ fn reach(solid: &Solid, far: u32, fraction_bits: u32, block: &Block) -> Option<C
         z0: first as u32,
         z1: end as u32 - 1,
     })
+}
+
+/// Whether a solid has no cell in a block since a front of it is nowhere there before a back: those two are tried that are
+/// nearest to it at the block's first pixel.
+fn is_shut(solid: &Solid, far: u32, fraction_bits: u32, block: &Block) -> bool
+    requires fraction { fraction_bits ≤ 8 }
+    requires far { far < 2 ^ 24 }
+    ensures { result ≡ true → (x y z : ℕ) →
+        in_block (is_inside solid.now (depths far fraction_bits)) block.now x y z ≡ false }
+{
+    let front = furthest_front(solid.fronts(), block);
+    let back = nearest_back(solid.backs(), end_value(far, fraction_bits), block);
+    block.greatest(&back.minus(&front)) <= 0
+}
+
+/// The plane of the front that is furthest at the first pixel of a block, the near face among them.
+fn furthest_front(fronts: &[Face], block: &Block) -> Linear
+    requires { All (λ f. IsPlane f.plane) fronts.now }
+    ensures range { IsInHalfRange result }
+    ensures before { (x y value : ℕ) → list_all (λ f. le_z (value_at f.plane x y) (pos value)) fronts.now ≡ true
+        → value_at result x y ≤ℤ pos value }
+{
+    let mut found = Linear::default();
+    for face in fronts {
+        if found.value(block.x0, block.y0) < face.plane.value(block.x0, block.y0) {
+            found = face.plane;
+        }
+    }
+    found
+}
+
+/// The plane of the back that is nearest at the first pixel of a block, the far limit among them.
+fn nearest_back(backs: &[Face], end: u64, block: &Block) -> Linear
+    requires planes { All (λ f. IsPlane f.plane) backs.now }
+    requires small { end < 2 ^ 32 }
+    ensures range { IsInHalfRange result }
+    ensures behind { (x y value : ℕ) → value < end
+        → list_all (λ f. lt_z (pos value) (value_at f.plane x y)) backs.now ≡ true → pos value <ℤ value_at result x y }
+{
+    let mut found = Linear {
+        a: 0,
+        b: 0,
+        c: end as i64,
+    };
+    for face in backs {
+        if face.plane.value(block.x0, block.y0) < found.value(block.x0, block.y0) {
+            found = face.plane;
+        }
+    }
+    found
 }
 
 /// Whether each side holds somewhere in a block.
@@ -159,13 +216,22 @@ fn end_depth(backs: &[Face], far: u32, fraction_bits: u32, block: &Block) -> u64
         ≡ nat_lt z result }
     ensures far { result ≤ far }
 {
-    let end = u64::from(far) * power(fraction_bits) as u64;
-    let least = least_back(backs, end, block);
+    let least = least_back(backs, end_value(far, fraction_bits), block);
     if least <= 0 {
         0
     } else {
         cell_of(least as u64, fraction_bits)
     }
+}
+
+/// The value of the far limit.
+fn end_value(far: u32, fraction_bits: u32) -> u64
+    requires fraction { fraction_bits ≤ 8 }
+    requires far { far < 2 ^ 24 }
+    ensures value { result ≡ far * 2 ^ fraction_bits }
+    ensures small { result < 2 ^ 32 }
+{
+    u64::from(far) * power(fraction_bits) as u64
 }
 
 /// The greatest of the near face's value, which is 0, and the least values of the fronts in a block.

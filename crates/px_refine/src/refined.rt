@@ -34,15 +34,15 @@ pub fn write_refined<A: Array, O: Sink>(
     out: &mut O,
 ) -> Result<(), Failed>
     requires few { s ≤ 2 }
-    requires open { IsOpen (A.device array.now) }
-    requires columns { HasColumns fine.now (A.device array.now).state }
-    requires rows { HasRows fine.now (A.device array.now).state }
+    requires open { IsOpen (A.view array.now).device }
+    requires columns { HasColumns fine.now (A.view array.now).device.state }
+    requires rows { HasRows fine.now (A.view array.now).device.state }
     requires room { need_of layout.now ≤ A.BITS }
-    requires faces { StoresFaces fine.now layout.now (A.device array.now).state }
+    requires faces { StoresFaces fine.now layout.now (A.view array.now).device.state }
     ensures ok { OnOk result (TakesAll (O.state out.old) (O.state out.new)
-        (stored_means s fine.now layout.now (A.device array.now).state)) }
+        (stored_means s fine.now layout.now (A.view array.now).device.state)) }
     ensures err { OnErr result (TakesFront (O.state out.old) (O.state out.new)
-        (stored_means s fine.now layout.now (A.device array.now).state)) }
+        (stored_means s fine.now layout.now (A.view array.now).device.state)) }
     ensures cause { HasCause (O.state out.old).faults (O.state out.new).faults result }
 {
     let across = parts(s);

@@ -39,11 +39,7 @@ impl Array for Watched {
 
     ghost BITS = { 72 };
 
-    ghost device = { λ a. a.array.device };
-
-    ghost slots = { λ a. a.array.slots };
-
-    ghost work = { λ a. a.array.work };
+    ghost view = { λ a. a.array };
 
     fn open(&mut self, nx: u32, ny: u32) -> Result<(), Memory> {
         // A ninth opening is not kept.

@@ -17,7 +17,7 @@ fn a_failing_read_ends_the_run(rt: HostRuntime) -> Result<(), Fail> {
         let left = run_words(rt.alloc(), &given)?;
         if call < 14 {
             left.ended(&rt, Status::ReadFault, b"read fault\n", 0);
-            assert!(rt; left.out.written().is_empty(), "call {call}");
+            assert!(rt; left.out.written().is_empty());
         } else {
             left.ended(&rt, Status::Done, b"", 317);
             assert_eq!(rt; left.out.written(), TWO_MAPS);
@@ -43,7 +43,7 @@ fn a_failing_write_leaves_a_front(rt: HostRuntime) -> Result<(), Fail> {
             left.ended(&rt, Status::Done, b"", 317);
         }
         assert_eq!(rt; left.out.written().len(), room);
-        assert!(rt; TWO_MAPS.starts_with(left.out.written()), "room {room}");
+        assert!(rt; TWO_MAPS.starts_with(left.out.written()));
         assert_eq!(rt; left.out.finished(), room == 28);
     }
     assert_eq!(rt; TWO_MAPS.len(), 28);
@@ -71,10 +71,10 @@ fn how_often_a_sink_is_called(rt: HostRuntime) -> Result<(), Fail> {
     for (words, calls) in CALLS {
         for call in 1..=calls {
             let status = three_rows(rt.alloc(), words, call)?;
-            assert_eq!(rt; status, Status::WriteFault, "{words:?}, call {call}");
+            assert_eq!(rt; status, Status::WriteFault);
         }
         let status = three_rows(rt.alloc(), words, calls + 1)?;
-        assert_eq!(rt; status, Status::Done, "{words:?}");
+        assert_eq!(rt; status, Status::Done);
     }
     Ok(())
 }

@@ -3,7 +3,7 @@ ghost use Rattle.std.specs.Prelude.{◌≡◌, ◌+◌, ◌*◌, ◌^◌, ◌<�
 ghost use Rattle.std.specs.Io.KnownBytes.{Appends};
 ghost use Rattle.px_io.specs.Counts.{HasCause};
 ghost use Rattle.px_io.specs.Told.{TakesFront, Tells};
-ghost use Rattle.px_array.specs.Slots.{IsRunOnce, array_view};
+ghost use Rattle.px_array.specs.Slots.{IsRunOnce};
 ghost use Rattle.px_prune.specs.Kept.{plan_of};
 ghost use Rattle.px_sched.specs.Layouts.{layout_of};
 ghost use Rattle.px_scene.specs.Reading.{scene_of};
@@ -23,7 +23,7 @@ use arrayvec::ArrayString;
 use px_answers::four_lines;
 use px_array::Array;
 use px_asm::Operating;
-use px_control::{Job, law_of_grids};
+use px_control::Job;
 use px_deliver::draw_job;
 use px_frame::stored;
 use px_io::{Failed, Sink};
@@ -54,9 +54,8 @@ pub fn draw_sample<O: Sink, A: Operating>(
     requires bits { A.BITS ≤ 256 }
     ensures serves { DoesWork result (sampled n A.BITS)
         (O.state out.old) (O.state out.new) }
-    ensures array { Draws (status_in result) A.BITS (sample_scene n)
-        (array_view (A.device array.old) (A.slots array.old) (A.work array.old))
-        (array_view (A.device array.new) (A.slots array.new) (A.work array.new)) }
+    ensures array { Draws (status_in result) A.BITS (sample_scene n) (A.view array.old)
+        (A.view array.new) }
 {
     let text = match sample_text(alloc, n) {
         Ok(text) => text,
@@ -75,9 +74,8 @@ fn measure_text<O: Sink, A: Operating>(
     requires bits { A.BITS ≤ 256 }
     ensures serves { DoesWork result (text_measured text.now A.BITS)
         (O.state out.old) (O.state out.new) }
-    ensures array { Draws (status_in result) A.BITS (scene_of (worded text.now))
-        (array_view (A.device array.old) (A.slots array.old) (A.work array.old))
-        (array_view (A.device array.new) (A.slots array.new) (A.work array.new)) }
+    ensures array { Draws (status_in result) A.BITS (scene_of (worded text.now)) (A.view array.old)
+        (A.view array.new) }
 {
     let scene = scene_in(alloc, text)?;
     measure(alloc, &scene, out, array)
@@ -93,16 +91,12 @@ fn measure<O: Sink, A: Operating>(
     requires bits { A.BITS ≤ 256 }
     ensures serves { DoesWork result (measures_answer scene.now A.BITS)
         (O.state out.old) (O.state out.new) }
-    ensures array { Draws (status_in result) A.BITS scene.now
-        (array_view (A.device array.old) (A.slots array.old) (A.work array.old))
-        (array_view (A.device array.new) (A.slots array.new) (A.work array.new)) }
+    ensures array { Draws (status_in result) A.BITS scene.now (A.view array.old)
+        (A.view array.new) }
 {
     let products = count_kept(alloc, scene, A::BITS as u32)?;
     let mut job = open_job(alloc, scene, array)?;
-    match deliver_measures(&mut job, scene, array, products, out) {
-        Ok(()) => Ok(()),
-        Err(_) => Err(Stop::WriteFault),
-    }
+    Ok(deliver_measures(&mut job, scene, array, products, out)?)
 }
 
 /// Makes the clocks of an opened job, writes the numbers of the scene, and finishes.
@@ -114,17 +108,15 @@ fn deliver_measures<A: Operating, O: Sink>(
     out: &mut O,
 ) -> Result<(), Failed>
     requires scene { scene.now ≡ job.old.scene }
-    requires at { IsAt A.BITS scene.now job.old.place.clock (A.device array.old) }
+    requires at { IsAt A.BITS scene.now job.old.place.clock (A.view array.old).device }
     requires products { products ≡ length (plan_of scene.now) }
     ensures ok { OnOk result (Appends (O.state out.old).written (O.state out.new).written
         (measures scene.now)) }
     ensures end { OnOk result (Tells (O.state out.new).finished true) }
     ensures err { OnErr result (TakesFront (O.state out.old) (O.state out.new) (measures scene.now)) }
     ensures cause { HasCause (O.state out.old).faults (O.state out.new).faults result }
-    ensures drawn { IsDrawn A.BITS scene.now (A.device array.new) }
-    ensures once { IsRunOnce
-        (array_view (A.device array.old) (A.slots array.old) (A.work array.old))
-        → IsRunOnce (array_view (A.device array.new) (A.slots array.new) (A.work array.new)) }
+    ensures drawn { IsDrawn A.BITS scene.now (A.view array.new).device }
+    ensures once { IsRunOnce (A.view array.old) → IsRunOnce (A.view array.new) }
 {
     let text = measures(job, scene, array, products);
     write_finished(text.as_bytes(), out)
@@ -147,13 +139,11 @@ fn measures<A: Operating>(
     products: u64,
 ) -> ArrayString<128>
     requires scene { scene.now ≡ job.old.scene }
-    requires at { IsAt A.BITS scene.now job.old.place.clock (A.device array.old) }
+    requires at { IsAt A.BITS scene.now job.old.place.clock (A.view array.old).device }
     requires products { products ≡ length (plan_of scene.now) }
     ensures text { result.bytes ≡ measures scene.now }
-    ensures drawn { IsDrawn A.BITS scene.now (A.device array.new) }
-    ensures once { IsRunOnce
-        (array_view (A.device array.old) (A.slots array.old) (A.work array.old))
-        → IsRunOnce (array_view (A.device array.new) (A.slots array.new) (A.work array.new)) }
+    ensures drawn { IsDrawn A.BITS scene.now (A.view array.new).device }
+    ensures once { IsRunOnce (A.view array.old) → IsRunOnce (A.view array.new) }
 {
     let layout = draw_job(job, scene, array);
     let shown = count_shown(array, &layout, scene);
@@ -163,7 +153,7 @@ fn measures<A: Operating>(
 /// The pixels of a drawn array that show a face.
 fn count_shown<A: Array>(array: &A, layout: &Layout, scene: &Scene) -> Shown
     requires layout { layout.now ≡ layout_of scene.now }
-    requires drawn { IsDrawn A.BITS scene.now (A.device array.now) }
+    requires drawn { IsDrawn A.BITS scene.now (A.view array.now).device }
     ensures { result ≡ shown_within scene.now scene.now.width scene.now.height }
 {
     laws_of_scenes(scene);
@@ -177,7 +167,7 @@ fn count_shown<A: Array>(array: &A, layout: &Layout, scene: &Scene) -> Shown
 /// Those of row `y`.
 fn shown_in_row<A: Array>(array: &A, layout: &Layout, scene: &Scene, y: u32) -> Shown
     requires layout { layout.now ≡ layout_of scene.now }
-    requires drawn { IsDrawn A.BITS scene.now (A.device array.now) }
+    requires drawn { IsDrawn A.BITS scene.now (A.view array.now).device }
     requires y { y < scene.now.height }
     ensures shown { result ≡ shown_in_row scene.now scene.now.width y }
     ensures most { IsShownAtMost (MAX_PICTURE_SIZE * 2 ^ 24) result }
@@ -193,14 +183,13 @@ fn shown_in_row<A: Array>(array: &A, layout: &Layout, scene: &Scene, y: u32) -> 
 /// The pixel (x, y) alone.
 fn shown_at<A: Array>(array: &A, layout: &Layout, scene: &Scene, x: u32, y: u32) -> Shown
     requires layout { layout.now ≡ layout_of scene.now }
-    requires drawn { IsDrawn A.BITS scene.now (A.device array.now) }
+    requires drawn { IsDrawn A.BITS scene.now (A.view array.now).device }
     requires x { x < scene.now.width }
     requires y { y < scene.now.height }
     ensures shown { result ≡ shown_at scene.now x y }
     ensures most { IsShownAtMost (2 ^ 24) result }
 {
     laws_of_scenes(scene);
-    law_of_grids();
     let (depth, face) = stored(array, layout, x, y);
     Shown::of(depth, face)
 }

@@ -34,12 +34,12 @@ fn give<A: Operating, O: Sink>(
     first: &[u8],
     out: &mut O,
 ) -> Result<Going, Failed>
-    requires fits { Fits A.BITS session.old (A.device array.old) (A.slots array.old) }
+    requires fits { Fits A.BITS session.old (A.view array.old) }
     requires counted { session.old.lines < 2 ^ 64 - 1 }
-    ensures fits { Fits A.BITS session.new (A.device array.new) (A.slots array.new) }
+    ensures fits { Fits A.BITS session.new (A.view array.new) }
     ensures given { (from : Stand) (lines : List (List ℕ)) (line : List ℕ) → first.now ≡ short line →
-        Went Going.More A.BITS from (stand session.old (A.work array.old) (O.state out.old)) lines →
-        Gave result A.BITS from (stand session.new (A.work array.new) (O.state out.new)) (lines ++ line ∷ []) }
+        Went Going.More A.BITS from (stand session.old (A.view array.old).work (O.state out.old)) lines →
+        Gave result A.BITS from (stand session.new (A.view array.new).work (O.state out.new)) (lines ++ line ∷ []) }
     ensures count { session.new.lines ≡ session.old.lines + 1 }
     ensures cause { HasCause (O.state out.old).faults (O.state out.new).faults result }
 {
@@ -55,17 +55,17 @@ fn take_byte<A: Operating, O: Sink>(
     byte: u8,
     out: &mut O,
 ) -> Result<Going, Failed>
-    requires fits { Fits A.BITS session.old (A.device array.old) (A.slots array.old) }
+    requires fits { Fits A.BITS session.old (A.view array.old) }
     requires counted { session.old.lines < 2 ^ 64 - 1 }
-    ensures fits { Fits A.BITS session.new (A.device array.new) (A.slots array.new) }
+    ensures fits { Fits A.BITS session.new (A.view array.new) }
     ensures ok { (from : Stand) (text : List ℕ) → Fed Going.More A.BITS text from
-        (stand session.old (A.work array.old) (O.state out.old)) held.old.items →
+        (stand session.old (A.view array.old).work (O.state out.old)) held.old.items →
         IfOk result (λ on. Fed on A.BITS (text ++ byte ∷ []) from
-        (stand session.new (A.work array.new) (O.state out.new)) held.new.items) }
+        (stand session.new (A.view array.new).work (O.state out.new)) held.new.items) }
     ensures err { (from : Stand) (text : List ℕ) → Fed Going.More A.BITS text from
-        (stand session.old (A.work array.old) (O.state out.old)) held.old.items →
+        (stand session.old (A.view array.old).work (O.state out.old)) held.old.items →
         OnErr result (Broken A.BITS from
-        (stand session.new (A.work array.new) (O.state out.new)) (whole_lines (text ++ byte ∷ []))) }
+        (stand session.new (A.view array.new).work (O.state out.new)) (whole_lines (text ++ byte ∷ []))) }
     ensures count { session.new.lines ≤ session.old.lines + 1 }
     ensures cause { HasCause (O.state out.old).faults (O.state out.new).faults result }
 {
@@ -88,17 +88,17 @@ pub(crate) fn feed<A: Operating, O: Sink>(
     bytes: &[u8],
     out: &mut O,
 ) -> Result<Going, Failed>
-    requires fits { Fits A.BITS session.old (A.device array.old) (A.slots array.old) }
+    requires fits { Fits A.BITS session.old (A.view array.old) }
     requires counted { session.old.lines + length bytes.now < 2 ^ 64 - 1 }
-    ensures fits { Fits A.BITS session.new (A.device array.new) (A.slots array.new) }
+    ensures fits { Fits A.BITS session.new (A.view array.new) }
     ensures ok { (from : Stand) (text : List ℕ) → Fed Going.More A.BITS text from
-        (stand session.old (A.work array.old) (O.state out.old)) held.old.items →
+        (stand session.old (A.view array.old).work (O.state out.old)) held.old.items →
         IfOk result (λ on. Fed on A.BITS (text ++ bytes.now) from
-        (stand session.new (A.work array.new) (O.state out.new)) held.new.items) }
+        (stand session.new (A.view array.new).work (O.state out.new)) held.new.items) }
     ensures err { (from : Stand) (text : List ℕ) → Fed Going.More A.BITS text from
-        (stand session.old (A.work array.old) (O.state out.old)) held.old.items →
+        (stand session.old (A.view array.old).work (O.state out.old)) held.old.items →
         OnErr result (Broken A.BITS from
-        (stand session.new (A.work array.new) (O.state out.new)) (whole_lines (text ++ bytes.now))) }
+        (stand session.new (A.view array.new).work (O.state out.new)) (whole_lines (text ++ bytes.now))) }
     ensures count { session.new.lines ≤ session.old.lines + length bytes.now }
     ensures cause { HasCause (O.state out.old).faults (O.state out.new).faults result }
 {
@@ -118,17 +118,17 @@ pub(crate) fn finish_line<A: Operating, O: Sink>(
     array: &mut A,
     out: &mut O,
 ) -> Result<(), Failed>
-    requires fits { Fits A.BITS session.old (A.device array.old) (A.slots array.old) }
+    requires fits { Fits A.BITS session.old (A.view array.old) }
     requires counted { session.old.lines < 2 ^ 64 - 1 }
-    ensures fits { Fits A.BITS session.new (A.device array.new) (A.slots array.new) }
+    ensures fits { Fits A.BITS session.new (A.view array.new) }
     ensures ok { (from : Stand) (text : List ℕ) → Fed Going.More A.BITS text from
-        (stand session.old (A.work array.old) (O.state out.old)) held.now.items →
-        OnOk result (Answered false from (stand session.new (A.work array.new) (O.state out.new))
+        (stand session.old (A.view array.old).work (O.state out.old)) held.now.items →
+        OnOk result (Answered false from (stand session.new (A.view array.new).work (O.state out.new))
         (sitting A.BITS from.session (all_lines text))) }
     ensures err { (from : Stand) (text : List ℕ) → Fed Going.More A.BITS text from
-        (stand session.old (A.work array.old) (O.state out.old)) held.now.items →
+        (stand session.old (A.view array.old).work (O.state out.old)) held.now.items →
         OnErr result (Broken A.BITS from
-        (stand session.new (A.work array.new) (O.state out.new)) (all_lines text)) }
+        (stand session.new (A.view array.new).work (O.state out.new)) (all_lines text)) }
     ensures cause { HasCause (O.state out.old).faults (O.state out.new).faults result }
 {
     match held.as_slice() {

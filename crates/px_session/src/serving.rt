@@ -45,13 +45,13 @@ pub fn serve<S: Asks<O>, O: Sink, A: Operating>(
     more: usize,
     out: &mut O,
 ) -> Ending
-    requires fits { Fits A.BITS session.old (A.device array.old) (A.slots array.old) }
+    requires fits { Fits A.BITS session.old (A.view array.old) }
     requires counted { session.old.lines + length read.now + more < 2 ^ 64 - 1 }
-    ensures fits { Fits A.BITS session.new (A.device array.new) (A.slots array.new) }
+    ensures fits { Fits A.BITS session.new (A.view array.new) }
     ensures serves { Serves result A.BITS read.now more
-        (moment session.old (A.work array.old) (O.state out.old)
+        (moment session.old (A.view array.old).work (O.state out.old)
         (S.asks input.old) (S.rest input.old) (S.faults input.old))
-        (moment session.new (A.work array.new) (O.state out.new)
+        (moment session.new (A.view array.new).work (O.state out.new)
         (S.asks input.new) (S.rest input.new) (S.faults input.new)) }
 {
     let mut held = ArrayVec::new();
@@ -99,13 +99,13 @@ fn read_on<S: Asks<O>, O: Sink, A: Operating>(
     limit: usize,
     out: &mut O,
 ) -> Ending
-    requires fits { Fits A.BITS session.old (A.device array.old) (A.slots array.old) }
+    requires fits { Fits A.BITS session.old (A.view array.old) }
     requires counted { session.old.lines + limit < 2 ^ 64 - 1 }
-    ensures fits { Fits A.BITS session.new (A.device array.new) (A.slots array.new) }
+    ensures fits { Fits A.BITS session.new (A.view array.new) }
     ensures serves { (b : Begun) → Caught A.BITS b limit
-        (moment session.old (A.work array.old) (O.state out.old)
+        (moment session.old (A.view array.old).work (O.state out.old)
         (S.asks input.old) (S.rest input.old) (S.faults input.old)) held.old.items →
-        IsOverBy result A.BITS b (moment session.new (A.work array.new) (O.state out.new)
+        IsOverBy result A.BITS b (moment session.new (A.view array.new).work (O.state out.new)
         (S.asks input.new) (S.rest input.new) (S.faults input.new)) }
 {
     let mut piece = [0; 4096];
@@ -130,24 +130,24 @@ fn turn<S: Asks<O>, O: Sink, A: Operating>(
     limit: usize,
     out: &mut O,
 ) -> Result<usize, Ending>
-    requires fits { Fits A.BITS session.old (A.device array.old) (A.slots array.old) }
+    requires fits { Fits A.BITS session.old (A.view array.old) }
     requires some { 0 < limit }
     requires room { 0 < length piece.old }
     requires counted { session.old.lines + limit < 2 ^ 64 - 1 }
-    ensures fits { Fits A.BITS session.new (A.device array.new) (A.slots array.new) }
+    ensures fits { Fits A.BITS session.new (A.view array.new) }
     ensures count { IfOk result (λ count. (0 < count) × (count < limit)
         × (session.new.lines + (limit - count) < 2 ^ 64 - 1)) }
     ensures caught { (b : Begun) → Caught A.BITS b limit
-        (moment session.old (A.work array.old) (O.state out.old)
+        (moment session.old (A.view array.old).work (O.state out.old)
         (S.asks input.old) (S.rest input.old) (S.faults input.old)) held.old.items →
         IfOk result (λ count. Caught A.BITS b (limit - count)
-        (moment session.new (A.work array.new) (O.state out.new)
+        (moment session.new (A.view array.new).work (O.state out.new)
         (S.asks input.new) (S.rest input.new) (S.faults input.new)) held.new.items) }
     ensures serves { (b : Begun) → Caught A.BITS b limit
-        (moment session.old (A.work array.old) (O.state out.old)
+        (moment session.old (A.view array.old).work (O.state out.old)
         (S.asks input.old) (S.rest input.old) (S.faults input.old)) held.old.items →
         IfErr result (λ ending. IsOverBy ending A.BITS b
-        (moment session.new (A.work array.new) (O.state out.new)
+        (moment session.new (A.view array.new).work (O.state out.new)
         (S.asks input.new) (S.rest input.new) (S.faults input.new))) }
 {
     let room = piece.len().min(limit);
@@ -168,23 +168,23 @@ fn answer_piece<O: Sink, A: Operating>(
     limit: usize,
     out: &mut O,
 ) -> Result<(), Ending>
-    requires fits { Fits A.BITS session.old (A.device array.old) (A.slots array.old) }
+    requires fits { Fits A.BITS session.old (A.view array.old) }
     requires some { 0 < limit }
     requires bound { length bytes.now ≤ limit }
     requires counted { session.old.lines + limit < 2 ^ 64 - 1 }
-    ensures fits { Fits A.BITS session.new (A.device array.new) (A.slots array.new) }
+    ensures fits { Fits A.BITS session.new (A.view array.new) }
     ensures some { OnOk result ((0 < length bytes.now) × (length bytes.now < limit)) }
     ensures count { OnOk result (session.new.lines ≤ session.old.lines + length bytes.now) }
     ensures fed { (from : Stand) (text : List ℕ) → Fed Going.More A.BITS text from
-        (stand session.old (A.work array.old) (O.state out.old)) held.old.items →
+        (stand session.old (A.view array.old).work (O.state out.old)) held.old.items →
         OnOk result (Fed Going.More A.BITS (text ++ bytes.now) from
-        (stand session.new (A.work array.new) (O.state out.new)) held.new.items) }
+        (stand session.new (A.view array.new).work (O.state out.new)) held.new.items) }
     ensures calm { OnOk result ((O.state out.new).faults ≡ (O.state out.old).faults) }
     ensures ended { IfErr result (λ ending. EndsIn ending limit bytes.now) }
     ensures served { (from : Stand) (text : List ℕ) → Fed Going.More A.BITS text from
-        (stand session.old (A.work array.old) (O.state out.old)) held.old.items →
+        (stand session.old (A.view array.old).work (O.state out.old)) held.old.items →
         IfErr result (λ ending. HasServed ending A.BITS from
-        (stand session.new (A.work array.new) (O.state out.new)) (lines_in (text ++ seen limit bytes.now))) }
+        (stand session.new (A.view array.new).work (O.state out.new)) (lines_in (text ++ seen limit bytes.now))) }
     ensures cause { IfErr result (λ ending.
         HasOutCause ending (O.state out.old).faults (O.state out.new).faults) }
 {

@@ -1,20 +1,25 @@
 -- What the shadow passes leave in an array that stores the picture, and the image of it.
 use Rattle.px_num.proofs.Basics.{◌≡◌, ◌<◌, ◌≤◌, ◌+◌, ◌-◌, ◌*◌, ◌^◌, ◌∙◌, ℕ, List, length, refl, ap, subst, sym, arith}
 use Rattle.px_num.proofs.Basics.{All, All-weaker}
-use Rattle.px_shadow.proofs.Words.{all_clocked, all_micros, bit_at, CanCarryOut, Device, GridLaw, IsBelow, IsLawful}
-use Rattle.px_shadow.proofs.Words.{IsLawfulInMore, IsLawfulScene, IsLawfulSolid, layout_of, light_bit, MaskLaw}
+use Rattle.px_shadow.proofs.Words.{all_clocked, all_micros, bit_at, CanCarryOut, Device, IsBelow, IsLawful}
+use Rattle.px_shadow.proofs.Words.{IsLawfulScene, IsLawfulSolid, layout_of, light_bit, MaskLaw}
 use Rattle.px_shadow.proofs.Words.{MAX_LIGHTS, need_with, number_same, nx-after_clocks, ny-after_clocks, pixel_of}
-use Rattle.px_shadow.proofs.Words.{PixelBits, plan_of, same_image, ShadedGridLaw, ShadedLaw, shadow_passes, ShadowLaw}
-use Rattle.px_shadow.proofs.Words.{ShadowPassesAreLawful, SizeLaw, SolidSet}
-use Rattle.px_asm.specs.Microprograms.{LeaveTheMeanings, bits_of}
+use Rattle.px_shadow.proofs.Words.{PixelBits, plan_of, same_image, ShadedGridLaw, ShadedLaw, shadow_passes}
+use Rattle.px_shadow.proofs.Words.{SolidSet}
+use Rattle.px_asm.specs.Microprograms.{bits_of}
+use Rattle.px_asm.proofs.ProgramLemmas.{micros_leave_the_meanings}
+use Rattle.px_macro.proofs.MacroLemmas.{is_lawful_in_more}
+use Rattle.px_sched.proofs.LayoutLaws.{scene_layout}
+use Rattle.px_control.proofs.BoundLemmas.{few_clocks}
+use Rattle.px_control.proofs.GridLaws.{covers_the_picture, is_sized_array}
+use Rattle.px_control.proofs.PictureLemmas.{picture_law}
+use Rattle.px_shadow.proofs.FewLemmas.{passes_few}
+use Rattle.px_shadow.proofs.FitLemmas.{passes_lawful}
+use Rattle.px_shadow.proofs.SightLemmas.{shadow_law}
 use Rattle.px_model.specs.Scenes.{SceneView}
-use Rattle.px_control.specs.PictureLaw.{PictureLaw}
 use Rattle.px_control.specs.Program.{IsAt, array_after, rows_of, total}
 use Rattle.px_shadow.specs.Shaded.{IsShaded, shaded, shadow_program}
 use Rattle.px_shadow.specs.Carrying.{carried_out}
-use Rattle.px_shadow.specs.Passing.{ShadowPassesAreFew}
-use Rattle.px_control.specs.ClockLaw.{ClockBound}
-use Rattle.px_sched.specs.PassesFacts.{LayoutsAreLawful}
 use Rattle.px_control.proofs.ArrayLaws.{columns_at, rows_at}
 use Rattle.px_tree.proofs.PlaceLaws.{index_below}
 use Rattle.px_normal.specs.declared.product.TheConstants.{MAX_PRODUCTS}
@@ -38,12 +43,12 @@ drawn_at : (bits : ℕ) (scene : SceneView) (lights : List SolidSet) (device : D
     → IsShaded bits scene lights device → IsAt bits scene (total scene) (drawn bits scene)
 drawn_at bits scene lights device at = record { enough = omega (arith, at.enough); reached = refl }
 
-pub grid_law : GridLaw → ShadedGridLaw
+pub grid_law : ShadedGridLaw
 unfolding carried_out
-grid_law grids bits scene lights device lawful at =
+grid_law bits scene lights device lawful at =
     let ms = shadow_passes scene (layout_of scene) lights in
     let before = drawn bits scene in
-    let covers = grids bits scene (total scene) before lawful (drawn_at bits scene lights device at) in
+    let covers = covers_the_picture bits scene (total scene) before lawful (drawn_at bits scene lights device at) in
     let all = all_micros ms before.state.tree.nx before.state.tree.ny in
     let reached = at.reached ∙ shaded_is bits scene lights in
     let columns : device.state.tree.nx ≡ before.state.tree.nx =
@@ -56,31 +61,29 @@ grid_law grids bits scene lights device lawful at =
       rows = subst (λ n. scene.height ≤ 2 ^ n) (sym rows) covers.rows;
     }
 
-pub shaded_law : ShadowLaw → ShadowPassesAreLawful → IsLawfulInMore → LeaveTheMeanings → GridLaw → SizeLaw
-    → PictureLaw → ShadedLaw
+pub shaded_law : ShadedLaw
 unfolding carried_out
-shaded_law law passes_lawful more meanings grids sizes pictures bits scene lights device lawful solids known at x y
-    left up place below =
+shaded_law bits scene lights device lawful solids known at x y left up place below =
     let l = layout_of scene in
     let ms = shadow_passes scene l lights in
     let before = drawn bits scene in
     let nx = before.state.tree.nx in
     let ny = before.state.tree.ny in
     let first = drawn_at bits scene lights device at in
-    let covers = grids bits scene (total scene) before lawful first in
-    let sized = sizes bits scene (total scene) before lawful first in
+    let covers = covers_the_picture bits scene (total scene) before lawful first in
+    let sized = is_sized_array bits scene (total scene) before lawful first in
     let column : x < 2 ^ nx = omega (arith, covers.columns, left) in
     let row : y < 2 ^ ny = omega (arith, covers.rows, up) in
     let fit = All-weaker (λ m. IsLawful m (need_with l (length lights))) (λ m. IsLawful m bits)
-    (λ m small. more m (need_with l (length lights)) bits at.enough small) ms
+    (λ m small. is_lawful_in_more m (need_with l (length lights)) bits at.enough small) ms
     (passes_lawful scene lawful solids lights known) in
-    let meant = meanings bits nx ny sized.grid ms fit before.state sized.pixels x y column row in
+    let meant = micros_leave_the_meanings bits nx ny sized.grid ms fit before.state sized.pixels x y column row in
     let long = sized.pixels.memory (x * 2 ^ ny + y) (index_below nx ny x y column row) in
     ap (λ (d : Device). bit_at (pixel_of d.state x y).memory (light_bit l (place + 1))) (at.reached
     ∙ shaded_is bits scene lights)
     ∙ ap (λ (p : PixelBits). bit_at p.memory (light_bit l (place + 1))) meant
-    ∙ law scene lawful solids lights x y left up (bits_of (pixel_of before.state x y))
-    (omega (arith, at.enough, long)) (pictures bits scene before lawful solids first x y left up) place below
+    ∙ shadow_law scene lawful solids lights x y left up (bits_of (pixel_of before.state x y))
+    (omega (arith, at.enough, long)) (picture_law bits scene before lawful solids first x y left up) place below
 
 pub mask_law : MaskLaw
 mask_law scene l lights state stores = grind (arith, same_image, number_same)
@@ -90,24 +93,24 @@ unfolding array_after
 clocks_at bits scene n = refl
 
 -- the array that stores the picture can carry the shadow passes out
-pub can_shade : LayoutsAreLawful → IsLawfulInMore → ShadowPassesAreLawful → ShadowPassesAreFew → ClockBound → SizeLaw
-    → (bits : ℕ) (scene : SceneView) (lights : List SolidSet) (device : Device) → IsLawfulScene scene
+pub can_shade : (bits : ℕ) (scene : SceneView) (lights : List SolidSet) (device : Device) → IsLawfulScene scene
     → All IsLawfulSolid scene.solids → length (plan_of scene) ≤ MAX_PRODUCTS → IsAt bits scene (total scene) device
     → All (IsBelow (length scene.solids)) lights → need_with (layout_of scene) (length lights) ≤ bits
     → length lights ≤ MAX_LIGHTS → CanCarryOut bits (shadow_passes scene (layout_of scene) lights) device
-can_shade layouts more passes_lawful few bound sizes bits scene lights device lawful solids products at known
-    enough most =
+can_shade bits scene lights device lawful solids products at known enough most =
     let l = layout_of scene in
     let need = need_with l (length lights) in
     let ms = shadow_passes scene l lights in
     let fit = passes_lawful scene lawful solids lights known in
-    let layout = layouts scene lawful in
+    let layout = scene_layout scene lawful in
     let small : need ≤ 256 = omega (arith, layout.depth, layout.number, most) in
     record {
-      sized = sizes bits scene (total scene) device lawful at;
-      lawful = All-weaker (λ m. IsLawful m need) (λ m. IsLawful m 256) (λ m h. more m need 256 small h) ms fit;
-      places = All-weaker (λ m. IsLawful m need) (λ m. IsLawful m bits) (λ m h. more m need bits enough h) ms fit;
-      counted = grind (arith, clocks_at);
+      sized = is_sized_array bits scene (total scene) device lawful at;
+      lawful = All-weaker (λ m. IsLawful m need) (λ m. IsLawful m 256) (λ m h. is_lawful_in_more m need 256 small h)
+          ms fit;
+      places = All-weaker (λ m. IsLawful m need) (λ m. IsLawful m bits)
+          (λ m h. is_lawful_in_more m need bits enough h) ms fit;
+      counted = grind (arith, clocks_at, passes_few, few_clocks);
     }
 
 pub is_shaded : (bits : ℕ) (scene : SceneView) (lights : List SolidSet) (device now : Device)

@@ -1,12 +1,13 @@
 -- Operations that are carried out on an array, one after another.
 use Rattle.px_num.proofs.Basics.{nat_tests, common_steps, flat_map-append, drop-cons, drop, get_or, ◌≡◌, ◌<◌, ◌≤◌, ◌+◌}
-use Rattle.px_num.proofs.Basics.{◌-◌, ◌*◌, ◌∙◌, ℕ, List, [], ◌∷◌, ◌++◌, length, All, Option, refl, ap, sym, arith}
+use Rattle.px_num.proofs.Basics.{◌-◌, ◌*◌, ◌∙◌, ℕ, List, [], ◌∷◌, ◌++◌, length, All, refl, ap, sym, arith}
 use Rattle.px_num.proofs.Basics.{append_assoc, add-zero, length-append, flat_map, drop_all, All-cons, All-head}
 use Rattle.px_num.proofs.Basics.{All-nil, All-tail}
 use Rattle.px_shadow.proofs.Words.{after_clocks, all_clocked, all_clocked-append, all_micros, append-nil, CanCarryOut}
 use Rattle.px_shadow.proofs.Words.{CarriesOut, cycles, Device, grid_after_clocks, HasGrid, IsLawful, IsRestOf}
 use Rattle.px_shadow.proofs.Words.{IsSizedArray, Macro, micro_at, micros, nx-after_clocks, ny-after_clocks, State}
-use Rattle.px_shadow.proofs.Words.{view_by, worked}
+use Rattle.px_shadow.proofs.Words.{ArrayView, HasRun}
+use Rattle.px_array.proofs.WorkLaws.{run_none, run_on}
 use Rattle.px_num.proofs.ListLaws.{length-tabulate}
 use Rattle.px_tree.specs.Nodes.{IsGrid}
 use Rattle.px_asm.proofs.CycleLaws.{few_cycles}
@@ -100,46 +101,42 @@ pub rest_of : (xs ys : List Macro) (d now : Device) → now ≡ carried_out xs d
     ≡ carried_out (xs ++ ys) d
 rest_of xs ys d now is = ap (carried_out ys) is ∙ sym (carried_both xs ys d)
 
--- an array with what is told of it
-module _ {A : Type 0} (bits : ℕ) (device : A → Device) (slots : A → List (Option Device)) (work : A → ℕ) where
-  pub all_left : (whole : List Macro) (start : A) → CanCarryOut bits whole (device start)
-      → IsRestOf bits (view_by device slots work) whole whole start start
-  all_left whole start can = record { can = can; same = refl; clocks = omega arith; slots = refl; work = omega arith }
+-- an array whose pixels have so many memory bits
+module _ (bits : ℕ) where
+  pub all_left : (whole : List Macro) (start : ArrayView) → CanCarryOut bits whole start.device
+      → IsRestOf bits whole whole start start
+  all_left whole start can = record { can = can; same = refl; run = run_none start }
 
-  pub left_first : (whole xs ys : List Macro) (start now : A)
-      → IsRestOf bits (view_by device slots work) whole (xs ++ ys) start now → CanCarryOut bits xs (device now)
-  left_first whole xs ys start now left = can_first bits xs ys (device now) left.can
+  pub left_first : (whole xs ys : List Macro) (start now : ArrayView)
+      → IsRestOf bits whole (xs ++ ys) start now → CanCarryOut bits xs now.device
+  left_first whole xs ys start now left = can_first bits xs ys now.device left.can
 
-  pub left_next : (whole xs ys : List Macro) (start before now : A)
-      → IsRestOf bits (view_by device slots work) whole (xs ++ ys) start before
-      → CarriesOut (view_by device slots work) xs before now
-      → IsRestOf bits (view_by device slots work) whole ys start now
+  pub left_next : (whole xs ys : List Macro) (start before now : ArrayView)
+      → IsRestOf bits whole (xs ++ ys) start before
+      → CarriesOut xs before now
+      → IsRestOf bits whole ys start now
   left_next whole xs ys start before now left made = record {
-    can = can_second bits xs ys (device before) (device now) left.can made.device;
-    same = rest_of xs ys (device before) (device now) made.device ∙ left.same;
-    clocks = omega (arith, left.clocks, made.clocks);
-    slots = made.slots ∙ left.slots;
-    work = omega (arith, left.work, left.clocks, made.work, made.clocks);
+    can = can_second bits xs ys before.device now.device left.can made.device;
+    same = rest_of xs ys before.device now.device made.device ∙ left.same;
+    run = run_on start before now left.run made.run;
   }
 
-  pub none_left : (whole : List Macro) (start now : A) → IsRestOf bits (view_by device slots work) whole [] start now
-      → CarriesOut (view_by device slots work) whole start now
+  pub none_left : (whole : List Macro) (start now : ArrayView) → IsRestOf bits whole [] start now
+      → CarriesOut whole start now
   none_left whole start now left = grind (arith, carried_none)
 
   -- the last ones are carried out
-  pub last_made : (whole ms : List Macro) (start before now : A) → IsRestOf bits (view_by device slots work) whole ms
+  pub last_made : (whole ms : List Macro) (start before now : ArrayView) → IsRestOf bits whole ms
       start before →
-      CarriesOut (view_by device slots work) ms before now → CarriesOut (view_by device slots work) whole start now
+      CarriesOut ms before now → CarriesOut whole start now
   last_made whole ms start before now left made =
       none_left whole start now (left_next whole ms [] start before now (rw (append-nil ms) left) made)
 
   -- they are made
-  pub made_out : (ms : List Macro) (before now : A) → device now ≡ all_made ms (device before)
-      → (device before).clocks ≤ (device now).clocks → slots now ≡ slots before
-      → work now ≡ worked ((device now).clocks - (device before).clocks) (work before)
-      → CarriesOut (view_by device slots work) ms before now
+  pub made_out : (ms : List Macro) (before now : ArrayView) → now.device ≡ all_made ms before.device
+      → HasRun before now → CarriesOut ms before now
   unfolding carried_out
-  made_out ms before now is clocks same grown = record { device = is; clocks = clocks; slots = same; work = grown }
+  made_out ms before now is run = record { device = is; run = run }
 
   -- some operations for each element of a list
   cut_each : {X : Type 0} (f : X → List Macro) (xs : List X) (i : ℕ) (x d : X) → i < length xs → get_or xs i d ≡ x →
@@ -147,28 +144,29 @@ module _ {A : Type 0} (bits : ℕ) (device : A → Device) (slots : A → List (
   cut_each f xs i x d there is = grind (arith, drop-cons)
 
   pub each_cut : {X : Type 0} (f : X → List Macro) (xs : List X) (i : ℕ) (x d : X) (whole tail : List Macro)
-      (start now : A) → i < length xs → get_or xs i d ≡ x →
-      IsRestOf bits (view_by device slots work) whole (flat_map f (drop i xs) ++ tail) start now →
-      IsRestOf bits (view_by device slots work) whole (f x ++ (flat_map f (drop (i + 1) xs) ++ tail)) start now
+      (start now : ArrayView) → i < length xs → get_or xs i d ≡ x →
+      IsRestOf bits whole (flat_map f (drop i xs) ++ tail) start now →
+      IsRestOf bits whole (f x ++ (flat_map f (drop (i + 1) xs) ++ tail)) start now
   each_cut f xs i x d whole tail start now there is left =
       grind (arith, nat_tests, common_steps, cut_each, append_assoc)
 
   pub each_first : {X : Type 0} (f : X → List Macro) (xs : List X) (i : ℕ) (x d : X) (whole tail : List Macro)
-      (start now : A) → i < length xs → get_or xs i d ≡ x →
-      IsRestOf bits (view_by device slots work) whole (flat_map f (drop i xs) ++ tail) start now
-      → CanCarryOut bits (f x) (device now)
+      (start now : ArrayView) → i < length xs → get_or xs i d ≡ x →
+      IsRestOf bits whole (flat_map f (drop i xs) ++ tail) start now
+      → CanCarryOut bits (f x) now.device
   each_first f xs i x d whole tail start now there is left =
       grind (arith, nat_tests, common_steps, left_first, each_cut)
 
   pub each_next : {X : Type 0} (f : X → List Macro) (xs : List X) (i : ℕ) (x d : X) (whole tail : List Macro)
-      (start before now : A) → i < length xs → get_or xs i d ≡ x →
-      IsRestOf bits (view_by device slots work) whole (flat_map f (drop i xs) ++ tail) start before
-      → CarriesOut (view_by device slots work) (f x) before now →
-      IsRestOf bits (view_by device slots work) whole (flat_map f (drop (i + 1) xs) ++ tail) start now
+      (start before now : ArrayView) → i < length xs → get_or xs i d ≡ x →
+      IsRestOf bits whole (flat_map f (drop i xs) ++ tail) start before
+      → CarriesOut (f x) before now →
+      IsRestOf bits whole (flat_map f (drop (i + 1) xs) ++ tail) start now
   each_next f xs i x d whole tail start before now there is left made =
-      grind (arith, nat_tests, common_steps, left_next, each_cut)
+      left_next whole (f x) _ start before now (each_cut f xs i x d whole tail start before there is left) made
 
-  pub each_done : {X : Type 0} (f : X → List Macro) (xs : List X) (i : ℕ) (whole tail : List Macro) (start now : A)
-      → length xs ≤ i → IsRestOf bits (view_by device slots work) whole (flat_map f (drop i xs) ++ tail) start now
-      → IsRestOf bits (view_by device slots work) whole tail start now
+  pub each_done : {X : Type 0} (f : X → List Macro) (xs : List X) (i : ℕ) (whole tail : List Macro)
+      (start now : ArrayView)
+      → length xs ≤ i → IsRestOf bits whole (flat_map f (drop i xs) ++ tail) start now
+      → IsRestOf bits whole tail start now
   each_done f xs i whole tail start now past left = grind (arith, drop_all)

@@ -8,7 +8,9 @@ use Rattle.px_shadow.proofs.Words.{range_all, solid_of, solid_passes, SolidSet, 
 use Rattle.px_sets.specs.Sets.{solids}
 use Rattle.px_model.specs.Scenes.{SceneView}
 use Rattle.px_sched.proofs.FewLaws.{few_filtered}
-use Rattle.px_shadow.proofs.FitLemmas.{Ranges}
+use Rattle.px_sched.proofs.LayoutLaws.{scene_layout}
+use Rattle.px_shadow.specs.Passing.{ShadowPassesAreFew}
+use Rattle.px_face.proofs.EdgeLemmas.{edges_count}
 use Rattle.px_shadow.proofs.StepLemmas.{all_known}
 use Rattle.px_macro.specs.declared.operation.Macro.TheVariants as m
 
@@ -27,14 +29,14 @@ solids_few : (set : SolidSet) (n : ℕ) → n ≡ 256 → length (solids set) �
 unfolding solids
 solids_few set n e = omega (arith, ap (λ k. length (filter (has set) (below k))) e, few_filtered (has set) n)
 
-module _ (laws : Ranges) (scene : SceneView) (each : All IsLawfulSolid scene.solids) (l : LayoutView)
+module _ (scene : SceneView) (each : All IsLawfulSolid scene.solids) (l : LayoutView)
     (number : l.number_bits ≤ 12) where
   abbrev end : ℕ
   end = end_of (depths_of scene)
 
   turn_few : (s : SolidView) → IsLawfulSolid s → (face : ℕ) → face < face_count s
       → length (stored_turn l end s face) ≤ 100
-  turn_few s h face there = grind (arith, length-append, length-map)
+  turn_few s h face there = grind (arith, length-append, length-map, edges_count)
 
   solid_few : (light : ℕ) (s : SolidView) → IsLawfulSolid s → length (solid_passes l end light s) ≤ 6605
   solid_few light s h =
@@ -56,7 +58,7 @@ module _ (laws : Ranges) (scene : SceneView) (each : All IsLawfulSolid scene.sol
       let few = flat_few f 6605 (solids set)
       (All-weaker (λ q. q < length scene.solids) (λ q. length (f q) ≤ 6605)
       (λ q low. solid_few light (solid_of scene q) (each q no_solid low)) (solids set)
-      (all_known laws.sets (length scene.solids) set known)) in
+      (all_known (length scene.solids) set known)) in
       omega (arith, length-append all (background_passes l light), few, background_few light, solids_few set 256 refl)
 
   pub lights_few : (light : ℕ) (sets : List SolidSet) → All (IsBelow (length scene.solids)) sets →
@@ -69,3 +71,6 @@ module _ (laws : Ranges) (scene : SceneView) (each : All IsLawfulSolid scene.sol
         light_few light set (All-head (IsBelow (length scene.solids)) set sets known),
         lights_few (light + 1) sets (All-tail (IsBelow (length scene.solids)) set sets known),
       )
+
+pub passes_few : ShadowPassesAreFew
+passes_few scene lawful each lights known = grind (arith, lights_few, scene_layout)

@@ -3,14 +3,17 @@ use Rattle.px_num.proofs.Basics.{◌<◌, ◌≤◌, ◌+◌, ◌^◌, ℕ, fals
 use Rattle.px_num.proofs.Basics.{flat_map, range_with_len, All-append, All-cons, All-head, All-map, All-nil, All-tail}
 use Rattle.px_shadow.proofs.Words.{background_passes, deep_part, depths_of, edges, end_is_within, end_of, face_count}
 use Rattle.px_shadow.proofs.Words.{face_plane, IsBelow, IsField, IsLawful, IsLawfulScene, IsLawfulSolid, IsLayout}
-use Rattle.px_shadow.proofs.Words.{keep_covered, LawsOfSets, layout_with, LayoutView, light_bit, light_passes, Macro}
-use Rattle.px_shadow.proofs.Words.{need_of, no_solid, number_part, passes_from, range_all, solid_of, solid_passes}
-use Rattle.px_shadow.proofs.Words.{solids, SolidSet, SolidView, stored_turn}
+use Rattle.px_shadow.proofs.Words.{keep_covered, layout_of, layout_with, LayoutView, light_bit, light_passes, Macro}
+use Rattle.px_shadow.proofs.Words.{need_of, need_with, no_solid, number_part, passes_from, range_all, solid_of}
+use Rattle.px_shadow.proofs.Words.{solid_passes, solids, SolidSet, SolidView, stored_turn}
 use Rattle.px_model.specs.Scenes.{SceneView}
 use Rattle.px_model.proofs.PlaneLaws.{plane_range}
-use Rattle.px_face.specs.EdgeLaws.{EdgesAreCounted, EdgesAreInRange, PlanesAreInRange}
+use Rattle.px_face.proofs.EdgeLemmas.{edges_range}
+use Rattle.px_face.proofs.RangeLemmas.{plane_of_range}
 use Rattle.px_shadow.proofs.StepLemmas.{all_known}
 use Rattle.px_sched.proofs.LawfulLaws.{all_flat}
+use Rattle.px_sched.proofs.LayoutLaws.{scene_layout}
+use Rattle.px_shadow.specs.ShadowLaws.{ShadowPassesAreLawful}
 use Rattle.px_macro.specs.declared.operation.Macro.TheVariants as m
 
 -- what the operations need of a layout in so many memory bits
@@ -26,14 +29,7 @@ room_with w f i bits some most enough = grind arith
 room_of : (l : LayoutView) (bits : ℕ) → IsLayout l → need_of l ≤ bits → HasRoom l bits
 room_of l bits h enough = grind (arith, room_with)
 
--- the laws of the layers below
-pub record Ranges : Type 0 where
-  pub count : EdgesAreCounted
-  pub edges : EdgesAreInRange
-  pub planes : PlanesAreInRange
-  pub sets : LawsOfSets
-
-module _ (laws : Ranges) (scene : SceneView) (lawful : IsLawfulScene scene) (each : All IsLawfulSolid scene.solids)
+module _ (scene : SceneView) (lawful : IsLawfulScene scene) (each : All IsLawfulSolid scene.solids)
     (l : LayoutView) (layout : IsLayout l) (bits : ℕ) (enough : need_of l ≤ bits) where
   abbrev end : ℕ
   end = end_of (depths_of scene)
@@ -58,10 +54,10 @@ module _ (laws : Ranges) (scene : SceneView) (lawful : IsLawfulScene scene) (eac
       let test = m.KeepAtMost (face_plane s end face) (deep_part l l.key_b) in
       let toggle = m.Toggle l.par in
       let signs = keep_covered end s face in
-      let limits = laws.planes s h end face small there in
+      let limits = plane_of_range s h end small face there in
       cons m.All (signs ++ (test ∷ toggle ∷ [])) tt
       (All-append Fits signs (test ∷ toggle ∷ []) (All-map Fits m.KeepSign (edges s end face)
-      (laws.edges s h end face small there))
+      (edges_range s h end small face there))
       (cons test (toggle ∷ []) (plane_range _ limits, room.deep) (one toggle room.par)))
 
   module _ (light : ℕ) (there : light_bit l light < bits) where
@@ -100,7 +96,7 @@ module _ (laws : Ranges) (scene : SceneView) (lawful : IsLawfulScene scene) (eac
         (All-append Fits all (background_passes l light)
         (all_flat Fits (λ q. q < length scene.solids) f (λ q low. solid_fits (solid_of scene q) (each q no_solid low))
         (solids set)
-        (all_known laws.sets (length scene.solids) set known))
+        (all_known (length scene.solids) set known))
         background_fits))
 
   pub lights_fit : (light : ℕ) (sets : List SolidSet) → light_bit l light + length sets ≤ bits
@@ -110,3 +106,9 @@ module _ (laws : Ranges) (scene : SceneView) (lawful : IsLawfulScene scene) (eac
       All-append Fits (light_passes scene l light set) (passes_from scene l (light + 1) sets)
       (light_fits light (omega arith) set (All-head (IsBelow (length scene.solids)) set sets known))
       (lights_fit (light + 1) sets (omega arith) (All-tail (IsBelow (length scene.solids)) set sets known))
+
+pub passes_lawful : ShadowPassesAreLawful
+passes_lawful scene lawful each lights known =
+    let l = layout_of scene in
+    lights_fit scene lawful each l (scene_layout scene lawful) (need_with l (length lights)) (omega arith) 1 lights
+    (omega arith) known

@@ -9,9 +9,10 @@ use Rattle.px_shadow.proofs.Words.{number_from_bits, number_in, number_part, pas
 use Rattle.px_shadow.proofs.Words.{solid_of, solid_passes, solids, SolidSet}
 use Rattle.px_num.proofs.BitLaws.{pow_above}
 use Rattle.px_model.specs.Scenes.{SceneView}
-use Rattle.px_shadow.proofs.TurnLemmas.{Below, pixel}
+use Rattle.px_shadow.proofs.TurnLemmas.{pixel}
 use Rattle.px_shadow.proofs.SolidLemmas.{GoesOut, Keeps, keeps_all, keeps_bit, keeps_both, keeps_if, number_kept}
 use Rattle.px_shadow.proofs.SolidLemmas.{out_bit, solid_goes_out}
+use Rattle.px_macro.proofs.MacroLemmas.{meanings_join}
 use Rattle.px_macro.specs.declared.operation.Macro.TheVariants as m
 
 -- a number is 0 where each of its bits is
@@ -40,7 +41,7 @@ bits_kept at (t ∷ ts) x y memory e =
     bits_kept at ts x y memory (e && b)
     ∙ ap (pixel memory) (and_both e b (list_all (λ t. beq (bit_at memory (at + t)) false) ts))
 
-module _ (laws : Below) (l : LayoutView) (light : ℕ) (some : 0 < light) (x y : ℕ) where
+module _ (l : LayoutView) (light : ℕ) (some : 0 < light) (x y : ℕ) where
   abbrev bit : ℕ
   bit = light_bit l light
 
@@ -56,7 +57,7 @@ module _ (laws : Below) (l : LayoutView) (light : ℕ) (some : 0 < light) (x y :
       let is : (after_macros (background_passes l light) x y p).memory
       ≡ (if none then slice_set memory bit false else memory) =
       ap (λ (q : PixelBits). q.memory)
-      (laws.join bits last x y (pixel memory true)
+      (meanings_join bits last x y (pixel memory true)
       ∙ ap (after_macros last x y) (bits_kept at (range_with_len 0 l.number_bits) x y memory true))
       ∙ ap (λ b. if b then slice_set memory bit false else memory)
       (is_zero (λ t. bit_at memory (at + t)) l.number_bits) in
@@ -71,8 +72,7 @@ pub record IsReady (l : LayoutView) (end : ℕ) : Type 0 where
   pub deep : (deep_part l l.key_b).at + (deep_part l l.key_b).len ≤ l.par
   pub number : (number_part l l.key_b).at + (number_part l l.key_b).len ≤ l.par
 
-module _ (laws : Below) (scene : SceneView) (l : LayoutView) (ready : IsReady l (end_of (depths_of scene)))
-    (x y : ℕ) where
+module _ (scene : SceneView) (l : LayoutView) (ready : IsReady l (end_of (depths_of scene))) (x y : ℕ) where
   abbrev end : ℕ
   end = end_of (depths_of scene)
 
@@ -100,11 +100,11 @@ module _ (laws : Below) (scene : SceneView) (l : LayoutView) (ready : IsReady l 
       let bit = light_bit l light in
       let s = solid_of scene q in
       let next = after_macros (solid_passes l end light s) x y p in
-      let one = solid_goes_out laws l light some x y end s ready.big ready.deep p room in
+      let one = solid_goes_out l light some x y end s ready.big ready.deep p room in
       let others = solids_go_out light some qs next (omega (arith, one.keeps.size)) in
       let same : deep next.memory ≡ deep p.memory =
       number_kept l.par bit (deep_part l l.key_b) p.memory next.memory ready.deep (omega arith) one.keeps in
-      grind (arith, keeps_both, regroup)
+      grind (arith, keeps_both, regroup, meanings_join)
 
   -- a light is on where a face is stored and the stored cell is outside its solids
   abbrev pub lit : SolidSet → List Bool → Bool
@@ -120,14 +120,14 @@ module _ (laws : Below) (scene : SceneView) (l : LayoutView) (ready : IsReady l 
       let each = flat_map (λ q. solid_passes l end light (solid_of scene q)) (solids set) in
       let between = after_macros each x y start in
       let all = solids_go_out light some (solids set) start (omega (arith, length-set p.memory bit true)) in
-      let none = background_goes_out laws l light some x y between
+      let none = background_goes_out l light some x y between
       (omega (arith, all.0.size, length-set p.memory bit true)) in
       let both = keeps_both l.par bit _ _ _ on all.0 in
       let same_deep : deep start.memory ≡ deep p.memory =
       number_kept l.par bit (deep_part l l.key_b) p.memory start.memory ready.deep (omega arith) on in
       let same_number : number between.memory ≡ number p.memory =
       number_kept l.par bit (number_part l l.key_b) p.memory between.memory ready.number (omega arith) both in
-      grind (arith, keeps_both, get_or-set_same)
+      grind (arith, keeps_both, get_or-set_same, meanings_join)
 
   -- what the passes of lights from one on leave: the bits before them, but for the parity, and each light
   pub record AreLit (light : ℕ) (sets : List SolidSet) (before now : List Bool) : Type 0 where
@@ -162,4 +162,4 @@ module _ (laws : Below) (scene : SceneView) (l : LayoutView) (ready : IsReady l 
       let next = after_macros first x y p in
       let one = light_is light some set p (omega arith) in
       let others = are_lit (light + 1) (omega arith) sets next (omega (arith, one.0.size)) in
-      grind (arith, lights_of)
+      grind (arith, lights_of, meanings_join)

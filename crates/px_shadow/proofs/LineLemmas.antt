@@ -4,10 +4,10 @@ use Rattle.px_num.proofs.Basics.{[], ◌∷◌, ◌++◌, All, Some, None, lengt
 use Rattle.px_num.proofs.Basics.{sym, arith, if◌then◌else◌, length-take-le, filter_map, fold, list_all, get_or-map}
 use Rattle.px_num.proofs.Basics.{take_all, take_more, filter_map-append, Ok, Err, OnOk, Result, codes, not, bytes_eq}
 use Rattle.px_shadow.proofs.Words.{all_good, and_left, and_right, AreGood, AreRead, as_light, empty, first_is}
-use Rattle.px_shadow.proofs.Words.{good_next, is_name, is_solid_name, IsBelow, LawsOfSets, light_fault_behind}
+use Rattle.px_shadow.proofs.Words.{good_next, is_name, is_solid_name, IsBelow, light_fault_behind}
 use Rattle.px_shadow.proofs.Words.{light_in, light_of, LightFault, lights_fault, lights_of, line_fault, lt_holds}
-use Rattle.px_shadow.proofs.Words.{lt_true, named, one, set_of, sets_joined, solid_named, solids, SolidSet, SolidView}
-use Rattle.px_shadow.proofs.Words.{Words, words_of}
+use Rattle.px_shadow.proofs.Words.{lt_true, named, one, set_of, sets_joined, solid_named, solids, solids_laws, SolidSet}
+use Rattle.px_shadow.proofs.Words.{SolidView, Words, words_of}
 use Rattle.std.specs.List.{cons_option}
 use Rattle.px_show.specs.declared.fault.Cause.TheVariants.{BadName, Unexpected, UnknownName}
 
@@ -21,14 +21,14 @@ both_true : (a b : Bool) → a ≡ true → b ≡ true → (a && b) ≡ true
 both_true a b p q = rw (p, q) refl
 
 -- a set of solids that pass a test
-set_passes : LawsOfSets → (test : ℕ → Bool) → ((q : ℕ) → test q ≡ true → q < 256) → (qs : List ℕ) (a : SolidSet) →
+set_passes : (test : ℕ → Bool) → ((q : ℕ) → test q ≡ true → q < 256) → (qs : List ℕ) (a : SolidSet) →
     list_all test (solids a) ≡ true → list_all test qs ≡ true
     → list_all test (solids (fold (λ set q. sets_joined set (one q)) a qs)) ≡ true
-set_passes laws test low [] a held each = held
-set_passes laws test low (q ∷ qs) a held each =
+set_passes test low [] a held each = held
+set_passes test low (q ∷ qs) a held each =
     let here : test q ≡ true = and_left (test q) (list_all test qs) each in
-    set_passes laws test low qs (sets_joined a (one q))
-    (laws.all_of_joined test a (one q) ∙ both_true _ _ held (laws.all_of_one test q (low q here) ∙ here))
+    set_passes test low qs (sets_joined a (one q))
+    (solids_laws.all_of_joined test a (one q) ∙ both_true _ _ held (solids_laws.all_of_one test q (low q here) ∙ here))
     (and_right (test q) (list_all test qs) each)
 
 -- the place of a solid is below their number
@@ -40,19 +40,19 @@ places_low : (ss : List SolidView) (ws : Words) → list_all (λ q. nat_lt q (le
 places_low ss [] = refl
 places_low ss (w ∷ ws) = grind (arith, both_true, lt_true, place_low, places_low ss ws)
 
-set_known : LawsOfSets → (ss : List SolidView) → length ss ≤ 255 → (ws : Words)
+set_known : (ss : List SolidView) → length ss ≤ 255 → (ws : Words)
     → IsBelow (length ss) (set_of (filter_map (solid_named ss) ws))
-set_known laws ss few ws q low h =
+set_known ss few ws q low h =
     let test : ℕ → Bool = λ q. nat_lt q (length ss) in
-    let passes = set_passes laws test (λ q e. omega (arith, lt_holds q (length ss) e, few))
-    (filter_map (solid_named ss) ws) empty (laws.all_of_none test) (places_low ss ws) in
-    lt_holds q (length ss) ((laws.each test (set_of (filter_map (solid_named ss) ws))).0 passes q low h)
+    let passes = set_passes test (λ q e. omega (arith, lt_holds q (length ss) e, few))
+    (filter_map (solid_named ss) ws) empty (solids_laws.all_of_none test) (places_low ss ws) in
+    lt_holds q (length ss) ((solids_laws.each test (set_of (filter_map (solid_named ss) ws))).0 passes q low h)
 
 -- a light has solids of the scene alone
-pub light_known : LawsOfSets → (ss : List SolidView) → length ss ≤ 255 → (line : Words) (set : SolidSet)
+pub light_known : (ss : List SolidView) → length ss ≤ 255 → (line : Words) (set : SolidSet)
     → light_of ss line ≡ Ok (Some set) → IsBelow (length ss) set
-light_known laws ss few [] set e = absurd (cc)
-light_known laws ss few (w ∷ ws) set e = by_first (bytes_eq w (codes "light")) ws e
+light_known ss few [] set e = absurd (cc)
+light_known ss few (w ∷ ws) set e = by_first (bytes_eq w (codes "light")) ws e
   where
     by_tests : (ws : Words) (n k : Bool) → as_light (if not n then Err BadName else if not k then Err UnknownName else
         Ok (set_of (filter_map (solid_named ss) ws))) ≡ Ok (Some set) → IsBelow (length ss) set

@@ -3,7 +3,7 @@ use Rattle.px_num.proofs.Basics.{ℕ, ◌≡◌, ◌<◌, ◌≤◌, inl, inr, L
 use Rattle.px_num.proofs.Basics.{Ok, Err, refl, ap, sym, subst, ◌∙◌, arith, length-take, cases_lt, take_all, Consumes}
 use Rattle.px_shadow.proofs.Words.{ArrayView, bytes_of, ConsumesAtMost, done, IsFrontOf, LayoutView, LeavesShadows}
 use Rattle.px_shadow.proofs.Words.{light_refusal, light_refused, LightFault, lights_fault, lights_in, lights_refusal}
-use Rattle.px_shadow.proofs.Words.{line_behind, lit_by_lines, lit_drawable, mask_image, MaskLaw, of_known, Outcome}
+use Rattle.px_shadow.proofs.Words.{line_behind, lit_by_lines, lit_drawable, mask_image, of_known, Outcome}
 use Rattle.px_shadow.proofs.Words.{parts_lit, performs_over, PerformsShadow, read_meets, read_writes, refusal, refused}
 use Rattle.px_shadow.proofs.Words.{Shades, ShadesBy, SinkState, SolidSet, State, stop_draws, stop_serves, stored_masks}
 use Rattle.px_shadow.proofs.Words.{StoresTheLights, text_refusal, too_long, unless_refused, worded}
@@ -17,6 +17,7 @@ use Rattle.px_outcome.specs.declared.stop.SceneStop.{SceneStop}
 use Rattle.px_outcome.specs.Arrays.{Draws}
 use Rattle.px_outcome.specs.Ends.{Ends, IsUntouched}
 use Rattle.px_outcome.specs.Results.{Meets, status_in, status_of}
+use Rattle.px_shadow.proofs.ArrayLemmas.{mask_law}
 use Rattle.px_shadow.specs.Shadows.{lit, shadowed}
 use Rattle.px_outcome.specs.Stops.{DoesWork, read_stop, stopped}
 use Rattle.px_outcome.proofs.LimitLaws.{long_is, short_is}
@@ -139,10 +140,10 @@ lit_is bits scene lights n same fits =
     ∙ fits (done (mask_image scene lights))
 
 -- and the image of what it stores is that of the lights
-pub masks_are : MaskLaw → (scene : SceneView) (l : LayoutView) (lights : List SolidSet) (n : ℕ) (state : State)
+pub masks_are : (scene : SceneView) (l : LayoutView) (lights : List SolidSet) (n : ℕ) (state : State)
     → n ≡ length lights → StoresTheLights scene l lights state → stored_masks scene l n state ≡ mask_image scene lights
-masks_are law scene l lights n state same stores =
-    ap (λ k. stored_masks scene l k state) same ∙ law scene l lights state stores
+masks_are scene l lights n state same stores =
+    ap (λ k. stored_masks scene l k state) same ∙ mask_law scene l lights state stores
 
 -- what the scene of a good part and the lights of good lines serve is what the part and the lines do
 pub lights_serve : (result : Result (Unit {0}) Stop) (bits : ℕ) (part behind : List ℕ) (scene : SceneView) (first : ℕ)

@@ -5,7 +5,8 @@ use Rattle.px_num.proofs.Basics.{get_or-set_other, length-set, beq, flat_map, ra
 use Rattle.px_shadow.proofs.Words.{after_macros, and_false, and_true, bit_at, deep_part, face_count, Field}
 use Rattle.px_shadow.proofs.Words.{is_inside_at, LayoutView, light_bit, number_in, number_same, PixelBits}
 use Rattle.px_shadow.proofs.Words.{solid_passes, SolidView, stored_turn}
-use Rattle.px_shadow.proofs.TurnLemmas.{Below, all_turned, pixel}
+use Rattle.px_shadow.proofs.TurnLemmas.{all_turned, pixel}
+use Rattle.px_macro.proofs.MacroLemmas.{meanings_join}
 use Rattle.px_macro.specs.declared.operation.Macro.TheVariants as m
 
 -- what passes of a light write: the parity bit and the light's
@@ -50,7 +51,7 @@ beq_true : (a : Bool) → (true && beq a true) ≡ a
 beq_true true = refl
 beq_true false = refl
 
-module _ (laws : Below) (l : LayoutView) (light : ℕ) (some : 0 < light) (x y : ℕ) where
+module _ (l : LayoutView) (light : ℕ) (some : 0 < light) (x y : ℕ) where
   abbrev bit : ℕ
   bit = light_bit l light
 
@@ -72,9 +73,9 @@ module _ (laws : Below) (l : LayoutView) (light : ℕ) (some : 0 < light) (x y :
       let odd = slice_set memory l.par inside in
       let is : (after_macros (solid_passes l end light s) x y p).memory
       ≡ (if inside then slice_set odd bit false else odd) =
-      ap (λ (q : PixelBits). q.memory) (laws.join faces last x y start)
+      ap (λ (q : PixelBits). q.memory) (meanings_join faces last x y start)
       ∙ ap (λ mem. if true && beq (bit_at mem l.par) true then slice_set mem bit false else mem)
-      (all_turned laws s end x y l memory (omega arith)
+      (all_turned s end x y l memory (omega arith)
       (λ v. number_kept l.par bit (deep_part l l.key_b) memory (slice_set memory l.par v) low (omega arith)
       (keeps_par l.par bit memory v))
       big true)

@@ -3,8 +3,8 @@ use Rattle.px_num.proofs.Basics.{nat_tests, common_steps, ◌≡◌, ◌<◌, �
 use Rattle.px_num.proofs.Basics.{length, map, ap, arith, ◌≤◌, append_assoc, length-set, set, sym, take, map-append}
 use Rattle.px_num.proofs.Basics.{take_all, take_more, flat_map, range_with_len, get_or-range_with_len, get_or, All}
 use Rattle.px_num.proofs.Basics.{nat_lt, true, All-weaker, drop-cons}
-use Rattle.px_shadow.proofs.Words.{IsBelow, LawsOfSets, LayoutView, light_passes, Linear, lt_holds, lt_true, Macro}
-use Rattle.px_shadow.proofs.Words.{number_part, passes_from, solid_passes, solids, SolidSet, SolidView}
+use Rattle.px_shadow.proofs.Words.{IsBelow, LayoutView, light_passes, Linear, lt_holds, lt_true, Macro}
+use Rattle.px_shadow.proofs.Words.{number_part, passes_from, solid_passes, solids, solids_laws, SolidSet, SolidView}
 use Rattle.std.proofs.lemmas.List.Concat.{flat_map_single}
 use Rattle.std.proofs.lemmas.List.Sums.{AllPass-from_list_all}
 use Rattle.std.proofs.Math.Seq.{take-suc-set}
@@ -23,11 +23,11 @@ pub number_at : (n t : ℕ) → t < n → get_or (range_with_len 0 n) t 0 ≡ t
 number_at n t low = get_or-range_with_len 0 n t 0 low ∙ omega arith
 
 -- each solid of a set that has none but these is one of them
-pub all_known : LawsOfSets → (count : ℕ) (set : SolidSet) → IsBelow count set → All (λ q. q < count) (solids set)
-all_known laws count set known =
+pub all_known : (count : ℕ) (set : SolidSet) → IsBelow count set → All (λ q. q < count) (solids set)
+all_known count set known =
     All-weaker (λ q. nat_lt q count ≡ true) (λ q. q < count) (λ q e. lt_holds q count e) (solids set)
     (AllPass-from_list_all (λ q. nat_lt q count) (solids set)
-    ((laws.each (λ q. nat_lt q count) set).1 (λ q low h. lt_true q count (known q low h))))
+    ((solids_laws.each (λ q. nat_lt q count) set).1 (λ q low h. lt_true q count (known q low h))))
 
 pub same_solid : (l : LayoutView) (light : ℕ) (a b : ℕ) (s t : SolidView) → a ≡ b → s ≡ t → solid_passes l a light s
     ≡ solid_passes l b light t

@@ -2,9 +2,9 @@
 pub use Rattle.px_array.proofs.ClockLaws.{all_clocked-append, grid_after_clocks, nx-after_clocks, ny-after_clocks}
 pub use Rattle.px_array.specs.Arrays.{Device, HasGrid, pixel_of, State}
 pub use Rattle.px_array.specs.Clocks.{after_clocks, all_clocked}
-pub use Rattle.px_array.specs.Slots.{ArrayView, worked}
+pub use Rattle.px_array.specs.Slots.{ArrayView, HasRun}
 pub use Rattle.px_asm.specs.Micros.{all_micros, cycles, micro_at, micros}
-pub use Rattle.px_control.specs.GridLaw.{GridLaw, IsSizedArray, SizeLaw}
+pub use Rattle.px_control.specs.GridLaw.{IsSizedArray}
 pub use Rattle.px_face.specs.Edges.{covers, edges, hold_at}
 pub use Rattle.px_face.specs.Faces.{face_count, face_plane}
 pub use Rattle.px_frame.proofs.RowLaws.{other_row, rows_broken, rows_grown, same_image}
@@ -13,9 +13,8 @@ pub use Rattle.px_frame.specs.Rows.{row_bytes}
 pub use Rattle.px_frame.specs.Strips.{HoldsRow, strip_number}
 pub use Rattle.px_io.specs.Told.{ConsumesAtMost, IsFrontOf, SinkState, TakesAll}
 pub use Rattle.px_macro.proofs.NumberLaws.{number_same}
-pub use Rattle.px_macro.specs.FieldLaws.{NumberBesideIsKept, NumberOfParts}
 pub use Rattle.px_macro.specs.Fields.{number_from_bits, number_in}
-pub use Rattle.px_macro.specs.Macros.{after_macros, IsField, IsLawful, IsLawfulInMore, MeaningsJoin, PixelBits}
+pub use Rattle.px_macro.specs.Macros.{after_macros, IsField, IsLawful, PixelBits}
 pub use Rattle.px_macro.specs.declared.field.Field.{Field}
 pub use Rattle.px_macro.specs.declared.operation.Macro.{Macro}
 pub use Rattle.px_model.proofs.CellLaws.{end_is_small, end_is_within}
@@ -34,15 +33,15 @@ pub use Rattle.px_prune.specs.Kept.{plan_of, set_of}
 pub use Rattle.px_scene.specs.Text.{worded}
 pub use Rattle.px_sched.specs.Layouts.{deep_part, IsLayout, layout_of, layout_with, LayoutView, need_of, number_part}
 pub use Rattle.px_sched.specs.Passes.{keep_covered, no_solid, solid_of}
-pub use Rattle.px_sets.specs.SetLaws.{LawsOfSets}
+pub use Rattle.px_sets.proofs.SolidsLaws.{solids_laws}
 pub use Rattle.px_sets.specs.Sets.{below, empty, has, IsBelow, one, sets_joined, solids}
 pub use Rattle.px_sets.specs.declared.set.SolidSet.{SolidSet}
-pub use Rattle.px_shadow.specs.Carrying.{CanCarryOut, carried_out, CarriesOut, IsRestOf, view_by}
+pub use Rattle.px_shadow.specs.Carrying.{CanCarryOut, carried_out, CarriesOut, IsRestOf}
 pub use Rattle.px_shadow.specs.LightLines.{as_light, is_solid_name, light_fault_behind, light_in, light_of}
 pub use Rattle.px_shadow.specs.LightLines.{lights_fault, lights_of, line_fault, named, solid_named}
 pub use Rattle.px_shadow.specs.Lights.{is_lit, is_lit_at, light_at, mask_image}
 pub use Rattle.px_shadow.specs.Saying.{are_some, AreRead, pieces_of, said_behind, said_of, with_solid}
-pub use Rattle.px_shadow.specs.ShadowLaws.{MaskLaw, ShadedGridLaw, ShadedLaw, ShadowLaw, ShadowPassesAreLawful}
+pub use Rattle.px_shadow.specs.ShadowLaws.{MaskLaw, ShadedGridLaw, ShadedLaw, ShadowLaw}
 pub use Rattle.px_shadow.specs.ShadowPasses.{background_passes, light_bit, light_passes, need_with, passes_from}
 pub use Rattle.px_shadow.specs.ShadowPasses.{shadow_passes, solid_passes, stored_turn}
 pub use Rattle.px_shadow.specs.Shadows.{LeavesShadows, light_refusal, light_refused, lights_in, lights_refusal}

@@ -21,7 +21,7 @@ use crate::passes::MAX_LIGHTS;
 use arrayvec::ArrayVec;
 use px_model::{Scene, laws_of_scenes};
 use px_scene::Cause;
-use px_sets::{SolidSet, laws_of_sets};
+use px_sets::SolidSet;
 use px_text::{before_comment, is_blank, is_name, is_word, without_last_feed};
 use thiserror::Error;
 
@@ -103,7 +103,6 @@ fn take_line(
         ++ cons_option (light_in (light_of scene.now.solids (words_of piece.now))) []) }
     ensures known { OnOk result (All (IsBelow (length scene.now.solids)) lights.new.items) }
 {
-    laws_of_sets();
     laws_of_scenes(scene);
     match light_of(scene, piece) {
         Ok(None) => Ok(()),

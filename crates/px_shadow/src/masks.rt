@@ -32,15 +32,15 @@ pub fn write_masks<A: Array, O: Sink>(
     lights: usize,
     out: &mut O,
 ) -> Result<(), Failed>
-    requires open { IsOpen (A.device array.now) }
-    requires columns { HasColumns scene.now (A.device array.now).state }
-    requires rows { HasRows scene.now (A.device array.now).state }
+    requires open { IsOpen (A.view array.now).device }
+    requires columns { HasColumns scene.now (A.view array.now).device.state }
+    requires rows { HasRows scene.now (A.view array.now).device.state }
     requires few { lights ≤ MAX_LIGHTS }
     requires room { need_with layout.now lights ≤ A.BITS }
     ensures ok { OnOk result (TakesAll (O.state out.old) (O.state out.new)
-        (stored_masks scene.now layout.now lights (A.device array.now).state)) }
+        (stored_masks scene.now layout.now lights (A.view array.now).device.state)) }
     ensures err { OnErr result (TakesFront (O.state out.old) (O.state out.new)
-        (stored_masks scene.now layout.now lights (A.device array.now).state)) }
+        (stored_masks scene.now layout.now lights (A.view array.now).device.state)) }
     ensures cause { HasCause (O.state out.old).faults (O.state out.new).faults result }
 {
     let field = lights_field(layout, lights);

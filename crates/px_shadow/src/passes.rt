@@ -1,6 +1,6 @@
 //! The shadow passes, made on an array that stores the picture of a scene.
 ghost use Rattle.std.specs.Prelude.{◌≡◌, ◌+◌, ◌-◌, ◌<◌, ◌≤◌, All, length, take};
-ghost use Rattle.px_array.specs.Slots.{IsRunOnce, array_view, worked};
+ghost use Rattle.px_array.specs.Slots.{HasWorked, IsRunOnce};
 ghost use Rattle.px_face.specs.Edges.{edge_count};
 ghost use Rattle.px_face.specs.Faces.{face_count};
 ghost use Rattle.px_sets.specs.Sets.{IsBelow};
@@ -10,7 +10,7 @@ ghost use Rattle.px_control.specs.GridLaw.{CoversThePicture};
 ghost use Rattle.px_control.specs.Program.{IsAt, total};
 ghost use Rattle.px_sched.specs.Passes.{solid_of};
 ghost use Rattle.px_shadow.specs.declared.passes.TheConstants.{MAX_LIGHTS};
-ghost use Rattle.px_shadow.specs.Carrying.{CanCarryOut, CarriesOut, view_by};
+ghost use Rattle.px_shadow.specs.Carrying.{CanCarryOut, CarriesOut};
 ghost use Rattle.px_shadow.specs.Shaded.{IsShaded, shadow_program};
 ghost use Rattle.px_shadow.specs.Stored.{StoresTheLights};
 ghost use Rattle.px_shadow.specs.ShadowPasses.{
@@ -24,16 +24,14 @@ ghost use Rattle.px_shadow.specs.ShadowPasses.{
 };
 
 use crate::carrying::carry_out;
-use crate::law::{law_of_shadow_passes, laws_of_shadows};
 use arrayvec::ArrayVec;
 use px_asm::Operating;
-use px_control::{law_of_clocks, law_of_sizes};
 use px_face::{edge_at, edge_count, face_count, laws_of_edges, plane_of};
-use px_macro::{Macro, laws_of_operations};
+use px_macro::Macro;
 use px_model::{Scene, Solid, laws_of_scenes};
 use px_normal::MAX_PRODUCTS;
-use px_sched::{Layout, laws_of_passes};
-use px_sets::{SolidSet, laws_of_sets};
+use px_sched::Layout;
+use px_sets::SolidSet;
 
 /// A scene is lit by at most so many lights.
 pub const MAX_LIGHTS: usize = 8;
@@ -64,27 +62,18 @@ pub fn shade<A: Operating>(
 )
     requires layout { layout.now ≡ layout_of scene.now }
     requires products { length (plan_of scene.now) ≤ MAX_PRODUCTS }
-    requires at { IsAt A.BITS scene.now (total scene.now) (A.device array.old) }
+    requires at { IsAt A.BITS scene.now (total scene.now) (A.view array.old).device }
     requires need { need_with layout.now (length lights.now.items) ≤ A.BITS }
     requires known { All (IsBelow (length scene.now.solids)) lights.now.items }
-    ensures shaded { IsShaded A.BITS scene.now lights.now.items (A.device array.new) }
+    ensures shaded { IsShaded A.BITS scene.now lights.now.items (A.view array.new).device }
     ensures lights { StoresTheLights scene.now layout.now lights.now.items
-        (A.device array.new).state }
-    ensures grid { CoversThePicture scene.now (A.device array.new) }
-    ensures slots { A.slots array.new ≡ A.slots array.old }
-    ensures work { A.work array.new
-        ≡ worked (length (shadow_program scene.now lights.now.items)) (A.work array.old) }
-    ensures once { IsRunOnce
-        (array_view (A.device array.old) (A.slots array.old) (A.work array.old))
-        → IsRunOnce (array_view (A.device array.new) (A.slots array.new) (A.work array.new)) }
+        (A.view array.new).device.state }
+    ensures grid { CoversThePicture scene.now (A.view array.new).device }
+    ensures worked { HasWorked (length (shadow_program scene.now lights.now.items))
+        (A.view array.old) (A.view array.new) }
+    ensures once { IsRunOnce (A.view array.old) → IsRunOnce (A.view array.new) }
 {
     laws_of_scenes(scene);
-    laws_of_shadows();
-    law_of_shadow_passes();
-    law_of_clocks();
-    law_of_sizes();
-    laws_of_operations();
-    laws_of_passes();
     all_lights(array, scene, layout, lights.as_slice());
     let _clocks = array.clocks();
 }
@@ -94,9 +83,8 @@ fn all_lights<A: Operating>(array: &mut A, scene: &Scene, layout: &Layout, light
     requires few { length lights.now ≤ MAX_LIGHTS }
     requires known { All (IsBelow (length scene.now.solids)) lights.now }
     requires can { CanCarryOut A.BITS (shadow_passes scene.now layout.now lights.now)
-        (A.device array.old) }
-    ensures { CarriesOut (view_by A.device A.slots A.work) (shadow_passes scene.now layout.now lights.now)
-        array.old array.new }
+        (A.view array.old).device }
+    ensures { CarriesOut (shadow_passes scene.now layout.now lights.now) (A.view array.old) (A.view array.new) }
 {
     for (i, light) in lights.iter().enumerate() {
         one_light(array, scene, layout, i as u32 + 1, light);
@@ -114,15 +102,13 @@ fn one_light<A: Operating>(
     requires number { light ≤ MAX_LIGHTS }
     requires known { IsBelow (length scene.now.solids) solids.now }
     requires can { CanCarryOut A.BITS (light_passes scene.now layout.now light solids.now)
-        (A.device array.old) }
-    ensures { CarriesOut (view_by A.device A.slots A.work) (light_passes scene.now layout.now light solids.now)
-        array.old array.new }
+        (A.view array.old).device }
+    ensures { CarriesOut (light_passes scene.now layout.now light solids.now) (A.view array.old) (A.view array.new) }
 {
     carry_out(
         array,
         &[Macro::All, Macro::SetBit(light_bit(layout, light), true)],
     );
-    laws_of_sets();
     let list = solids.solids();
     for solid in list.as_slice() {
         one_solid(array, layout, scene.end(), light, solid_at(scene, *solid));
@@ -134,9 +120,8 @@ fn one_light<A: Operating>(
 fn one_solid<A: Operating>(array: &mut A, layout: &Layout, end: u32, light: u32, solid: &Solid)
     requires number { light ≤ MAX_LIGHTS }
     requires can { CanCarryOut A.BITS (solid_passes layout.now end light solid.now)
-        (A.device array.old) }
-    ensures { CarriesOut (view_by A.device A.slots A.work) (solid_passes layout.now end light solid.now)
-        array.old array.new }
+        (A.view array.old).device }
+    ensures { CarriesOut (solid_passes layout.now end light solid.now) (A.view array.old) (A.view array.new) }
 {
     carry_out(array, &[Macro::All, Macro::SetBit(layout.par, false)]);
     for face in 0..face_count(solid) {
@@ -157,9 +142,8 @@ fn one_solid<A: Operating>(array: &mut A, layout: &Layout, end: u32, light: u32,
 fn one_face<A: Operating>(array: &mut A, layout: &Layout, end: u32, solid: &Solid, face: usize)
     requires face { face < face_count solid.now }
     requires can { CanCarryOut A.BITS (stored_turn layout.now end solid.now face)
-        (A.device array.old) }
-    ensures { CarriesOut (view_by A.device A.slots A.work) (stored_turn layout.now end solid.now face)
-        array.old array.new }
+        (A.view array.old).device }
+    ensures { CarriesOut (stored_turn layout.now end solid.now face) (A.view array.old) (A.view array.new) }
 {
     let operations = turn_of(layout, end, solid, face);
     carry_out(array, &operations[..edge_count(solid) + 3]);
@@ -184,9 +168,8 @@ fn turn_of(layout: &Layout, end: u32, solid: &Solid, face: usize) -> [Macro; TUR
 /// The passes that put a light out where no face is stored.
 fn background<A: Operating>(array: &mut A, layout: &Layout, light: u32)
     requires number { light ≤ MAX_LIGHTS }
-    requires can { CanCarryOut A.BITS (background_passes layout.now light) (A.device array.old) }
-    ensures { CarriesOut (view_by A.device A.slots A.work) (background_passes layout.now light)
-        array.old array.new }
+    requires can { CanCarryOut A.BITS (background_passes layout.now light) (A.view array.old).device }
+    ensures { CarriesOut (background_passes layout.now light) (A.view array.old) (A.view array.new) }
 {
     let number = layout.b_number();
     carry_out(array, &[Macro::All]);

@@ -3,7 +3,7 @@ ghost use Rattle.std.specs.Prelude.{◌≡◌, ◌≢◌, ◌+◌, ◌<◌, ◌�
 ghost use Rattle.std.specs.Io.KnownBytes.{Appends};
 ghost use Rattle.px_io.specs.Counts.{HasCause};
 ghost use Rattle.px_io.specs.Told.{TakesAll, TakesFront, Tells};
-ghost use Rattle.px_array.specs.Slots.{IsRunOnce, array_view};
+ghost use Rattle.px_array.specs.Slots.{IsRunOnce};
 ghost use Rattle.px_control.specs.GridLaw.{CoversThePicture};
 ghost use Rattle.px_control.specs.Program.{IsAt};
 ghost use Rattle.px_asked.specs.Parts.{part_end};
@@ -22,7 +22,6 @@ ghost use Rattle.px_outcome.specs.Inputs.{TookText};
 ghost use Rattle.px_shadow.specs.Shadows.{PerformsShadow, Shades, ShadesBy, ShadesParts, line_behind, lit, lit_drawable, parts_lit, shadowed};
 ghost use Rattle.px_outcome.specs.Stops.{DoesWork, StopsAt, stopped};
 
-use crate::law::laws_of_shadows;
 use crate::light::{LightFault, read_lights};
 use crate::masks::write_masks;
 use crate::passes::{need, shade};
@@ -38,7 +37,7 @@ use px_outcome::{
     short_of_bits, too_long,
 };
 use px_scene::{Scene, laws_of_scenes};
-use px_sched::{Layout, NeedBits, laws_of_passes};
+use px_sched::{Layout, NeedBits};
 use px_sets::SolidSet;
 use px_text::MAX_TEXT_BYTES;
 use std::alloc::Global;
@@ -53,10 +52,8 @@ pub fn shadow_input<S: Source, O: Sink, A: Operating>(
 ) -> Result<(), Stop>
     requires bits { A.BITS ≤ 256 }
     ensures performs { PerformsShadow result A.BITS
-        (ends (S.rest input.old) (S.faults input.old) (O.state out.old)
-        (A.device array.old) (A.slots array.old) (A.work array.old))
-        (ends (S.rest input.new) (S.faults input.new) (O.state out.new)
-        (A.device array.new) (A.slots array.new) (A.work array.new)) }
+        (ends (S.rest input.old) (S.faults input.old) (O.state out.old) (A.view array.old))
+        (ends (S.rest input.new) (S.faults input.new) (O.state out.new) (A.view array.new)) }
     ensures causes { HasCauses result (S.faults input.old) (S.faults input.new) (O.state out.old).faults
         (O.state out.new).faults }
     ensures took { TookText (status_in result)
@@ -77,9 +74,8 @@ fn shade_text<O: Sink, A: Operating>(
     requires bits { A.BITS ≤ 256 }
     ensures serves { DoesWork result (shadowed text.now A.BITS)
         (O.state out.old) (O.state out.new) }
-    ensures array { Shades (status_in result) A.BITS text.now
-        (array_view (A.device array.old) (A.slots array.old) (A.work array.old))
-        (array_view (A.device array.new) (A.slots array.new) (A.work array.new)) }
+    ensures array { Shades (status_in result) A.BITS text.now (A.view array.old)
+        (A.view array.new) }
 {
     if text.len() >= READ_LIMIT {
         return Err(Stop::Refused(too_long()));
@@ -113,9 +109,8 @@ fn shade_parts<O: Sink, A: Operating>(
     requires behind { length behind.now ≤ MAX_TEXT_BYTES }
     ensures serves { DoesWork result (parts_lit A.BITS part.now behind.now)
         (O.state out.old) (O.state out.new) }
-    ensures array { ShadesParts (status_in result) A.BITS part.now behind.now
-        (array_view (A.device array.old) (A.slots array.old) (A.work array.old))
-        (array_view (A.device array.new) (A.slots array.new) (A.work array.new)) }
+    ensures array { ShadesParts (status_in result) A.BITS part.now behind.now (A.view array.old)
+        (A.view array.new) }
 {
     let scene = scene_in(alloc, part)?;
     let lights = read_lights(&scene, behind, line_behind(part))?;
@@ -164,15 +159,11 @@ fn shade_scene<O: Sink, A: Operating>(
     requires known { All (IsBelow (length scene.now.solids)) lights.now.items }
     ensures serves { DoesWork result (lit A.BITS scene.now lights.now.items)
         (O.state out.old) (O.state out.new) }
-    ensures array { ShadesBy (status_in result) A.BITS scene.now lights.now.items
-        (array_view (A.device array.old) (A.slots array.old) (A.work array.old))
-        (array_view (A.device array.new) (A.slots array.new) (A.work array.new)) }
+    ensures array { ShadesBy (status_in result) A.BITS scene.now lights.now.items (A.view array.old)
+        (A.view array.new) }
 {
     let mut job = open_lit(alloc, scene, lights.len(), array)?;
-    match deliver_masks(&mut job, scene, lights, array, out) {
-        Ok(()) => Ok(()),
-        Err(_) => Err(Stop::WriteFault),
-    }
+    Ok(deliver_masks(&mut job, scene, lights, array, out)?)
 }
 
 /// Opens the array for a scene and so many lights.
@@ -185,15 +176,13 @@ fn open_lit<'s, A: Array>(
     requires bits { A.BITS ≤ 256 }
     requires few { lights ≤ 8 }
     ensures job { IfOk result (λ job. (job.scene ≡ scene.now) × (job.place.clock ≡ 0)) }
-    ensures at { OnOk result (IsAt A.BITS scene.now 0 (A.device array.new)) }
-    ensures once { OnOk result (IsRunOnce
-        (array_view (A.device array.new) (A.slots array.new) (A.work array.new))) }
+    ensures at { OnOk result (IsAt A.BITS scene.now 0 (A.view array.new).device) }
+    ensures once { OnOk result (IsRunOnce (A.view array.new)) }
     ensures need { OnOk result (need_with (layout_of scene.now) lights ≤ A.BITS) }
     ensures fits { OnOk result ((o : Outcome) → lit_drawable A.BITS scene.now lights o ≡ o) }
     ensures err { IfErr result (λ stop. StopsAt (lit_drawable A.BITS scene.now lights) stop) }
     ensures array { IfErr result (λ stop. Draws (status_of (stopped stop)) A.BITS scene.now
-        (array_view (A.device array.old) (A.slots array.old) (A.work array.old))
-        (array_view (A.device array.new) (A.slots array.new) (A.work array.new))) }
+        (A.view array.old) (A.view array.new)) }
 {
     let need = bits_needed(scene, lights, A::BITS as u32);
     if need as usize > A::BITS {
@@ -203,12 +192,12 @@ fn open_lit<'s, A: Array>(
 }
 
 /// How many bits of a pixel a scene and so many lights need, where a pixel has so many.
+#[tactic(auto, using(px_sched::proofs::LayoutLaws::scene_layout))]
 fn bits_needed(scene: &Scene, lights: usize, bits: u32) -> u32
     requires few { lights ≤ 8 }
     ensures { result ≡ need_with (layout_of scene.now) lights }
 {
     laws_of_scenes(scene);
-    laws_of_passes();
     match Layout::of(scene, bits) {
         Ok(layout) => need(&layout, lights),
         Err(NeedBits { need }) => need + lights as u32,
@@ -225,7 +214,7 @@ fn deliver_masks<A: Operating, O: Sink>(
     out: &mut O,
 ) -> Result<(), Failed>
     requires scene { scene.now ≡ job.old.scene }
-    requires at { IsAt A.BITS scene.now job.old.place.clock (A.device array.old) }
+    requires at { IsAt A.BITS scene.now job.old.place.clock (A.view array.old).device }
     requires need { need_with (layout_of scene.now) (length lights.now.items) ≤ A.BITS }
     requires known { All (IsBelow (length scene.now.solids)) lights.now.items }
     ensures ok { OnOk result (Appends (O.state out.old).written (O.state out.new).written
@@ -233,10 +222,8 @@ fn deliver_masks<A: Operating, O: Sink>(
     ensures end { OnOk result (Tells (O.state out.new).finished true) }
     ensures err { OnErr result (TakesFront (O.state out.old) (O.state out.new) (mask_image scene.now lights.now.items)) }
     ensures cause { HasCause (O.state out.old).faults (O.state out.new).faults result }
-    ensures shaded { IsShaded A.BITS scene.now lights.now.items (A.device array.new) }
-    ensures once { IsRunOnce
-        (array_view (A.device array.old) (A.slots array.old) (A.work array.old))
-        → IsRunOnce (array_view (A.device array.new) (A.slots array.new) (A.work array.new)) }
+    ensures shaded { IsShaded A.BITS scene.now lights.now.items (A.view array.new).device }
+    ensures once { IsRunOnce (A.view array.old) → IsRunOnce (A.view array.new) }
 {
     let layout = draw_lit(job, scene, lights, array);
     write_lights(array, &layout, scene, lights, out)?;
@@ -252,17 +239,15 @@ fn draw_lit<A: Operating>(
     array: &mut A,
 ) -> Layout
     requires scene { scene.now ≡ job.old.scene }
-    requires at { IsAt A.BITS scene.now job.old.place.clock (A.device array.old) }
+    requires at { IsAt A.BITS scene.now job.old.place.clock (A.view array.old).device }
     requires need { need_with (layout_of scene.now) (length lights.now.items) ≤ A.BITS }
     requires known { All (IsBelow (length scene.now.solids)) lights.now.items }
     ensures layout { result ≡ layout_of scene.now }
-    ensures shaded { IsShaded A.BITS scene.now lights.now.items (A.device array.new) }
-    ensures once { IsRunOnce
-        (array_view (A.device array.old) (A.slots array.old) (A.work array.old))
-        → IsRunOnce (array_view (A.device array.new) (A.slots array.new) (A.work array.new)) }
+    ensures shaded { IsShaded A.BITS scene.now lights.now.items (A.view array.new).device }
+    ensures once { IsRunOnce (A.view array.old) → IsRunOnce (A.view array.new) }
     ensures lights { StoresTheLights scene.now result lights.now.items
-        (A.device array.new).state }
-    ensures grid { CoversThePicture scene.now (A.device array.new) }
+        (A.view array.new).device.state }
+    ensures grid { CoversThePicture scene.now (A.view array.new).device }
 {
     let _now = job.now();
     let layout = draw_job(job, scene, array);
@@ -280,13 +265,12 @@ fn write_lights<A: Array, O: Sink>(
 ) -> Result<(), Failed>
     requires need { need_with layout.now (length lights.now.items) ≤ A.BITS }
     requires lights { StoresTheLights scene.now layout.now lights.now.items
-        (A.device array.now).state }
-    requires grid { CoversThePicture scene.now (A.device array.now) }
+        (A.view array.now).device.state }
+    requires grid { CoversThePicture scene.now (A.view array.now).device }
     ensures ok { OnOk result (TakesAll (O.state out.old) (O.state out.new) (mask_image scene.now lights.now.items)) }
     ensures err { OnErr result (TakesFront (O.state out.old) (O.state out.new) (mask_image scene.now lights.now.items)) }
     ensures cause { HasCause (O.state out.old).faults (O.state out.new).faults result }
 {
     laws_of_scenes(scene);
-    laws_of_shadows();
     write_masks(array, layout, scene, lights.len(), out)
 }

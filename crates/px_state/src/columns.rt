@@ -17,13 +17,13 @@ const MOST_WORDS: usize = 4096;
 
 /// Writes the planes of memory of an array to the front of a list of words.
 pub(crate) fn write_memory<A: Array>(array: &A, shape: &Shape, words: &mut [u64])
-    requires is_open { IsOpen (A.device array.now) }
+    requires is_open { IsOpen (A.view array.now).device }
     requires shape { IsShape shape.now }
     requires bits { shape.now.bits ≡ A.BITS }
-    requires size { IsShapeOf shape.now (A.device array.now).state }
+    requires size { IsShapeOf shape.now (A.view array.now).device.state }
     requires room { shape.now.bits * shape.now.plane ≤ length words.old }
     ensures bit { (k i : ℕ) → k < shape.now.bits * shape.now.plane → i < 64
-        → nat_bit (get_or words.new k 0) i ≡ state_bit shape.now.bits (A.device array.now).state k i }
+        → nat_bit (get_or words.new k 0) i ≡ state_bit shape.now.bits (A.view array.now).device.state k i }
     ensures behind { (j : ℕ) → shape.now.bits * shape.now.plane ≤ j
         → get_or words.new j 0 ≡ get_or words.old j 0 }
     ensures length { length words.new ≡ length words.old }
@@ -37,11 +37,11 @@ pub(crate) fn write_memory<A: Array>(array: &A, shape: &Shape, words: &mut [u64]
 
 /// Takes a memory bit of every pixel, block by block, each turned over so that its words are of rows.
 fn take_rows<A: Array>(array: &A, shape: &Shape, at: u32, rows: &mut [u64; MOST_WORDS])
-    requires is_open { IsOpen (A.device array.now) }
+    requires is_open { IsOpen (A.view array.now).device }
     requires shape { IsShape shape.now }
-    requires size { IsShapeOf shape.now (A.device array.now).state }
+    requires size { IsShapeOf shape.now (A.view array.now).device.state }
     requires place { at < A.BITS }
-    ensures { HoldsRows (A.device array.now).state at rows.new }
+    ensures { HoldsRows (A.view array.now).device.state at rows.new }
 {
     let each = column_words(shape.ny);
     for b in 0..row_words(shape.nx) * each {
@@ -63,11 +63,11 @@ fn column_words(ny: u32) -> usize
 /// A memory bit of the pixels of 64 columns from column `64 * c` on, in the rows from row `64 * w` on, a
 /// column in each word; past the last column 0.
 fn block_of<A: Array>(array: &A, at: u32, c: usize, w: usize) -> [u64; 64]
-    requires is_open { IsOpen (A.device array.now) }
+    requires is_open { IsOpen (A.view array.now).device }
     requires place { at < A.BITS }
     requires column { c < 2 ^ 10 }
-    requires row { 64 * w < 2 ^ (A.device array.now).state.tree.ny }
-    ensures { HoldsBlock (A.device array.now).state at c w result }
+    requires row { 64 * w < 2 ^ (A.view array.now).device.state.tree.ny }
+    ensures { HoldsBlock (A.view array.now).device.state at c w result }
 {
     let (nx, _) = array.size();
     let mut block = [0; 64];
@@ -82,12 +82,12 @@ fn block_of<A: Array>(array: &A, at: u32, c: usize, w: usize) -> [u64; 64]
 /// A memory bit of the pixels of column `x` from row `64 * w` on.
 #[inline(always)]
 fn column_word<A: Array>(array: &A, at: u32, x: usize, w: usize) -> u64
-    requires is_open { IsOpen (A.device array.now) }
+    requires is_open { IsOpen (A.view array.now).device }
     requires place { at < A.BITS }
-    requires column { x < 2 ^ (A.device array.now).state.tree.nx }
-    requires row { 64 * w < 2 ^ (A.device array.now).state.tree.ny }
-    ensures { (i : ℕ) → i < 64 → 64 * w + i < 2 ^ (A.device array.now).state.tree.ny
-        → nat_bit result i ≡ bit_at (pixel_of (A.device array.now).state x (64 * w + i)).memory at }
+    requires column { x < 2 ^ (A.view array.now).device.state.tree.nx }
+    requires row { 64 * w < 2 ^ (A.view array.now).device.state.tree.ny }
+    ensures { (i : ℕ) → i < 64 → 64 * w + i < 2 ^ (A.view array.now).device.state.tree.ny
+        → nat_bit result i ≡ bit_at (pixel_of (A.view array.now).device.state x (64 * w + i)).memory at }
 {
     let (_, ny) = array.size();
     let place = x * power(ny) + 64 * w;

@@ -4,7 +4,7 @@ ghost use Rattle.px_array.specs.Arrays.{opened};
 ghost use Rattle.px_macro.specs.Macros.{IsLawful};
 ghost use Rattle.px_state.specs.Courses.{IsNextBroadcast, device_after, total_of_listing};
 ghost use Rattle.px_state.specs.Refusals.{HasSmallCount, IsRefusedBy, course_refusal};
-ghost use Rattle.px_array.specs.Slots.{array_view, worked};
+ghost use Rattle.px_array.specs.Slots.{HasWorked};
 ghost use Rattle.px_state.specs.States.{IsRunTo, IsState, FaultLeaves};
 ghost use Rattle.px_state.specs.Words.{BeginsWithState};
 
@@ -34,11 +34,9 @@ pub(crate) fn state_of_listing<A: Operating>(
     ensures small { IfErr result HasSmallCount }
     ensures kept { OnErr result (words.new ≡ words.old) }
     ensures length { length words.new ≡ length words.old }
-    ensures array { OnOk result (IsRunTo A.BITS listing.now clock
-        (array_view (A.device array.new) (A.slots array.new) (A.work array.new))) }
-    ensures refused { IfErr result (λ fault. FaultLeaves fault A.BITS listing.now
-        (array_view (A.device array.old) (A.slots array.old) (A.work array.old))
-        (array_view (A.device array.new) (A.slots array.new) (A.work array.new))) }
+    ensures array { OnOk result (IsRunTo A.BITS listing.now clock (A.view array.new)) }
+    ensures refused { IfErr result (λ fault. FaultLeaves fault A.BITS listing.now (A.view array.old)
+        (A.view array.new)) }
 {
     array.open(listing.nx, listing.ny)?;
     let clocks = clocks_of(listing);
@@ -72,11 +70,10 @@ pub(crate) fn clocks_of(listing: &Listing) -> u64
 /// Makes the first clocks of a listing on a new array.
 fn play_to<A: Array>(listing: &Listing, array: &mut A, clock: u64)
     requires lawful { All (λ m. IsLawful m A.BITS) listing.now.macros }
-    requires new { A.device array.old ≡ opened A.BITS listing.now.nx listing.now.ny }
+    requires new { (A.view array.old).device ≡ opened A.BITS listing.now.nx listing.now.ny }
     requires within { clock ≤ total_of_listing listing.now }
-    ensures device { A.device array.new ≡ device_after A.BITS listing.now clock }
-    ensures slots { A.slots array.new ≡ A.slots array.old }
-    ensures work { A.work array.new ≡ worked clock (A.work array.old) }
+    ensures device { (A.view array.new).device ≡ device_after A.BITS listing.now clock }
+    ensures worked { HasWorked clock (A.view array.old) (A.view array.new) }
 {
     let mut left = clock;
     for m in listing.macros.iter() {

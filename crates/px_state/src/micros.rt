@@ -25,7 +25,7 @@ use px_listing::Listing;
 use px_macro::Macro;
 use px_model::{Scene, laws_of_scenes};
 use px_prune::Plan;
-use px_sched::{Cursor, Layout, laws_of_passes};
+use px_sched::{Cursor, Layout};
 use std::alloc::Global;
 
 /// Writes the micros of a listing from a clock on.
@@ -109,10 +109,7 @@ pub(crate) fn drawing_of(
     ensures err { IfErr result (λ fault. IsRefusedBy fault (refusal_by_bits bits scene.now)) }
     ensures small { IfErr result HasSmallCount }
 {
-    match px_control::drawing_of(alloc, scene, bits) {
-        Ok(found) => Ok(found),
-        Err(fault) => Err(StateFault::from(fault)),
-    }
+    Ok(px_control::drawing_of(alloc, scene, bits)?)
 }
 
 /// Writes the micros of a scene's passes from a clock on.
@@ -125,7 +122,6 @@ fn put_passes(scene: &Scene, plan: &Plan, layout: &Layout, first: u64, micros: &
     ensures length { length micros.new ≡ length micros.old }
 {
     laws_of_scenes(scene);
-    laws_of_passes();
     let (nx, ny) = scene.grid();
     let end = first + micros.len() as u64;
     let mut cursor = Cursor::start();

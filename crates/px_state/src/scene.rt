@@ -4,7 +4,7 @@ ghost use Rattle.px_playing.specs.PassesText.{passes_listing};
 ghost use Rattle.px_control.specs.Program.{IsAt, total};
 ghost use Rattle.px_state.specs.Courses.{IsNextBroadcast, device_after};
 ghost use Rattle.px_state.specs.Refusals.{HasSmallCount, IsRefusedBy, course_refusal, refusal_by_bits};
-ghost use Rattle.px_array.specs.Slots.{IsRunOnce, array_view};
+ghost use Rattle.px_array.specs.Slots.{IsRunOnce};
 ghost use Rattle.px_state.specs.States.{IsRunTo, IsState, FaultLeaves};
 ghost use Rattle.px_state.specs.Words.{BeginsWithState};
 ghost use Rattle.std.specs.Option.{option_or};
@@ -38,10 +38,9 @@ pub(crate) fn state_of_scene<A: Operating>(
     ensures kept { OnErr result (words.new ≡ words.old) }
     ensures length { length words.new ≡ length words.old }
     ensures array { OnOk result (IsRunTo A.BITS (passes_listing scene.now) clock
-        (array_view (A.device array.new) (A.slots array.new) (A.work array.new))) }
+        (A.view array.new)) }
     ensures refused { IfErr result (λ fault. FaultLeaves fault A.BITS (passes_listing scene.now)
-        (array_view (A.device array.old) (A.slots array.old) (A.work array.old))
-        (array_view (A.device array.new) (A.slots array.new) (A.work array.new))) }
+        (A.view array.old) (A.view array.new)) }
 {
     laws_of_scenes(scene);
     let mut job = open_job(alloc, scene, array)?;
@@ -71,20 +70,15 @@ fn open_job<'s, A: Operating>(
     array: &mut A,
 ) -> Result<Job<'s>, StateFault>
     ensures job { IfOk result (λ job. (job.scene ≡ scene.now) × (job.place.clock ≡ 0)) }
-    ensures at { OnOk result (IsAt A.BITS scene.now 0 (A.device array.new)) }
+    ensures at { OnOk result (IsAt A.BITS scene.now 0 (A.view array.new).device) }
     ensures ok { OnOk result (refusal_by_bits A.BITS scene.now ≡ None) }
-    ensures once { OnOk result (IsRunOnce
-        (array_view (A.device array.new) (A.slots array.new) (A.work array.new))) }
+    ensures once { OnOk result (IsRunOnce (A.view array.new)) }
     ensures err { IfErr result (λ fault. IsRefusedBy fault (refusal_by_bits A.BITS scene.now)) }
     ensures small { IfErr result HasSmallCount }
     ensures refused { IfErr result (λ fault. FaultLeaves fault A.BITS (passes_listing scene.now)
-        (array_view (A.device array.old) (A.slots array.old) (A.work array.old))
-        (array_view (A.device array.new) (A.slots array.new) (A.work array.new))) }
+        (A.view array.old) (A.view array.new)) }
 {
-    match Job::open(alloc, scene, array) {
-        Ok(job) => Ok(job),
-        Err(fault) => Err(StateFault::from(fault)),
-    }
+    Ok(Job::open(alloc, scene, array)?)
 }
 
 /// The broadcast before which a job stands.

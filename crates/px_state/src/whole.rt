@@ -9,7 +9,6 @@ ghost use Rattle.px_scene.specs.Reading.{scene_of};
 ghost use Rattle.px_state.specs.Operations.{HasOperations, IsOperationOf};
 ghost use Rattle.px_state.specs.Packed.{HasMicros};
 ghost use Rattle.px_state.specs.Refusals.{HasSmallCount, IsRefusedBy, course_of, is_listing, refusal_by_bits, micros_refusal, operations_refusal, state_refusal, input_refusal, past_text_limit};
-ghost use Rattle.px_array.specs.Slots.{array_view};
 ghost use Rattle.px_state.specs.Keeping.{KeepsArray};
 ghost use Rattle.px_state.specs.States.{IsCourse, IsRunTo, IsState, FaultLeaves};
 ghost use Rattle.px_state.specs.Words.{BeginsWithState};
@@ -53,11 +52,9 @@ pub fn write_state<A: Operating>(
     ensures small { IfErr result HasSmallCount }
     ensures kept { OnErr result (words.new ≡ words.old) }
     ensures length { length words.new ≡ length words.old }
-    ensures array { OnOk result (IsRunTo A.BITS (course_of text.now) clock
-        (array_view (A.device array.new) (A.slots array.new) (A.work array.new))) }
+    ensures array { OnOk result (IsRunTo A.BITS (course_of text.now) clock (A.view array.new)) }
     ensures refused { IfErr result (λ fault. FaultLeaves fault A.BITS (course_of text.now)
-        (array_view (A.device array.old) (A.slots array.old) (A.work array.old))
-        (array_view (A.device array.new) (A.slots array.new) (A.work array.new))) }
+        (A.view array.old) (A.view array.new)) }
 {
     if text.len() > MAX_TEXT_BYTES {
         return Err(too_long());
@@ -212,10 +209,7 @@ fn read_course(alloc: Global, text: &[u8], bits: u32) -> Result<Listing, StateFa
     ensures small { IfErr result HasSmallCount }
     ensures keeps { IfErr result KeepsArray }
 {
-    match read_listing(alloc, text, bits) {
-        Ok(listing) => Ok(listing),
-        Err(fault) => Err(StateFault::from(fault)),
-    }
+    Ok(read_listing(alloc, text, bits)?)
 }
 
 /// The scene that a text writes, whose first word does not say otherwise.
@@ -229,10 +223,7 @@ fn read_drawing(alloc: Global, text: &[u8]) -> Result<Scene, StateFault>
     ensures small { IfErr result HasSmallCount }
     ensures keeps { IfErr result KeepsArray }
 {
-    match read_scene(alloc, text) {
-        Ok(scene) => Ok(scene),
-        Err(fault) => Err(StateFault::from(fault)),
-    }
+    Ok(read_scene(alloc, text)?)
 }
 
 /// The refusal of a text that has more bytes than it may have.

@@ -61,11 +61,11 @@ enum Part {
 /// Writes the state of an array to the front of a list of words, which has room for it
 /// (specs/Words.antt has the order).
 pub fn write_words<A: Array>(array: &A, words: &mut [u64])
-    requires is_open { IsOpen (A.device array.now) }
+    requires is_open { IsOpen (A.view array.now).device }
     requires bits { A.BITS ≤ 256 }
-    requires room { room_of A.BITS (A.device array.now).state.tree.nx (A.device array.now).state.tree.ny
+    requires room { room_of A.BITS (A.view array.now).device.state.tree.nx (A.view array.now).device.state.tree.ny
         ≤ length words.old }
-    ensures words { BeginsWithState A.BITS (A.device array.now).state words.old words.new }
+    ensures words { BeginsWithState A.BITS (A.view array.now).device.state words.old words.new }
     ensures length { length words.new ≡ length words.old }
 {
     let (nx, ny) = array.size();
@@ -76,15 +76,15 @@ pub fn write_words<A: Array>(array: &A, words: &mut [u64])
 
 /// Writes the words from one on, where those before it are written.
 fn write_rest<A: Array>(array: &A, words: &mut [u64], first: usize)
-    requires is_open { IsOpen (A.device array.now) }
+    requires is_open { IsOpen (A.view array.now).device }
     requires bits { A.BITS ≤ 256 }
-    requires room { room_of A.BITS (A.device array.now).state.tree.nx (A.device array.now).state.tree.ny
+    requires room { room_of A.BITS (A.view array.now).device.state.tree.nx (A.view array.now).device.state.tree.ny
         ≤ length words.old }
     requires first { first
-        ≤ room_of A.BITS (A.device array.now).state.tree.nx (A.device array.now).state.tree.ny }
+        ≤ room_of A.BITS (A.view array.now).device.state.tree.nx (A.view array.now).device.state.tree.ny }
     requires written { (k i : ℕ) → k < first → i < 64
-        → nat_bit (get_or words.old k 0) i ≡ state_bit A.BITS (A.device array.now).state k i }
-    ensures words { BeginsWithState A.BITS (A.device array.now).state words.old words.new }
+        → nat_bit (get_or words.old k 0) i ≡ state_bit A.BITS (A.view array.now).device.state k i }
+    ensures words { BeginsWithState A.BITS (A.view array.now).device.state words.old words.new }
     ensures length { length words.new ≡ length words.old }
 {
     let (nx, ny) = array.size();
@@ -120,10 +120,10 @@ fn part_of(bits: usize, nx: u32, ny: u32, k: usize) -> Part
 
 /// The word at a part of a state.
 fn word_of<A: Array>(array: &A, part: Part) -> u64
-    requires is_open { IsOpen (A.device array.now) }
+    requires is_open { IsOpen (A.view array.now).device }
     requires bits { A.BITS ≤ 256 }
-    requires within { IsInGrid (A.device array.now).state.tree.ny part }
-    ensures { (i : ℕ) → i < 64 → nat_bit result i ≡ part_bit A.BITS (A.device array.now).state part i }
+    requires within { IsInGrid (A.view array.now).device.state.tree.ny part }
+    ensures { (i : ℕ) → i < 64 → nat_bit result i ≡ part_bit A.BITS (A.view array.now).device.state part i }
 {
     let mut word = 0;
     for i in 0..64u32 {
@@ -137,11 +137,11 @@ fn word_of<A: Array>(array: &A, part: Part) -> u64
 /// Bit `i` of the word at a part of a state.
 #[inline(always)]
 fn bit_of<A: Array>(array: &A, part: Part, i: u32) -> bool
-    requires is_open { IsOpen (A.device array.now) }
+    requires is_open { IsOpen (A.view array.now).device }
     requires bits { A.BITS ≤ 256 }
-    requires within { IsInGrid (A.device array.now).state.tree.ny part }
+    requires within { IsInGrid (A.view array.now).device.state.tree.ny part }
     requires bit { i < 64 }
-    ensures { result ≡ part_bit A.BITS (A.device array.now).state part i }
+    ensures { result ≡ part_bit A.BITS (A.view array.now).device.state part i }
 {
     let (nx, ny) = array.size();
     match part {
@@ -156,9 +156,9 @@ fn bit_of<A: Array>(array: &A, part: Part, i: u32) -> bool
 /// The bit of a pixel in a plane.
 #[inline(always)]
 fn plane_bit<A: Array>(array: &A, plane: u32, x: u32, y: u32) -> bool
-    requires pixel { HasPixel (A.device array.now) x y }
+    requires pixel { HasPixel (A.view array.now).device x y }
     requires bits { A.BITS ≤ 256 }
-    ensures { result ≡ plane_bit A.BITS (A.device array.now).state plane x y }
+    ensures { result ≡ plane_bit A.BITS (A.view array.now).device.state plane x y }
 {
     let bits = A::BITS as u32;
     if plane < bits {
@@ -186,11 +186,11 @@ fn is_node(nx: u32, ny: u32, place: u32) -> bool
 /// The output and the carry latch of the node at a place.
 #[inline(always)]
 fn node<A: Array>(array: &A, place: u32) -> (bool, bool)
-    requires is_open { IsOpen (A.device array.now) }
-    requires within { place < 2 ^ (levels_of (A.device array.now).state.tree + 1) }
+    requires is_open { IsOpen (A.view array.now).device }
+    requires within { place < 2 ^ (levels_of (A.view array.now).device.state.tree + 1) }
     requires from_two { 2 ≤ place }
-    ensures output { result.0 ≡ (at_place (A.device array.now).state.tree.nodes place).output }
-    ensures carry { result.1 ≡ (at_place (A.device array.now).state.tree.nodes place).carry }
+    ensures output { result.0 ≡ (at_place (A.view array.now).device.state.tree.nodes place).output }
+    ensures carry { result.1 ≡ (at_place (A.view array.now).device.state.tree.nodes place).carry }
 {
     let level = level_of(place);
     array.node(level, place - power(level) as u32)

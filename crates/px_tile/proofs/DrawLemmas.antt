@@ -15,10 +15,10 @@ use Rattle.px_tile.specs.Drawn.{HasTiles, IsLeft, tile_at, crowd_of_tile}
 use Rattle.px_tile.specs.Found.{IsFound, IsInTile, PutsTile, number_at, sight_number}
 use Rattle.px_tile.specs.Pictures.{IsLastDrawn, LeavesOnWideRefusal}
 use Rattle.px_tile.specs.Refusals.{bits_short, first_coefficient, first_crowd, tile_refusal, wide_refusal}
-use Rattle.px_tile.specs.TilesLaw.{TilesLaw}
 use Rattle.px_tile.specs.Tilings.{IsWideSize, column_of, row_of, scene_of_tile, tile_count, tiles_across}
 use Rattle.px_tile.proofs.FirstLemmas.{none_each, both_none}
 use Rattle.px_model.proofs.PixelsLaws.{counts_kept}
+use Rattle.px_tile.proofs.TileLemmas.{tile_shows}
 use Rattle.px_tile.proofs.TilingLemmas.{column_is, covers_all, in_part, part_of_pixel, place_inside, place_is, row_is}
 use Rattle.px_tile.proofs.TilingLemmas.{some_across}
 use Rattle.px_control.specs.declared.fault.JobFault.TheVariants as job
@@ -49,10 +49,10 @@ module _ (scene : SceneView) (width height : ℕ) (some_w : 1 ≤ scene.width) (
   only_in_its_tile tile x y is = grind (arith, place_is, part_of_pixel)
 
   -- one tile more
-  pub tiles_more : TilesLaw → (tile : ℕ) (old new : List ℕ) → HasTiles scene width height tile old
+  pub tiles_more : (tile : ℕ) (old new : List ℕ) → HasTiles scene width height tile old
       → PutsTile (scene_of_tile scene width height tile) (column_of scene width tile)
       (row_of scene width tile) width old new → HasTiles scene width height (tile + 1) new
-  tiles_more law tile old new has put = record {
+  tiles_more tile old new has put = record {
     size = put.count ∙ has.size;
     each = λ x y left above low. elim (cases_lt (tile_at scene width x y) tile) [
       | inl before ↦
@@ -72,7 +72,7 @@ module _ (scene : SceneView) (width height : ℕ) (some_w : 1 ≤ scene.width) (
           let down : y0 + (y - y0) ≡ y = omega (arith, inside.from_top) in
           let shown = put.shown (x - x0) (y - y0) (omega (arith, inside.from_left, inside.left))
           (omega (arith, inside.from_top, inside.above)) in
-          let same = law scene x0 y0 (min scene.width (width - x0)) (min scene.height (height - y0)) width height
+          let same = tile_shows scene x0 y0 (min scene.width (width - x0)) (min scene.height (height - y0)) width height
           (x - x0) (y - y0) in
           rw (across, down) at (shown ∙ ap sight_number same)
 

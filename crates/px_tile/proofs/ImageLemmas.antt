@@ -9,7 +9,8 @@ use Rattle.px_io.specs.Told.{SinkState, TakesAll, TakesFront}
 use Rattle.px_io.proofs.ToldLaws.{front_after, takes_both}
 use Rattle.px_frame.specs.Picture.{header, three_bytes, depth_at, face_at}
 use Rattle.px_frame.specs.Rows.{row_bytes}
-use Rattle.px_face.specs.Surfaces.{FirstCellsAreFirst, PicturesShowFaces}
+use Rattle.px_face.proofs.BackgroundLemmas.{first_cells, shows_faces}
+use Rattle.px_face.proofs.SurfaceLemmas.{scene_surface}
 use Rattle.px_model.specs.Scenes.{IsLawfulScene, SceneView}
 use Rattle.px_model.specs.Cells.{far_of, picture}
 use Rattle.px_tile.specs.declared.image.Part.{Part}
@@ -52,16 +53,16 @@ depth_part depth face small = omega arith
 face_part : (depth face : ℕ) → face < 2 ^ 32 → (depth * 2 ^ 32 + face) % 2 ^ 32 ≡ face
 face_part depth face small = omega arith
 
-module _ (scene : SceneView) (lawful : IsLawfulScene scene) (faces : PicturesShowFaces) (firsts : FirstCellsAreFirst)
-    (width height : ℕ) (found : List ℕ) (is : IsFound scene width height found) where
+module _ (scene : SceneView) (lawful : IsLawfulScene scene) (width height : ℕ) (found : List ℕ)
+    (is : IsFound scene width height found) where
   face_small : (x y : ℕ) → (picture scene x y).face < 2 ^ 24
-  face_small x y = omega (arith, faces scene lawful x y, lawful.faces)
+  face_small x y = omega (arith, shows_faces scene_surface scene lawful x y, lawful.faces)
 
   far_small : far_of scene < 2 ^ 24
   far_small = grind (arith, pow_mono)
 
   depth_small : (x y : ℕ) → (picture scene x y).depth < 2 ^ 24
-  depth_small x y = grind (arith, far_small)
+  depth_small x y = grind (arith, far_small, first_cells)
 
   part_small : (p : Part) (x y : ℕ) → IsSmall p (sight_number (picture scene x y))
   part_small part.Depth x y = grind (arith, depth_part, face_small, depth_small)

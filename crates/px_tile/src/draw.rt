@@ -2,7 +2,7 @@
 ghost use Rattle.std.specs.Prelude.{◌≡◌, ◌*◌, ◌^◌, ◌<◌, ◌≤◌, ◌⊎◌, ℕ, Err, IfErr, IfOk, None, OnErr, OnOk, Some, length};
 ghost use Rattle.std.specs.Option.{option_map};
 ghost use Rattle.px_num.specs.Want.{want};
-ghost use Rattle.px_array.specs.Slots.{array_view, none_open};
+ghost use Rattle.px_array.specs.Slots.{none_open};
 ghost use Rattle.px_control.specs.declared.fault.JobFault.{JobFault};
 ghost use Rattle.px_model.specs.Planes.{first_past};
 ghost use Rattle.px_tile.specs.Found.{IsFound, PutsTile};
@@ -19,7 +19,6 @@ ghost use Rattle.px_tile.specs.Tilings.{
 
 use crate::crowd::is_never_crowded;
 use crate::fault::WideFault;
-use crate::law::laws_of_tiles;
 use crate::render::render_tile;
 use crate::tile::moved_scene;
 use crate::tiling::{tile_at, tile_count};
@@ -110,9 +109,7 @@ fn check_products(alloc: Global, scene: &Scene, width: u32, height: u32) -> Resu
         return Ok(());
     }
     for tile in 0..tile_count(scene, width, height) {
-        if let Err(fault) = check_products_of_tile(alloc, scene, width, height, tile) {
-            return Err(fault);
-        }
+        check_products_of_tile(alloc, scene, width, height, tile)?;
     }
     Ok(())
 }
@@ -171,24 +168,17 @@ pub fn render_tiles<A: Operating>(
     requires size { IsWideSize width height }
     ensures fits { OnOk result (wide_refusal scene.now width height A.BITS ≡ None) }
     ensures found { IfOk result (λ found. IsFound scene.now width height found.items) }
-    ensures drawn { OnOk result (IsLastDrawn A.BITS scene.now width height
-        (array_view (A.device array.new) (A.slots array.new) (A.work array.new))) }
+    ensures drawn { OnOk result (IsLastDrawn A.BITS scene.now width height (A.view array.new)) }
     ensures err { IfErr result (λ fault.
         (wide_refusal scene.now width height A.BITS ≡ Some fault) ⊎ (fault ≡ WideFault.Memory want)) }
     ensures early { (fault : WideFault) → early_refusal scene.now width height A.BITS ≡ Some fault →
         result ≡ Err fault }
     ensures small { (count : ℕ) → result ≡ Err (WideFault.Products count) → count ≤ 2 ^ 21 }
     ensures array { IfErr result (λ fault. LeavesOnWideRefusal fault A.BITS scene.now width height
-        (array_view (A.device array.old) (A.slots array.old) (A.work array.old))
-        (array_view (A.device array.new) (A.slots array.new) (A.work array.new))) }
+        (A.view array.old) (A.view array.new)) }
 {
-    if let Err(fault) = check_tiles(alloc, scene, width, height, memory_bits::<A>(scene)) {
-        return Err(fault);
-    }
-    match draw_tiles(alloc, scene, width, height, array) {
-        Ok(found) => Ok(found),
-        Err(lack) => Err(WideFault::Memory(lack)),
-    }
+    check_tiles(alloc, scene, width, height, memory_bits::<A>(scene))?;
+    draw_tiles(alloc, scene, width, height, array).map_err(WideFault::Memory)
 }
 
 /// Draws the tiles of a picture that is not refused.
@@ -202,20 +192,15 @@ fn draw_tiles<A: Operating>(
     requires size { IsWideSize width height }
     requires fits { wide_refusal scene.now width height A.BITS ≡ None }
     ensures found { IfOk result (λ found. IsFound scene.now width height found.items) }
-    ensures drawn { OnOk result (IsLastDrawn A.BITS scene.now width height
-        (array_view (A.device array.new) (A.slots array.new) (A.work array.new))) }
+    ensures drawn { OnOk result (IsLastDrawn A.BITS scene.now width height (A.view array.new)) }
     ensures array { OnErr result (LeavesOnWideRefusal (WideFault.Memory want) A.BITS scene.now width height
-        (array_view (A.device array.old) (A.slots array.old) (A.work array.old))
-        (array_view (A.device array.new) (A.slots array.new) (A.work array.new))) }
+        (A.view array.old) (A.view array.new)) }
 {
     let mut found = Vec::from_elem(alloc, 0, width as usize * height as usize)?;
     laws_of_scenes(scene);
-    laws_of_tiles();
     for tile in 0..tile_count(scene, width, height) {
         let numbers = found.as_mut_slice();
-        if let Err(fault) = draw_tile(alloc, scene, width, height, tile, numbers, array) {
-            return Err(fault);
-        }
+        draw_tile(alloc, scene, width, height, tile, numbers, array)?;
     }
     Ok(found)
 }
@@ -238,18 +223,13 @@ fn draw_tile<A: Operating>(
     ensures ok { OnOk result (PutsTile (scene_of_tile scene.now width height tile)
         (column_of scene.now width tile) (row_of scene.now width tile) width found.old found.new) }
     ensures drawn { OnOk result (IsTileDrawn A.BITS scene.now width height tile
-        (array_view (A.device array.new) (A.slots array.new) (A.work array.new))) }
-    ensures array { OnErr result (
-        (array_view (A.device array.new) (A.slots array.new) (A.work array.new)
-        ≡ array_view (A.device array.old) (A.slots array.old) (A.work array.old))
-        ⊎ (array_view (A.device array.new) (A.slots array.new) (A.work array.new) ≡ none_open)) }
+        (A.view array.new)) }
+    ensures array { OnErr result ((A.view array.new ≡ A.view array.old)
+        ⊎ (A.view array.new ≡ none_open)) }
 {
     let place = tile_at(scene, width, height, tile);
     let scene = scene_of_tile(alloc, scene, width, height, tile)?;
-    match render_tile(alloc, &scene, place.x0, width, place.y0, found, array) {
-        Ok(()) => Ok(()),
-        Err(fault) => Err(lack_in(fault)),
-    }
+    render_tile(alloc, &scene, place.x0, width, place.y0, found, array).map_err(lack_in)
 }
 
 /// What was wanting for a tile that is not refused.

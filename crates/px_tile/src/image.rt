@@ -10,7 +10,6 @@ ghost use Rattle.px_tile.specs.Tiles.{wide_scene};
 ghost use Rattle.px_tile.specs.Tilings.{IsWideSize};
 
 use arrayvec::ArrayVec;
-use px_face::laws_of_surfaces;
 use px_frame::{header, three_bytes};
 use px_io::{Failed, Sink, write_whole};
 use px_model::{Scene, laws_of_scenes};
@@ -71,7 +70,6 @@ fn write_part<O: Sink>(
     ensures cause { HasCause (O.state out.old).faults (O.state out.new).faults result }
 {
     laws_of_scenes(scene);
-    laws_of_surfaces();
     let header = header(width, height);
     write_whole(out, header.as_str().as_bytes())?;
     write_pixels(found, part, out)

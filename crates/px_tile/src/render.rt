@@ -2,7 +2,7 @@
 ghost use Rattle.std.specs.Prelude.{◌≡◌, ◌+◌, ◌*◌, ◌<◌, ◌≤◌, ◌⊎◌, IfErr, None, OnErr, OnOk, Some, length};
 ghost use Rattle.px_num.specs.Want.{want};
 ghost use Rattle.px_array.specs.Arrays.{pixel_of};
-ghost use Rattle.px_array.specs.Slots.{IsRunOnce, array_view};
+ghost use Rattle.px_array.specs.Slots.{IsRunOnce};
 ghost use Rattle.px_control.specs.GridLaw.{CoversThePicture};
 ghost use Rattle.px_control.specs.Program.{IsAt, total};
 ghost use Rattle.px_control.specs.Standing.{LeavesOnRefusal};
@@ -14,7 +14,7 @@ ghost use Rattle.px_tile.specs.PutRows.{HoldSights, PutsRow};
 
 use px_array::Array;
 use px_asm::Operating;
-use px_control::{Job, JobFault, law_of_grids};
+use px_control::{Job, JobFault};
 use px_frame::Strip;
 use px_model::{Scene, laws_of_scenes};
 use px_sched::Layout;
@@ -39,21 +39,18 @@ pub fn render_tile<A: Operating>(
     requires rows { (y0 + scene.now.height) * width ≤ length found.old }
     ensures fits { OnOk result (tile_refusal scene.now A.BITS ≡ None) }
     ensures ok { OnOk result (PutsTile scene.now x0 y0 width found.old found.new) }
-    ensures drawn { OnOk result (IsAt A.BITS scene.now (total scene.now) (A.device array.new)) }
-    ensures once { OnOk result (IsRunOnce
-        (array_view (A.device array.new) (A.slots array.new) (A.work array.new))) }
+    ensures drawn { OnOk result (IsAt A.BITS scene.now (total scene.now) (A.view array.new).device) }
+    ensures once { OnOk result (IsRunOnce (A.view array.new)) }
     ensures err { IfErr result (λ fault.
         (tile_refusal scene.now A.BITS ≡ Some fault) ⊎ (fault ≡ JobFault.Memory want)) }
     ensures found { OnErr result (found.new ≡ found.old) }
-    ensures array { IfErr result (λ fault. LeavesOnRefusal fault
-        (array_view (A.device array.old) (A.slots array.old) (A.work array.old))
-        (array_view (A.device array.new) (A.slots array.new) (A.work array.new))) }
+    ensures array { IfErr result (λ fault. LeavesOnRefusal fault (A.view array.old)
+        (A.view array.new)) }
 {
     let mut job = Job::open(alloc, scene, array)?;
     job.finish(array);
     let layout = job.layout();
     laws_of_scenes(scene);
-    law_of_grids();
     put_tile(array, &layout, scene, x0, width, y0, found);
     Ok(())
 }
@@ -70,10 +67,10 @@ fn put_tile<A: Array>(
 )
     requires columns { x0 + scene.now.width ≤ width }
     requires rows { (y0 + scene.now.height) * width ≤ length found.old }
-    requires covers { CoversThePicture scene.now (A.device array.now) }
+    requires covers { CoversThePicture scene.now (A.view array.now).device }
     requires room { need_of layout.now ≤ A.BITS }
     requires shows { ShowsThePicture scene.now layout.now
-        (λ x y. (pixel_of (A.device array.now).state x y).memory) }
+        (λ x y. (pixel_of (A.view array.now).device.state x y).memory) }
     ensures { PutsTile scene.now x0 y0 width found.old found.new }
 {
     let (depth, face) = (layout.b_depth(), layout.b_number());

@@ -7,7 +7,7 @@ use Rattle.px_sched.specs.Layouts.{LayoutView}
 use Rattle.px_sched.specs.PassesLaw.{ShowsThePicture}
 use Rattle.px_refine.specs.Finer.{fine_scene}
 use Rattle.px_refine.specs.Refined.{refined_image, stored_means}
-use Rattle.px_refine.specs.RefinedLaw.{MeansAreRefined}
+use Rattle.px_refine.proofs.MeanLemmas.{means_refined}
 use Rattle.px_outcome.specs.declared.refusal.Refusal.{Refusal}
 use Rattle.px_outcome.specs.declared.stop.Stop.{Stop}
 use Rattle.px_outcome.specs.Outcomes.{done, drawable, unless_refused}
@@ -18,14 +18,14 @@ use Rattle.px_refine.specs.FineFaults.{IsRefusal, fine_fault}
 use Rattle.px_refine.specs.declared.fault.FineFault.{FineFault}
 use Rattle.px_refine.specs.declared.fault.FineFault.TheVariants as fine
 
-pub means_drawn : MeansAreRefined → (s : ℕ) (scene fine : SceneView) (layout drawn : LayoutView) (state : State)
+pub means_drawn : (s : ℕ) (scene fine : SceneView) (layout drawn : LayoutView) (state : State)
     → fine ≡ fine_scene s scene → layout ≡ drawn → ShowsThePicture fine drawn (λ x y. (pixel_of state x y).memory)
     → stored_means s fine layout state ≡ refined_image s scene
-means_drawn law s scene fine layout drawn state is same shows =
+means_drawn s scene fine layout drawn state is same shows =
     let here = subst (λ (l : LayoutView). ShowsThePicture fine l (λ x y. (pixel_of state x y).memory)) (sym same)
     shows in
     ap (λ f. stored_means s f layout state) is
-    ∙ law s scene layout state
+    ∙ means_refined s scene layout state
     (subst (λ (f : SceneView). ShowsThePicture f layout (λ x y. (pixel_of state x y).memory)) is here)
 
 -- what serves the finer scene serves its refinement

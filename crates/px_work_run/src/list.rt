@@ -30,10 +30,7 @@ pub(crate) fn make_list<O: Sink>(
         (O.state out.old) (O.state out.new) }
 {
     let (layout, plan) = drawing_of(alloc, scene, bits)?;
-    match deliver_passes(scene, &plan, &layout, out) {
-        Ok(()) => Ok(()),
-        Err(_) => Err(Stop::WriteFault),
-    }
+    Ok(deliver_passes(scene, &plan, &layout, out)?)
 }
 
 /// Writes the text of a scene's passes, and finishes.

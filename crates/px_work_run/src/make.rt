@@ -1,6 +1,5 @@
 //! What is made of the scene that is the whole input.
 ghost use Rattle.std.specs.Prelude.{◌≡◌, ◌≢◌, ◌≤◌, IfErr, IfOk, Err};
-ghost use Rattle.px_array.specs.Slots.{array_view};
 ghost use Rattle.px_scene.specs.Text.{worded};
 ghost use Rattle.px_command.specs.Commands.{HasSize};
 ghost use Rattle.px_command.specs.declared.command.Work.{Work};
@@ -44,10 +43,8 @@ pub fn make_of_input<S: Source, O: Sink, A: Operating>(
     requires bits { A.BITS ≤ 256 }
     requires size { HasSize work }
     ensures performs { PerformsWork work result A.BITS
-        (ends (S.rest input.old) (S.faults input.old) (O.state out.old)
-        (A.device array.old) (A.slots array.old) (A.work array.old))
-        (ends (S.rest input.new) (S.faults input.new) (O.state out.new)
-        (A.device array.new) (A.slots array.new) (A.work array.new)) }
+        (ends (S.rest input.old) (S.faults input.old) (O.state out.old) (A.view array.old))
+        (ends (S.rest input.new) (S.faults input.new) (O.state out.new) (A.view array.new)) }
     ensures causes { HasCauses result (S.faults input.old) (S.faults input.new) (O.state out.old).faults
         (O.state out.new).faults }
     ensures took { TookText (status_in result)
@@ -71,9 +68,8 @@ fn make<O: Sink, A: Operating>(
     requires size { HasSize work }
     ensures serves { DoesWork result (made work scene.now A.BITS)
         (O.state out.old) (O.state out.new) }
-    ensures array { LeavesArray work (status_in result) A.BITS scene.now
-        (array_view (A.device array.old) (A.slots array.old) (A.work array.old))
-        (array_view (A.device array.new) (A.slots array.new) (A.work array.new)) }
+    ensures array { LeavesArray work (status_in result) A.BITS scene.now (A.view array.old)
+        (A.view array.new) }
 {
     match work {
         Work::Render => make_images(alloc, scene, &[Plane::Depth, Plane::Face], out, array),
@@ -97,15 +93,11 @@ fn make_images<O: Sink, A: Operating>(
 ) -> Result<(), Stop>
     ensures serves { DoesWork result (drawable A.BITS scene.now (done (images scene.now planes.now)))
         (O.state out.old) (O.state out.new) }
-    ensures array { Draws (status_in result) A.BITS scene.now
-        (array_view (A.device array.old) (A.slots array.old) (A.work array.old))
-        (array_view (A.device array.new) (A.slots array.new) (A.work array.new)) }
+    ensures array { Draws (status_in result) A.BITS scene.now (A.view array.old)
+        (A.view array.new) }
 {
     let mut job = open_job(alloc, scene, array)?;
-    match deliver_images(&mut job, scene, array, planes, out) {
-        Ok(()) => Ok(()),
-        Err(_) => Err(Stop::WriteFault),
-    }
+    Ok(deliver_images(&mut job, scene, array, planes, out)?)
 }
 
 fn make_tidy<O: Sink>(alloc: Global, scene: &Scene, out: &mut O) -> Result<(), Stop>
@@ -155,8 +147,5 @@ fn write_out<O: Sink>(bytes: &[u8], out: &mut O) -> Result<(), Stop>
     ensures serves { DoesWork result (done bytes.now)
         (O.state out.old) (O.state out.new) }
 {
-    match write_finished(bytes, out) {
-        Ok(()) => Ok(()),
-        Err(_) => Err(Stop::WriteFault),
-    }
+    Ok(write_finished(bytes, out)?)
 }

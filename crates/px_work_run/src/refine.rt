@@ -3,7 +3,7 @@ ghost use Rattle.std.specs.Prelude.{◌≡◌, ◌≤◌, IfErr, IfOk, OnErr, On
 ghost use Rattle.std.specs.Io.KnownBytes.{Appends};
 ghost use Rattle.px_io.specs.Counts.{HasCause};
 ghost use Rattle.px_io.specs.Told.{TakesAll, TakesFront, Tells};
-ghost use Rattle.px_array.specs.Slots.{IsRunOnce, array_view};
+ghost use Rattle.px_array.specs.Slots.{IsRunOnce};
 ghost use Rattle.px_sched.specs.Layouts.{layout_of};
 ghost use Rattle.px_control.specs.Program.{IsAt};
 ghost use Rattle.px_refine.specs.Finer.{fine_scene};
@@ -19,12 +19,11 @@ ghost use Rattle.px_outcome.specs.Stops.{DoesWork, StopsAt};
 use px_array::Array;
 use px_asm::Operating;
 use px_command::Fineness;
-use px_control::{Job, law_of_grids};
+use px_control::Job;
 use px_deliver::draw_job;
-use px_frame::laws_of_images;
 use px_io::{Failed, Sink};
 use px_outcome::{SceneStop, Stop, open_job};
-use px_refine::{fine_scene, laws_of_refinement, write_refined};
+use px_refine::{fine_scene, write_refined};
 use px_scene::{Scene, laws_of_scenes};
 use px_sched::Layout;
 use std::alloc::Global;
@@ -40,8 +39,7 @@ pub(crate) fn make_refined<O: Sink, A: Operating>(
     ensures serves { DoesWork result (refined (doublings fineness) scene.now A.BITS)
         (O.state out.old) (O.state out.new) }
     ensures array { Draws (status_in result) A.BITS (fine_scene (doublings fineness) scene.now)
-        (array_view (A.device array.old) (A.slots array.old) (A.work array.old))
-        (array_view (A.device array.new) (A.slots array.new) (A.work array.new)) }
+        (A.view array.old) (A.view array.new) }
 {
     let s = fineness.doublings();
     let fine = finer(alloc, scene, s)?;
@@ -55,10 +53,7 @@ fn finer(alloc: Global, scene: &Scene, s: u32) -> Result<Scene, SceneStop>
         (fine_refusal s scene.now ≡ None) × (fine ≡ fine_scene s scene.now)) }
     ensures err { IfErr result (λ stop. StopsAt (unless_refused (fine_refusal s scene.now)) stop) }
 {
-    match fine_scene(alloc, scene, s) {
-        Ok(fine) => Ok(fine),
-        Err(fault) => Err(SceneStop::from(fault)),
-    }
+    fine_scene(alloc, scene, s).map_err(SceneStop::from)
 }
 
 /// Draws a finer scene, and writes the image of means over it.
@@ -75,15 +70,10 @@ fn draw_refined<O: Sink, A: Operating>(
     ensures serves { DoesWork result
         (drawable A.BITS fine.now (done (refined_image s scene.now)))
         (O.state out.old) (O.state out.new) }
-    ensures array { Draws (status_in result) A.BITS fine.now
-        (array_view (A.device array.old) (A.slots array.old) (A.work array.old))
-        (array_view (A.device array.new) (A.slots array.new) (A.work array.new)) }
+    ensures array { Draws (status_in result) A.BITS fine.now (A.view array.old) (A.view array.new) }
 {
     let mut job = open_job(alloc, fine, array)?;
-    match deliver_refined(&mut job, scene, fine, s, array, out) {
-        Ok(()) => Ok(()),
-        Err(_) => Err(Stop::WriteFault),
-    }
+    Ok(deliver_refined(&mut job, scene, fine, s, array, out)?)
 }
 
 /// Makes the clocks that are left of the finer scene's job, writes the image of means, and finishes.
@@ -98,16 +88,14 @@ fn deliver_refined<A: Operating, O: Sink>(
     requires few { s ≤ 2 }
     requires fine { fine.now ≡ fine_scene s scene.now }
     requires scene { fine.now ≡ job.old.scene }
-    requires at { IsAt A.BITS fine.now job.old.place.clock (A.device array.old) }
+    requires at { IsAt A.BITS fine.now job.old.place.clock (A.view array.old).device }
     ensures ok { OnOk result (Appends (O.state out.old).written (O.state out.new).written
         (refined_image s scene.now)) }
     ensures end { OnOk result (Tells (O.state out.new).finished true) }
     ensures err { OnErr result (TakesFront (O.state out.old) (O.state out.new) (refined_image s scene.now)) }
     ensures cause { HasCause (O.state out.old).faults (O.state out.new).faults result }
-    ensures drawn { IsDrawn A.BITS fine.now (A.device array.new) }
-    ensures once { IsRunOnce
-        (array_view (A.device array.old) (A.slots array.old) (A.work array.old))
-        → IsRunOnce (array_view (A.device array.new) (A.slots array.new) (A.work array.new)) }
+    ensures drawn { IsDrawn A.BITS fine.now (A.view array.new).device }
+    ensures once { IsRunOnce (A.view array.old) → IsRunOnce (A.view array.new) }
 {
     let layout = draw_job(job, fine, array);
     write_means(array, &layout, scene, fine, s, out)?;
@@ -126,14 +114,11 @@ fn write_means<A: Array, O: Sink>(
     requires few { s ≤ 2 }
     requires fine { fine.now ≡ fine_scene s scene.now }
     requires layout { layout.now ≡ layout_of fine.now }
-    requires drawn { IsDrawn A.BITS fine.now (A.device array.now) }
+    requires drawn { IsDrawn A.BITS fine.now (A.view array.now).device }
     ensures ok { OnOk result (TakesAll (O.state out.old) (O.state out.new) (refined_image s scene.now)) }
     ensures err { OnErr result (TakesFront (O.state out.old) (O.state out.new) (refined_image s scene.now)) }
     ensures cause { HasCause (O.state out.old).faults (O.state out.new).faults result }
 {
     laws_of_scenes(fine);
-    law_of_grids();
-    laws_of_images();
-    laws_of_refinement();
     write_refined(array, layout, fine, s, out)
 }

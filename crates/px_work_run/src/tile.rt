@@ -3,7 +3,6 @@ ghost use Rattle.std.specs.Prelude.{◌≡◌, ◌^◌, ◌≤◌, ℕ, IfErr, I
 ghost use Rattle.std.specs.Io.KnownBytes.{Appends};
 ghost use Rattle.px_io.specs.Counts.{HasCause};
 ghost use Rattle.px_io.specs.Told.{TakesFront, Tells};
-ghost use Rattle.px_array.specs.Slots.{array_view};
 ghost use Rattle.px_tile.specs.Found.{IsFound};
 ghost use Rattle.px_tile.specs.Pictures.{IsLastDrawn};
 ghost use Rattle.px_tile.specs.Tilings.{IsWideSize};
@@ -33,15 +32,11 @@ pub(crate) fn make_tiled<O: Sink, A: Operating>(
     requires size { IsWideSize size.width size.height }
     ensures serves { DoesWork result (tiled size scene.now A.BITS)
         (O.state out.old) (O.state out.new) }
-    ensures array { DrawsTiles (status_in result) A.BITS size scene.now
-        (array_view (A.device array.old) (A.slots array.old) (A.work array.old))
-        (array_view (A.device array.new) (A.slots array.new) (A.work array.new)) }
+    ensures array { DrawsTiles (status_in result) A.BITS size scene.now (A.view array.old)
+        (A.view array.new) }
 {
     let found = find_pixels(alloc, scene, size, array)?;
-    match deliver_wide(found.as_slice(), scene, size, out) {
-        Ok(()) => Ok(()),
-        Err(_) => Err(Stop::WriteFault),
-    }
+    Ok(deliver_wide(found.as_slice(), scene, size, out)?)
 }
 
 /// Draws the tiles, and gives the numbers of the wide picture.
@@ -55,17 +50,13 @@ fn find_pixels<A: Operating>(
     ensures fits { OnOk result (tiles_refusal size scene.now A.BITS ≡ None) }
     ensures found { IfOk result (λ found. IsFound scene.now size.width size.height found.items) }
     ensures drawn { OnOk result (IsLastDrawn A.BITS scene.now size.width size.height
-        (array_view (A.device array.new) (A.slots array.new) (A.work array.new))) }
+        (A.view array.new)) }
     ensures err { IfErr result (λ stop.
         StopsAt (unless_refused (tiles_refusal size scene.now A.BITS)) stop) }
     ensures array { IfErr result (λ stop. DrawsTiles (status_of (stopped stop)) A.BITS size scene.now
-        (array_view (A.device array.old) (A.slots array.old) (A.work array.old))
-        (array_view (A.device array.new) (A.slots array.new) (A.work array.new))) }
+        (A.view array.old) (A.view array.new)) }
 {
-    match render_tiles(alloc, scene, size.width, size.height, array) {
-        Ok(found) => Ok(found),
-        Err(fault) => Err(stop_of(fault)),
-    }
+    render_tiles(alloc, scene, size.width, size.height, array).map_err(stop_of)
 }
 
 /// Why a wide picture is not drawn.

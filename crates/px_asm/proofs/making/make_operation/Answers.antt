@@ -5,8 +5,8 @@ use Rattle.px_asm.proofs.making.make_operation.Given.{Over}
 use Rattle.px_asm.proofs.making.make_operation.Goals as goal
 
 made : (g : Over) (c : goal.After-make_micros g) →
-    g.A.Array.device c.make_micros.new.array ≡ all_clocked (micros_on (g.A.Array.device c.args.array.now)
-    c.args.m.now) (g.A.Array.device c.args.array.now)
+    (g.A.Array.view c.make_micros.new.array).device ≡ all_clocked (micros_on (g.A.Array.view c.args.array.now).device
+    c.args.m.now) (g.A.Array.view c.args.array.now).device
 made g c = grind (arith, all_of_them)
 
 pub returns-clause-device : goal.returns-clause-device

@@ -6,16 +6,16 @@ use Rattle.px_asm.proofs.operations.make_one.Goals as goal
 pub returns-then-is_overtaken-clause-device : goal.returns-then-is_overtaken-clause-device
 returns-then-is_overtaken-clause-device g c =
     overtaken c.law_of_renewal.ensures.known c.law_of_renewal.ensures.again g.A.Array.BITS c.args.m.now
-    (c.args.rest.now ++ c.args.behind.now) (g.A.Array.device c.args.array.now) _ c.requires.can
+    (c.args.rest.now ++ c.args.behind.now) (g.A.Array.view c.args.array.now).device _ c.requires.can
     c.operate.ensures.operated c.if-is_overtaken.ensures
 
 pub returns-else-is_overtaken-clause-device : goal.returns-else-is_overtaken-clause-device
 returns-else-is_overtaken-clause-device g c =
     clocked_first g.A.Array.BITS c.args.m.now (c.args.rest.now ++ c.args.behind.now)
-    (g.A.Array.device c.args.array.now) _ c.requires.can c.make_operation.ensures.device
+    (g.A.Array.view c.args.array.now).device _ c.requires.can c.make_operation.ensures.device
 
 pub returns-else-is_overtaken-clause-pixels : goal.returns-else-is_overtaken-clause-pixels
 returns-else-is_overtaken-clause-pixels g c =
-    let before = g.A.Array.device c.args.array.now in
+    let before = (g.A.Array.view c.args.array.now).device in
     rw c.make_operation.ensures.device (grid_after_clocks g.A.Array.BITS before.state.tree.nx before.state.tree.ny
     (micros_on before c.args.m.now) before.state c.requires.can.pixels)

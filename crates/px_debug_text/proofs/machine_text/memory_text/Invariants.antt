@@ -4,4 +4,5 @@ use Rattle.px_debug_text.specs.Lines.{digit}
 use Rattle.px_debug_text.proofs.machine_text.memory_text.Given as goal
 
 abbrev pub invariant-loop-at : goal.invariant-loop-at
-invariant-loop-at g l = l.text.bytes ≡ map digit (take l.at (pixel_of (g.A.Array.device l.array).state l.x l.y).memory)
+invariant-loop-at g l = l.text.bytes ≡ map digit
+    (take l.at (pixel_of (g.A.Array.view l.array).device.state l.x l.y).memory)

@@ -1,9 +1,8 @@
-use Rattle.px_num.proofs.Basics.{arith}
-use Rattle.px_deliver.proofs.RefusalLemmas.{refuses, accepts}
+use Rattle.px_deliver.proofs.RefusalLemmas.{accepted, refused}
 use Rattle.px_deliver.proofs.opening.open_job.Goals as goal
 
-pub returns-in-Ok-clause-ok : goal.returns-in-Ok-clause-ok
-returns-in-Ok-clause-ok g c = accepts g.A.Array.BITS c.args.scene.now c.in-Ok.ensures.at.enough c.in-Ok.ensures.lawful
+pub returns-clause-ok : goal.returns-clause-ok
+returns-clause-ok g c = accepted _ g.A.Array.BITS c.args.scene.now _ c.open.ensures.at c.open.ensures.lawful
 
-pub returns-in-Err-clause-err : goal.returns-in-Err-clause-err
-returns-in-Err-clause-err g c = grind (arith, refuses)
+pub returns-clause-err : goal.returns-clause-err
+returns-clause-err g c = refused _ g.A.Array.BITS c.args.scene.now c.open.ensures.need c.open.ensures.many

@@ -8,7 +8,7 @@ returns-in_err-write_whole-clause-err g c = grind (arith, on_err, front_before)
 
 pub returns-in_err-write_whole-2-clause-err : goal.returns-in_err-write_whole-2-clause-err
 returns-in_err-write_whole-2-clause-err g c =
-    let state = (g.A.Array.device c.args.array.now).state
+    let state = (g.A.Array.view c.args.array.now).device.state
     in let inside : c.loop-y.y < 2 ^ state.tree.ny = omega (arith, c.height-y-end.ensures.value, c.requires.rows)
     in let held = rw (c.field_of-field.ensures.field, c.width-in-loop-y.ensures.value) at c.enter_row.ensures
     in let shown = row_shown c.args.scene.now c.args.layout.now state c.args.plane _ c.loop-y.y inside held
@@ -19,7 +19,7 @@ returns-in_err-write_whole-2-clause-err g c =
 
 pub loop-y-preserved : goal.loop-y-preserved
 loop-y-preserved g c =
-    let state = (g.A.Array.device c.args.array.now).state
+    let state = (g.A.Array.view c.args.array.now).device.state
     in let y = c.loop-y.y
     in let inside : y < 2 ^ state.tree.ny = omega (arith, c.height-y-end.ensures.value, c.requires.rows)
     in let held = rw (c.field_of-field.ensures.field, c.width-in-loop-y.ensures.value) at c.enter_row.ensures

@@ -4,7 +4,7 @@ use Rattle.px_frame.proofs.image.write_picture.Given as goal
 
 abbrev pub invariant-loop-y : goal.invariant-loop-y
 invariant-loop-y g l =
-    let state = (g.A.Array.device l.array).state
+    let state = (g.A.Array.view l.array).device.state
     in let row = row_of_pixels l.scene.width (stored_pixel l.scene l.layout state l.plane)
     in record {
       front : TakesAll (g.O.Sink.state l.fn.out) (g.O.Sink.state l.out)

@@ -11,7 +11,7 @@ overflow_mul-value g c = omega (arith, c.loop-t.invariant.value, power_grows c.l
 
 pub loop-t-preserved : goal.loop-t-preserved
 loop-t-preserved g c =
-    let state = (g.A.Array.device c.args.array.now).state in
+    let state = (g.A.Array.view c.args.array.now).device.state in
     let t = c.loop-t.t in
     let place = c.args.place in
     let bits = c.word-word.result / 2 ^ (place % 64) % 256 in

@@ -4,7 +4,7 @@ use Rattle.px_frame.proofs.strip.numbers_of_rows.Goals as goal
 
 pub loop-x-preserved : goal.loop-x-preserved
 loop-x-preserved g c =
-    let state = (g.A.Array.device c.args.array.now).state in
+    let state = (g.A.Array.view c.args.array.now).device.state in
     let more = rw c.unwrap.ensures at c.try_extend_from_slice.ensures.ok in
     let count = rw c.unwrap.ensures at c.try_extend_from_slice.ensures.len in
     let inside : c.loop-x.x < 2 ^ state.tree.nx = omega (arith, c.requires.numbers.columns) in

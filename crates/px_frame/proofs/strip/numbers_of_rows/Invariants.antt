@@ -5,6 +5,6 @@ use Rattle.px_frame.proofs.strip.numbers_of_rows.Given as goal
 
 abbrev pub invariant-loop-x : goal.invariant-loop-x
 invariant-loop-x g l = record {
-  holds : HoldsRow l.numbers.items l.field (g.A.Array.device l.array).state l.x l.top;
+  holds : HoldsRow l.numbers.items l.field (g.A.Array.view l.array).device.state l.x l.top;
   size : array_vec_len l.numbers ≡ 8 * l.x;
 }

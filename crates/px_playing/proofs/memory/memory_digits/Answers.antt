@@ -4,7 +4,7 @@ use Rattle.px_playing.proofs.memory.memory_digits.Goals as goal
 
 pub loop-at-preserved : goal.loop-at-preserved
 loop-at-preserved g c =
-    let memory = (pixel_of (g.A.Array.device c.args.array.now).state c.args.x c.args.y).memory in
+    let memory = (pixel_of (g.A.Array.view c.args.array.now).device.state c.args.x c.args.y).memory in
     let at = c.loop-at.at in
     let before = c.loop-at.invariant in
     let one = c.digit.ensures ∙ ap bit_digit c.bit.ensures in

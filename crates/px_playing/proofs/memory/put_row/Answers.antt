@@ -4,7 +4,7 @@ use Rattle.px_playing.proofs.memory.put_row.Goals as goal
 
 pub returns-in_err-put-clause-err : goal.returns-in_err-put-clause-err
 returns-in_err-put-clause-err g c =
-    let state = (g.A.Array.device c.args.array.now).state in
+    let state = (g.A.Array.view c.args.array.now).device.state in
     let f : ℕ → List ℕ = λ x. line_of_pixel g.A.Array.BITS x c.args.y (bits_of (pixel_of state x c.args.y)) in
     let x = c.loop-x.x in
     let within : x < c.args.columns = omega arith in
@@ -14,7 +14,7 @@ returns-in_err-put-clause-err g c =
 
 pub loop-x-preserved : goal.loop-x-preserved
 loop-x-preserved g c =
-    let state = (g.A.Array.device c.args.array.now).state in
+    let state = (g.A.Array.view c.args.array.now).device.state in
     let f : ℕ → List ℕ = λ x. line_of_pixel g.A.Array.BITS x c.args.y (bits_of (pixel_of state x c.args.y)) in
     let line = c.as_str.ensures.value ∙ c.pixel_line.ensures in
     record {

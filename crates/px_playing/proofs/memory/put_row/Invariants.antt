@@ -4,7 +4,7 @@ use Rattle.px_playing.proofs.memory.put_row.Given as goal
 
 abbrev pub invariant-loop-x : goal.invariant-loop-x
 invariant-loop-x g l =
-    let state = (g.A.Array.device l.array).state in
+    let state = (g.A.Array.view l.array).device.state in
     record {
       put : Puts (g.O.Sink.state l.fn.out) (g.O.Sink.state l.out) l.fn.piece.bytes
           (row_lines g.A.Array.BITS l.x (λ x y. bits_of (pixel_of state x y)) l.y) l.piece.bytes;

@@ -5,7 +5,7 @@ use Rattle.px_playing.proofs.memory.write_memory.Goals as goal
 
 pub returns-in_err-put_row-clause-err : goal.returns-in_err-put_row-clause-err
 returns-in_err-put_row-clause-err g c =
-    let state = (g.A.Array.device c.args.array.now).state in
+    let state = (g.A.Array.view c.args.array.now).device.state in
     let f : ℕ → List ℕ = row_lines g.A.Array.BITS (2 ^ state.tree.nx) (λ x y. bits_of (pixel_of state x y)) in
     let y = c.loop-y.y in
     let columns : c.size-nx.result.0 ≡ state.tree.nx = ap (λ s. s.0) c.size-nx.ensures.size in
@@ -18,7 +18,7 @@ returns-in_err-put_row-clause-err g c =
 
 pub loop-y-preserved : goal.loop-y-preserved
 loop-y-preserved g c =
-    let state = (g.A.Array.device c.args.array.now).state in
+    let state = (g.A.Array.view c.args.array.now).device.state in
     let f : ℕ → List ℕ = row_lines g.A.Array.BITS (2 ^ c.size-nx.result.0) (λ x y. bits_of (pixel_of state x y)) in
     let row = rw c.power.ensures at c.in_ok-put_row.ensures.ok in
     record {
@@ -28,7 +28,7 @@ loop-y-preserved g c =
 
 pub returns-clause-ok : goal.returns-clause-ok
 returns-clause-ok g c =
-    let state = (g.A.Array.device c.args.array.now).state in
+    let state = (g.A.Array.view c.args.array.now).device.state in
     let f : ℕ → List ℕ = row_lines g.A.Array.BITS (2 ^ state.tree.nx) (λ x y. bits_of (pixel_of state x y)) in
     let columns : c.size-nx.result.0 ≡ state.tree.nx = ap (λ s. s.0) c.size-nx.ensures.size in
     let rows : c.size-nx.result.1 ≡ state.tree.ny = ap (λ s. s.1) c.size-nx.ensures.size in
@@ -39,7 +39,7 @@ returns-clause-ok g c =
 
 pub returns-clause-err : goal.returns-clause-err
 returns-clause-err g c =
-    let state = (g.A.Array.device c.args.array.now).state in
+    let state = (g.A.Array.view c.args.array.now).device.state in
     let f : ℕ → List ℕ = row_lines g.A.Array.BITS (2 ^ state.tree.nx) (λ x y. bits_of (pixel_of state x y)) in
     let columns : c.size-nx.result.0 ≡ state.tree.nx = ap (λ s. s.0) c.size-nx.ensures.size in
     let rows : c.size-nx.result.1 ≡ state.tree.ny = ap (λ s. s.1) c.size-nx.ensures.size in

@@ -4,7 +4,7 @@ use Rattle.px_playing.proofs.memory.write_memory.Given as goal
 
 abbrev pub invariant-loop-y : goal.invariant-loop-y
 invariant-loop-y g l =
-    let state = (g.A.Array.device l.array).state in
+    let state = (g.A.Array.view l.array).device.state in
     record {
       put : Puts (g.O.Sink.state l.fn.out) (g.O.Sink.state l.out) []
           (flat_map (row_lines g.A.Array.BITS (2 ^ l.nx) (λ x y. bits_of (pixel_of state x y)))

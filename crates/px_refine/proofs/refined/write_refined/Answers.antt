@@ -12,7 +12,7 @@ enter_row-requires g c = grind (arith, block_fits)
 
 pub mean_row-row-requires-clause-faces : goal.mean_row-row-requires-clause-faces
 mean_row-row-requires-clause-faces g c =
-    let state = (g.A.Array.device c.args.array.now).state in
+    let state = (g.A.Array.view c.args.array.now).device.state in
     let s = c.args.s in
     let lawful = c.width-in-loop-y.ensures.lawful in
     let above : c.loop-y.y < c.args.fine.now.height / 2 ^ s =
@@ -25,7 +25,7 @@ mean_row-row-requires-clause-faces g c =
 
 pub returns-in_err-write_whole-2-clause-err : goal.returns-in_err-write_whole-2-clause-err
 returns-in_err-write_whole-2-clause-err g c =
-    let state = (g.A.Array.device c.args.array.now).state
+    let state = (g.A.Array.view c.args.array.now).device.state
     in let s = c.args.s
     in let width : c.width.result / c.parts-across.result ≡ c.args.fine.now.width / 2 ^ s =
     rw (c.width.ensures.value, c.parts-across.ensures.value) refl
@@ -45,7 +45,7 @@ returns-in_err-write_whole-2-clause-err g c =
 
 pub loop-y-preserved : goal.loop-y-preserved
 loop-y-preserved g c =
-    let state = (g.A.Array.device c.args.array.now).state in
+    let state = (g.A.Array.view c.args.array.now).device.state in
     let s = c.args.s in
     let width = c.args.fine.now.width / 2 ^ s in
     let height = c.args.fine.now.height / 2 ^ s in

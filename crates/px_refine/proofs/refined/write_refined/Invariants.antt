@@ -8,11 +8,12 @@ use Rattle.px_refine.proofs.refined.write_refined.Given as goal
 
 abbrev pub invariant-loop-y : goal.invariant-loop-y
 invariant-loop-y g l =
-    let row = row_of_pixels l.width (mean_pixel l.s (stored_colour l.fine l.layout (g.A.Array.device l.array).state))
+    let row = row_of_pixels l.width
+    (mean_pixel l.s (stored_colour l.fine l.layout (g.A.Array.view l.array).device.state))
     in record {
       front : TakesAll (g.O.Sink.state l.fn.out) (g.O.Sink.state l.out)
           (header l.width l.height ++ flat_map row (range_with_len 0 l.y));
       strip : (2 ^ l.s * l.y) % 8 ≢ 0
-          → HoldsRow l.strip l.faces (g.A.Array.device l.array).state l.fine.width (2 ^ l.s * l.y);
+          → HoldsRow l.strip l.faces (g.A.Array.view l.array).device.state l.fine.width (2 ^ l.s * l.y);
       calm : (g.O.Sink.state l.out).faults ≡ (g.O.Sink.state l.fn.out).faults;
     }

@@ -6,7 +6,7 @@ use Rattle.px_shadow.proofs.masks.write_masks.Goals as goal
 
 pub returns-in_err-write_whole-2-clause-err : goal.returns-in_err-write_whole-2-clause-err
 returns-in_err-write_whole-2-clause-err g c =
-    let state = (g.A.Array.device c.args.array.now).state
+    let state = (g.A.Array.view c.args.array.now).device.state
     in let above : c.loop-y.y < c.args.scene.now.height = omega (arith, c.height-y-end.ensures.value)
     in let inside : c.loop-y.y < 2 ^ state.tree.ny = omega (arith, above, c.requires.rows)
     in let held = rw c.width-in-loop-y.ensures.value at c.enter_row.ensures
@@ -17,7 +17,7 @@ returns-in_err-write_whole-2-clause-err g c =
 
 pub loop-y-preserved : goal.loop-y-preserved
 loop-y-preserved g c =
-    let state = (g.A.Array.device c.args.array.now).state
+    let state = (g.A.Array.view c.args.array.now).device.state
     in let y = c.loop-y.y
     in let width = c.args.scene.now.width
     in let field = c.lights_field-field.result

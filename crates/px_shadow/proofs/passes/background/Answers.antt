@@ -12,7 +12,7 @@ carry_out-requires-in-loop-t g c =
     let part = c.b_number-number.ensures.field in
     let low : c.loop-t.t < l.number_bits = omega (arith, c.loop-t-test.true, ap (λ (f : Field). f.len) part) in
     rw part
-    (each_first _ _ _ _ (bit_test l) xs c.loop-t.t c.loop-t.t 0 _ _ _ _
+    (each_first _ (bit_test l) xs c.loop-t.t c.loop-t.t 0 _ _ _ _
     (omega (arith, low, length-range_with_len 0 l.number_bits)) (number_at l.number_bits c.loop-t.t low)
     c.loop-t.invariant)
 
@@ -25,7 +25,7 @@ loop-t-preserved g c =
     let xs = range_with_len 0 l.number_bits in
     let part = c.b_number-number.ensures.field in
     let low : c.loop-t.t < l.number_bits = omega (arith, c.loop-t-test.true, ap (λ (f : Field). f.len) part) in
-    each_next _ _ _ _ (bit_test l) xs c.loop-t.t c.loop-t.t 0 _ _ _ _ _
+    each_next _ (bit_test l) xs c.loop-t.t c.loop-t.t 0 _ _ _ _ _
     (omega (arith, low, length-range_with_len 0 l.number_bits)) (number_at l.number_bits c.loop-t.t low)
     c.loop-t.invariant (rw part at c.carry_out-in-loop-t.ensures)
 

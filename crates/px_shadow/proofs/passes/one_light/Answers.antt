@@ -1,6 +1,6 @@
 use Rattle.px_num.proofs.Basics.{◌<◌, true, [], ◌∷◌, ℕ, List, length, get_or, ap, subst, sym, arith, ◌∙◌}
 use Rattle.px_shadow.proofs.Words.{CanCarryOut, CarriesOut, depths_of, end_of, light_bit, light_passes, Macro}
-use Rattle.px_shadow.proofs.Words.{solid_of, solid_passes, solids, view_by}
+use Rattle.px_shadow.proofs.Words.{solid_of, solid_passes, solids}
 use Rattle.px_shadow.proofs.DeviceLemmas.{all_left, can_first, each_first, each_next, left_next}
 use Rattle.px_shadow.proofs.StepLemmas.{all_known, same_solid}
 use Rattle.px_macro.specs.declared.operation.Macro.TheVariants as m
@@ -13,9 +13,9 @@ carry_out-requires g c =
 
 pub loop-solid-init : goal.loop-solid-init
 loop-solid-init g c =
-    let start = all_left _ _ _ _ (light_passes c.args.scene.now c.args.layout.now c.args.light c.args.solids.now) _
+    let start = all_left _ (light_passes c.args.scene.now c.args.layout.now c.args.light c.args.solids.now) _
     c.requires.can in
-    left_next _ _ _ _ _ (m.All ∷ m.SetBit (light_bit c.args.layout.now c.args.light) true ∷ []) _ _ _ _ start
+    left_next _ _ (m.All ∷ m.SetBit (light_bit c.args.layout.now c.args.light) true ∷ []) _ _ _ _ start
     (rw c.light_bit.ensures at c.carry_out.ensures)
 
 pub solid_at-requires : goal.solid_at-requires
@@ -31,8 +31,8 @@ one_solid-requires-clause-can g c =
     let there : i < length (solids c.args.solids.now) =
     omega (arith, ap (λ (qs : List ℕ). length qs) items, c.loop-solid-test.true) in
     let same = same_solid c.args.layout.now c.args.light _ _ _ _ c.end.ensures.value c.solid_at.ensures in
-    subst (λ ms. CanCarryOut g.A.Array.BITS ms (g.A.Array.device c.loop-solid.array)) (sym same)
-    (each_first _ _ _ _ f (solids c.args.solids.now) i _ 0 _ _ _ _ there
+    subst (λ ms. CanCarryOut g.A.Array.BITS ms (g.A.Array.view c.loop-solid.array).device) (sym same)
+    (each_first _ f (solids c.args.solids.now) i _ 0 _ _ _ _ there
     (ap (λ (qs : List ℕ). get_or qs i 0) (sym items)) c.loop-solid.invariant)
 
 pub loop-solid-preserved : goal.loop-solid-preserved
@@ -45,7 +45,7 @@ loop-solid-preserved g c =
     let there : i < length (solids c.args.solids.now) =
     omega (arith, ap (λ (qs : List ℕ). length qs) items, c.loop-solid-test.true) in
     let same = same_solid c.args.layout.now c.args.light _ _ _ _ c.end.ensures.value c.solid_at.ensures in
-    each_next _ _ _ _ f (solids c.args.solids.now) i _ 0 _ _ _ _ _ there
+    each_next _ f (solids c.args.solids.now) i _ 0 _ _ _ _ _ there
     (ap (λ (qs : List ℕ). get_or qs i 0) (sym items)) c.loop-solid.invariant
-    (subst (λ ms. CarriesOut (view_by g.A.Array.device g.A.Array.slots g.A.Array.work) ms c.loop-solid.array
-    c.one_solid.new.array) same c.one_solid.ensures)
+    (subst (λ ms. CarriesOut ms (g.A.Array.view c.loop-solid.array)
+    (g.A.Array.view c.one_solid.new.array)) same c.one_solid.ensures)

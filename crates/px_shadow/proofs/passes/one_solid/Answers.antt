@@ -19,7 +19,7 @@ one_face-requires-clause-can g c =
     let s = c.args.solid.now in
     let there : c.loop-face.face < face_count s =
     omega (arith, c.loop-face-test.true, c.face_count-face-end.ensures.count) in
-    each_first _ _ _ _ (stored_turn c.args.layout.now c.args.«end» s) (range_with_len 0 (face_count s))
+    each_first _ (stored_turn c.args.layout.now c.args.«end» s) (range_with_len 0 (face_count s))
     c.loop-face.face c.loop-face.face 0 _ _ _ _
     (omega (arith, there, length-range_with_len 0 (face_count s))) (number_at (face_count s) c.loop-face.face there)
     c.loop-face.invariant
@@ -27,9 +27,9 @@ one_face-requires-clause-can g c =
 pub loop-face-init : goal.loop-face-init
 loop-face-init g c =
     let par : c.layout.inside.par ≡ c.args.layout.now.par = ap (λ (v : LayoutView). v.par) c.layout.view_is in
-    let start = all_left _ _ _ _ (solid_passes c.args.layout.now c.args.«end» c.args.light c.args.solid.now) _
+    let start = all_left _ (solid_passes c.args.layout.now c.args.«end» c.args.light c.args.solid.now) _
     c.requires.can in
-    left_next _ _ _ _ _ (m.All ∷ m.SetBit c.args.layout.now.par false ∷ []) _ _ _ _ start
+    left_next _ _ (m.All ∷ m.SetBit c.args.layout.now.par false ∷ []) _ _ _ _ start
     (rw par at c.carry_out.ensures)
 
 pub loop-face-preserved : goal.loop-face-preserved
@@ -37,7 +37,7 @@ loop-face-preserved g c =
     let s = c.args.solid.now in
     let there : c.loop-face.face < face_count s =
     omega (arith, c.loop-face-test.true, c.face_count-face-end.ensures.count) in
-    each_next _ _ _ _ (stored_turn c.args.layout.now c.args.«end» s) (range_with_len 0 (face_count s))
+    each_next _ (stored_turn c.args.layout.now c.args.«end» s) (range_with_len 0 (face_count s))
     c.loop-face.face c.loop-face.face 0 _ _ _ _ _
     (omega (arith, there, length-range_with_len 0 (face_count s))) (number_at (face_count s) c.loop-face.face there)
     c.loop-face.invariant

@@ -1,7 +1,7 @@
 use Rattle.px_num.proofs.Basics.{◌≤◌, List, length, ap, subst, sym, arith, ◌∙◌}
 use Rattle.px_shadow.proofs.Words.{CanCarryOut, carried_out, layout_of, MAX_LIGHTS, need_with, shadow_passes, SolidSet}
 use Rattle.px_shadow.specs.Shaded.{IsShaded}
-use Rattle.px_shadow.proofs.ArrayLemmas.{can_shade, clocks_made, is_shaded}
+use Rattle.px_shadow.proofs.ArrayLemmas.{can_shade, clocks_made, grid_law, is_shaded, shaded_law}
 use Rattle.px_shadow.proofs.passes.shade.Given.{Over}
 use Rattle.px_shadow.proofs.passes.shade.Goals as goal
 
@@ -10,29 +10,26 @@ all_lights-requires-clause-can g c =
     let bits = g.A.Array.BITS in
     let scene = c.args.scene.now in
     let lights = c.args.lights.now.items in
-    let device = g.A.Array.device c.args.array.now in
+    let device = (g.A.Array.view c.args.array.now).device in
     let layout = c.requires.layout in
-    let passes = c.law_of_shadow_passes.ensures in
     let enough : need_with (layout_of scene) (length lights) ≤ bits =
     subst (λ l. need_with l (length lights) ≤ bits) layout c.requires.need in
     let few : length lights ≤ MAX_LIGHTS =
     omega (arith, c.as_slice.ensures.fits, ap (λ (sets : List SolidSet). length sets) c.as_slice.ensures.value) in
     subst (λ sets. CanCarryOut bits (shadow_passes scene c.args.layout.now sets) device) (sym c.as_slice.ensures.value)
     (subst (λ l. CanCarryOut bits (shadow_passes scene l lights) device) (sym layout)
-    (can_shade c.laws_of_passes.ensures.layout c.laws_of_operations.ensures.more passes.lawful passes.few
-    c.law_of_clocks.ensures.bound c.law_of_sizes.ensures
-    bits scene lights device c.laws_of_scenes.ensures.scene c.laws_of_scenes.ensures.solids c.requires.products
-    c.requires.at c.requires.known enough few))
+    (can_shade bits scene lights device c.laws_of_scenes.ensures.scene c.laws_of_scenes.ensures.solids
+    c.requires.products c.requires.at c.requires.known enough few))
 
 made : (g : Over) (c : goal.After-clocks-clocks g) → IsShaded g.A.Array.BITS c.args.scene.now c.args.lights.now.items
-    (g.A.Array.device c.all_lights.new.array)
+    (g.A.Array.view c.all_lights.new.array).device
 made g c =
     let bits = g.A.Array.BITS in
     let scene = c.args.scene.now in
     let lights = c.args.lights.now.items in
-    let device = g.A.Array.device c.args.array.now in
+    let device = (g.A.Array.view c.args.array.now).device in
     let layout = c.requires.layout in
-    is_shaded bits scene lights device (g.A.Array.device c.all_lights.new.array) c.requires.at
+    is_shaded bits scene lights device (g.A.Array.view c.all_lights.new.array).device c.requires.at
     (subst (λ l. need_with l (length lights) ≤ bits) layout c.requires.need)
     (c.all_lights.ensures.device
     ∙ ap (λ sets. carried_out (shadow_passes scene c.args.layout.now sets) device) c.as_slice.ensures.value
@@ -42,12 +39,12 @@ pub returns-clause-shaded : goal.returns-clause-shaded
 returns-clause-shaded g c = made g c
 
 pub returns-clause-lights : goal.returns-clause-lights
-returns-clause-lights g c = grind (arith, made)
+returns-clause-lights g c = grind (arith, made, shaded_law)
 
 pub returns-clause-grid : goal.returns-clause-grid
 returns-clause-grid g c =
-    c.laws_of_shadows.ensures.grid g.A.Array.BITS c.args.scene.now c.args.lights.now.items
-    (g.A.Array.device c.all_lights.new.array) c.laws_of_scenes.ensures.scene (made g c)
+    grid_law g.A.Array.BITS c.args.scene.now c.args.lights.now.items
+    (g.A.Array.view c.all_lights.new.array).device c.laws_of_scenes.ensures.scene (made g c)
 
-pub returns-clause-work : goal.returns-clause-work
-returns-clause-work g c = grind (arith, clocks_made, made)
+pub returns-clause-worked : goal.returns-clause-worked
+returns-clause-worked g c = grind (arith, clocks_made, made)

@@ -3,19 +3,23 @@ use Rattle.px_shadow.proofs.Words.{lit_drawable, mask_image, serves_front, serve
 use Rattle.px_shadow.proofs.ShadowLemmas.{lit_is, stop_shades}
 use Rattle.px_shadow.proofs.shadow.shade_scene.Goals as goal
 
-pub returns-in-Ok-clause-serves : goal.returns-in-Ok-clause-serves
-returns-in-Ok-clause-serves g c =
-    let bytes = mask_image c.args.scene.now c.args.lights.now.items in
-    let is = lit_is g.A.Array.BITS c.args.scene.now c.args.lights.now.items _ c.len.ensures.value
-    c.in_ok-job.ensures.fits in
-    serves_whole _ bytes _ _ _ is c.in-Ok.ensures.ok c.in-Ok.ensures.end c.in-Ok.ensures.cause.calm
-
 pub returns-clause-serves : goal.returns-clause-serves
 returns-clause-serves g c =
     let bytes = mask_image c.args.scene.now c.args.lights.now.items in
     let is = lit_is g.A.Array.BITS c.args.scene.now c.args.lights.now.items _ c.len.ensures.value
     c.in_ok-job.ensures.fits in
-    serves_front _ bytes _ _ is c.in-Err.ensures.err c.in-Err.ensures.cause.failed
+    let sent = c.in_ok-deliver_masks.ensures in
+    serves_whole _ bytes _ _ _ is sent.ok sent.end sent.cause.calm
+
+pub returns-in_err-deliver_masks-clause-serves : goal.returns-in_err-deliver_masks-clause-serves
+returns-in_err-deliver_masks-clause-serves g c =
+    let bytes = mask_image c.args.scene.now c.args.lights.now.items in
+    let is = lit_is g.A.Array.BITS c.args.scene.now c.args.lights.now.items _ c.len.ensures.value
+    c.in_ok-job.ensures.fits in
+    let sent = c.in_err-deliver_masks.ensures in
+    let p = err_from_is_err_and c.from_residual-in_err-deliver_masks.result
+    c.from_residual-in_err-deliver_masks.ensures.1 in
+    rw (p.1, p.2) (serves_front _ bytes _ _ is sent.err sent.cause.failed)
 
 pub returns-in_err-job-clause-serves : goal.returns-in_err-job-clause-serves
 returns-in_err-job-clause-serves g c =

@@ -5,7 +5,7 @@ use Rattle.px_state.proofs.columns.take_rows.Goals as goal
 
 pub loop-b-preserved : goal.loop-b-preserved
 loop-b-preserved g c =
-    let s = (g.A.Array.device c.args.array.now).state in
+    let s = (g.A.Array.view c.args.array.now).device.state in
     let each : c.column_words-each.result ≡ column_words s.tree.ny =
     c.column_words-each.ensures.words ∙ ap column_words (sym c.requires.size.rows) in
     let held = rw each at c.block_of-block.ensures in

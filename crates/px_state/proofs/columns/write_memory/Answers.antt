@@ -8,7 +8,7 @@ use Rattle.px_state.proofs.columns.write_memory.Goals as goal
 pub loop-at-preserved : goal.loop-at-preserved
 loop-at-preserved g c =
     let shape = c.args.shape.now in
-    let s = (g.A.Array.device c.args.array.now).state in
+    let s = (g.A.Array.view c.args.array.now).device.state in
     let at = c.loop-at.at in
     let plane = shape.plane in
     let before = c.loop-at.invariant in

@@ -5,7 +5,7 @@ use Rattle.px_state.proofs.columns.write_memory.Given as goal
 
 abbrev pub invariant-loop-at : goal.invariant-loop-at
 invariant-loop-at g l =
-    let s = (g.A.Array.device l.array).state in
+    let s = (g.A.Array.view l.array).device.state in
     record {
       bit : (k i : ℕ) → k < l.at * l.shape.plane → i < 64 → nat_bit (get_or l.words k 0) i ≡ state_bit l.shape.bits s
           k i;

@@ -10,7 +10,7 @@ make_micros-requires-clause-grid g c =
     let l = c.args.listing.now in
     let before = c.loop-m.invariant in
     let kept : IsListing l = subst IsListing c.listing.view_is c.listing.invariant in
-    let device = g.A.Array.device c.loop-m.array in
+    let device = (g.A.Array.view c.loop-m.array).device in
     let columns : device.state.tree.nx ≡ l.nx = columns_are g.A.Array.BITS l (c.args.clock - c.loop-m.left) _
     before.at in
     let rows : device.state.tree.ny ≡ l.ny = rows_are g.A.Array.BITS l (c.args.clock - c.loop-m.left) _ before.at in
@@ -27,7 +27,7 @@ make_micros-requires-clause-within g c =
     let within : i < length l.macros = rw items at c.loop-m-test.true in
     let op = get_or l.macros i m.All in
     let here = here_in l.macros i within in
-    let device = g.A.Array.device c.loop-m.array in
+    let device = (g.A.Array.view c.loop-m.array).device in
     let columns : device.state.tree.nx ≡ l.nx = columns_are g.A.Array.BITS l (c.args.clock - c.loop-m.left) _
     before.at in
     let rows : device.state.tree.ny ≡ l.ny = rows_are g.A.Array.BITS l (c.args.clock - c.loop-m.left) _ before.at in
@@ -46,7 +46,7 @@ loop-m-preserved g c =
     let within : i < length l.macros = rw items at c.loop-m-test.true in
     let op = get_or l.macros i m.All in
     let here = here_in l.macros i within in
-    let device = g.A.Array.device c.loop-m.array in
+    let device = (g.A.Array.view c.loop-m.array).device in
     let columns : device.state.tree.nx ≡ l.nx = columns_are g.A.Array.BITS l (c.args.clock - c.loop-m.left) _
     before.at in
     let rows : device.state.tree.ny ≡ l.ny = rows_are g.A.Array.BITS l (c.args.clock - c.loop-m.left) _ before.at in
@@ -62,6 +62,8 @@ loop-m-preserved g c =
           before.low is clocked);
       made = omega (arith, made, is, before.made, before.low, after);
       low = omega (arith, before.low);
-      slots = c.make_micros.ensures.slots ∙ before.slots;
-      work = omega (arith, made, is, c.make_micros.ensures.work, before.work, before.low);
+      worked = record {
+        slots = c.make_micros.ensures.worked.slots ∙ before.worked.slots;
+        work = omega (arith, made, is, c.make_micros.ensures.worked.work, before.worked.work, before.low);
+      };
     }

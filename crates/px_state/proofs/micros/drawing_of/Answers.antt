@@ -1,17 +1,20 @@
-use Rattle.px_num.proofs.Basics.{Err, ap}
+use Rattle.px_num.proofs.Basics.{Err, ap, err_from_is_err_and}
 use Rattle.px_state.proofs.RefusalLemmas.{job_refused, job_small, not_refused}
 use Rattle.px_state.proofs.micros.drawing_of.Goals as goal
 
-pub returns-in-Ok-clause-ok : goal.returns-in-Ok-clause-ok
-returns-in-Ok-clause-ok c =
-    not_refused c.args.bits c.args.scene.now c.in-Ok.ensures.enough c.in-Ok.ensures.lawful
+pub returns-clause-ok : goal.returns-clause-ok
+returns-clause-ok c =
+    not_refused c.args.bits c.args.scene.now c.in_ok-drawing_of.ensures.enough c.in_ok-drawing_of.ensures.lawful
 
-pub returns-in-Err-clause-err : goal.returns-in-Err-clause-err
-returns-in-Err-clause-err c =
-    rw c.from.ensures (job_refused c.args.bits c.args.scene.now c.in-Err.fault
-    (λ need is. c.in-Err.ensures.need need (ap Err is)) (λ count is. c.in-Err.ensures.many count (ap Err is)))
+pub returns-in_err-drawing_of-clause-err : goal.returns-in_err-drawing_of-clause-err
+returns-in_err-drawing_of-clause-err c =
+    let p = err_from_is_err_and c.from_residual.result c.from_residual.ensures.1 in
+    rw (p.1, p.2) (job_refused c.args.bits c.args.scene.now _
+    (λ need is. c.in_err-drawing_of.ensures.need need (ap Err is))
+    (λ count is. c.in_err-drawing_of.ensures.many count (ap Err is)))
 
-pub returns-in-Err-clause-small : goal.returns-in-Err-clause-small
-returns-in-Err-clause-small c =
-    rw c.from.ensures (job_small c.args.bits c.args.scene.now c.in-Err.fault
-    (λ count is. c.in-Err.ensures.many count (ap Err is)))
+pub returns-in_err-drawing_of-clause-small : goal.returns-in_err-drawing_of-clause-small
+returns-in_err-drawing_of-clause-small c =
+    let p = err_from_is_err_and c.from_residual.result c.from_residual.ensures.1 in
+    rw (p.1, p.2) (job_small c.args.bits c.args.scene.now _
+    (λ count is. c.in_err-drawing_of.ensures.many count (ap Err is)))

@@ -1,5 +1,6 @@
-use Rattle.px_num.proofs.Basics.{◌≡◌, Some, sym, ◌∙◌, arith, slice_get}
+use Rattle.px_num.proofs.Basics.{◌≡◌, Some, refl, sym, ◌∙◌, arith, slice_get}
 use Rattle.px_sched.specs.Passes.{passes}
+use Rattle.px_sched.proofs.PassesLaws.{passes_are_few}
 use Rattle.px_sched.specs.Layouts.{layout_of, need_of}
 use Rattle.px_macro.proofs.MacroLemmas.{is_lawful_in_more}
 use Rattle.px_control.proofs.ProgramLemmas.{good_program}
@@ -108,3 +109,16 @@ returns-clause-micros c j within =
     let all : start_in_listing l c.loop-m.cursor.given ≡ total_of_listing l =
     begins_all l c.loop-m.cursor.given (omega (arith, c.in_default.ensures.end)) in
     before.put j within (omega (arith, within, before.same, before.start, all, c.requires.within))
+
+pub loop-m-init : goal.loop-m-init
+loop-m-init c =
+    let given = c.start-cursor.ensures.given in
+    record {
+      stands = c.start-cursor.ensures.stands c.args.scene.now (omega (
+        arith,
+        passes_are_few c.args.scene.now c.laws_of_scenes.ensures.solids c.requires.few,
+      ));
+      start = rw given refl;
+      put = λ j within low. absurd (omega (arith, low));
+      same = refl;
+    }

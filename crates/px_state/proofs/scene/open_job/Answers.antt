@@ -1,23 +1,26 @@
-use Rattle.px_num.proofs.Basics.{Err, ap}
+use Rattle.px_num.proofs.Basics.{Err, ap, err_from_is_err_and}
 use Rattle.px_playing.specs.PassesText.{passes_listing}
 use Rattle.px_state.proofs.RefusalLemmas.{job_leaves, job_refused, job_small, not_refused}
 use Rattle.px_state.proofs.scene.open_job.Goals as goal
 
-pub returns-in-Ok-clause-ok : goal.returns-in-Ok-clause-ok
-returns-in-Ok-clause-ok g c =
-    not_refused g.A.Array.BITS c.args.scene.now c.in-Ok.ensures.at.enough c.in-Ok.ensures.lawful
+pub returns-clause-ok : goal.returns-clause-ok
+returns-clause-ok g c =
+    not_refused g.A.Array.BITS c.args.scene.now c.in_ok-open.ensures.at.enough c.in_ok-open.ensures.lawful
 
-pub returns-in-Err-clause-err : goal.returns-in-Err-clause-err
-returns-in-Err-clause-err g c =
-    rw c.from.ensures (job_refused g.A.Array.BITS c.args.scene.now c.in-Err.fault
-    (λ need is. c.in-Err.ensures.need need (ap Err is)) (λ count is. c.in-Err.ensures.many count (ap Err is)))
+pub returns-in_err-open-clause-err : goal.returns-in_err-open-clause-err
+returns-in_err-open-clause-err g c =
+    let p = err_from_is_err_and c.from_residual.result c.from_residual.ensures.1 in
+    rw (p.1, p.2) (job_refused g.A.Array.BITS c.args.scene.now _
+    (λ need is. c.in_err-open.ensures.need need (ap Err is)) (λ count is. c.in_err-open.ensures.many count (ap Err is)))
 
-pub returns-in-Err-clause-refused : goal.returns-in-Err-clause-refused
-returns-in-Err-clause-refused g c =
-    rw c.from.ensures (job_leaves c.in-Err.fault g.A.Array.BITS (passes_listing c.args.scene.now) _ _
-    c.in-Err.ensures.array)
+pub returns-in_err-open-clause-refused : goal.returns-in_err-open-clause-refused
+returns-in_err-open-clause-refused g c =
+    let p = err_from_is_err_and c.from_residual.result c.from_residual.ensures.1 in
+    rw (p.1, p.2) (job_leaves _ g.A.Array.BITS (passes_listing c.args.scene.now) _ _
+    c.in_err-open.ensures.array)
 
-pub returns-in-Err-clause-small : goal.returns-in-Err-clause-small
-returns-in-Err-clause-small g c =
-    rw c.from.ensures (job_small g.A.Array.BITS c.args.scene.now c.in-Err.fault
-    (λ count is. c.in-Err.ensures.many count (ap Err is)))
+pub returns-in_err-open-clause-small : goal.returns-in_err-open-clause-small
+returns-in_err-open-clause-small g c =
+    let p = err_from_is_err_and c.from_residual.result c.from_residual.ensures.1 in
+    rw (p.1, p.2) (job_small g.A.Array.BITS c.args.scene.now _
+    (λ count is. c.in_err-open.ensures.many count (ap Err is)))

@@ -1,4 +1,5 @@
 use Rattle.px_num.proofs.Basics.{◌≡◌, length, refl, subst, ap, ◌∙◌, arith}
+use Rattle.px_array.proofs.WorkLaws.{still_once}
 use Rattle.px_array.specs.Arrays.{Device}
 use Rattle.px_sched.specs.Passes.{passes}
 use Rattle.px_control.specs.Program as program
@@ -51,7 +52,7 @@ write_words-requires-clause-is_open g c =
       c.in_default.ensures.clock,
       c.total_clocks-clocks.ensures.value,
     ) in
-    let at : IsAt bits scene c.args.clock (g.A.Array.device c.advance.new.array) =
+    let at : IsAt bits scene c.args.clock (g.A.Array.view c.advance.new.array).device =
     rw (scene_is, clock_is) at c.advance.ensures.at in
     let columns = columns_are bits (passes_listing scene) c.args.clock _ (device_is bits scene c.args.clock _ at) in
     omega (arith, columns, scene_grid scene c.laws_of_scenes.ensures.scene)
@@ -72,7 +73,7 @@ write_words-requires-clause-room g c =
       c.in_default.ensures.clock,
       c.total_clocks-clocks.ensures.value,
     ) in
-    let at : IsAt bits scene c.args.clock (g.A.Array.device c.advance.new.array) =
+    let at : IsAt bits scene c.args.clock (g.A.Array.view c.advance.new.array).device =
     rw (scene_is, clock_is) at c.advance.ensures.at in
     let device = device_is bits scene c.args.clock _ at in
     let due : c.room_of-due.result ≡ room_of bits l.nx l.ny =
@@ -135,7 +136,7 @@ returns-clause-words g c =
       c.in_default.ensures.clock,
       c.total_clocks-clocks.ensures.value,
     ) in
-    let at : IsAt bits scene c.args.clock (g.A.Array.device c.advance.new.array) =
+    let at : IsAt bits scene c.args.clock (g.A.Array.view c.advance.new.array).device =
     rw (scene_is, clock_is) at c.advance.ensures.at in
     subst (λ (d : Device). BeginsWithState bits d.state c.args.words.now c.write_words.new.words)
     (device_is bits scene c.args.clock _ at) c.write_words.ensures.words
@@ -156,24 +157,19 @@ returns-clause-array g c =
       c.in_default.ensures.clock,
       c.total_clocks-clocks.ensures.value,
     ) in
-    let at : IsAt bits scene c.args.clock (g.A.Array.device c.advance.new.array) =
+    let at : IsAt bits scene c.args.clock (g.A.Array.view c.advance.new.array).device =
     rw (scene_is, clock_is) at c.advance.ensures.at in
     let device = device_is bits scene c.args.clock _ at in
     let opened = device_is bits scene 0 _ c.in_ok-job.ensures.at in
     record {
       device = device;
-      once = record {
-        slots = c.advance.ensures.slots ∙ once.slots;
-        work = omega (
-          arith,
-          c.advance.ensures.work,
-          c.advance.ensures.clock,
-          clock_is,
-          job.1,
-          once.work,
-          ap (λ (d : Device). d.clocks) opened,
-          ap (λ (d : Device). d.clocks) device,
-          c.ranges.clock.fits,
-        );
-      };
+      once = still_once _ _ _ c.advance.ensures.worked once
+          (omega (
+            arith,
+            c.advance.ensures.clock,
+            clock_is,
+            job.1,
+            ap (λ (d : Device). d.clocks) opened,
+            ap (λ (d : Device). d.clocks) device,
+          )) (omega (arith, ap (λ (d : Device). d.clocks) device, c.ranges.clock.fits));
     }

@@ -10,7 +10,7 @@ power-requires g c =
 
 pub node-requires-clause-in_tree : goal.node-requires-clause-in_tree
 node-requires-clause-in_tree g c =
-    let tree = (g.A.Array.device c.args.array.now).state.tree in
+    let tree = (g.A.Array.view c.args.array.now).device.state.tree in
     let level = c.level_of-level.ensures.low in
     let below = exponent_below c.level_of-level.result (tree.nx + tree.ny + 1)
     (omega (arith, level, c.requires.within)) in

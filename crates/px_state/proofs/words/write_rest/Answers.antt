@@ -9,7 +9,7 @@ use Rattle.px_state.proofs.words.write_rest.Goals as goal
 pub loop-k-preserved : goal.loop-k-preserved
 loop-k-preserved g c =
     let bits = g.A.Array.BITS in
-    let s = (g.A.Array.device c.args.array.now).state in
+    let s = (g.A.Array.view c.args.array.now).device.state in
     let k = c.loop-k.k in
     let words = c.loop-k.words in
     let before = c.loop-k.invariant in

@@ -5,7 +5,7 @@ use Rattle.px_state.proofs.words.write_rest.Given as goal
 
 abbrev pub invariant-loop-k : goal.invariant-loop-k
 invariant-loop-k g l =
-    let s = (g.A.Array.device l.array).state in
+    let s = (g.A.Array.view l.array).device.state in
     let room = room_of g.A.Array.BITS s.tree.nx s.tree.ny in
     record {
       bit : (j i : ℕ) → j < l.k → i < 64 → nat_bit (get_or l.words j 0) i ≡ state_bit g.A.Array.BITS s j i;

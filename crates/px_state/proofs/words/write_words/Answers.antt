@@ -13,7 +13,7 @@ write_rest-requires-clause-first g c =
 
 pub returns-clause-words : goal.returns-clause-words
 returns-clause-words g c =
-    let tree = (g.A.Array.device c.args.array.now).state.tree in
+    let tree = (g.A.Array.view c.args.array.now).device.state.tree in
     let size = c.size-nx.ensures.size in
     let is = c.of-shape.ensures in
     let first = memory_first c.of-shape.result g.A.Array.BITS tree.nx tree.ny is.shape (is.bits ∙ c.BITS.ensures)

@@ -15,10 +15,10 @@ loop-tile-preserved g c =
     omega (arith, c.tile_count-tile-end.ensures) in
     let law = c.laws_of_scenes.ensures.scene in
     let numbers = c.as_mut_slice-numbers.ensures in
-    let put = rw numbers.value at c.in_default.ensures.ok in
+    let put = rw numbers.value at c.in_ok-draw_tile.ensures.ok in
     let more = tiles_more c.args.scene.now c.args.width c.args.height law.sizes.some_width law.sizes.some_height
     c.requires.size
-    c.laws_of_tiles.ensures c.loop-tile.tile _ _ c.loop-tile.invariant.tiles put in
+    c.loop-tile.tile _ _ c.loop-tile.invariant.tiles put in
     let old = c.loop-tile.found.items in
     let new = c.draw_tile.new.found in
     let back : take c.loop-tile.found.len (new ++ drop (length new) old) ≡ new =

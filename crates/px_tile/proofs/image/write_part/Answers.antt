@@ -8,16 +8,14 @@ write_pixels-requires g c = grind (arith, all_small)
 
 pub returns-clause-ok : goal.returns-clause-ok
 returns-clause-ok g c =
-    let image = image_is c.args.scene.now c.laws_of_scenes.ensures.scene c.laws_of_surfaces.ensures.faces
-    c.laws_of_surfaces.ensures.first
+    let image = image_is c.args.scene.now c.laws_of_scenes.ensures.scene
     c.args.width c.args.height c.args.found.now c.requires.found c.args.part in
     let bytes : c.as_bytes.result.now ≡ header c.args.width c.args.height = cc in
     all_after _ _ _ _ _ _ _ image (rw bytes at c.in_ok-write_whole.ensures.ok) c.write_pixels.ensures.ok
 
 pub returns-clause-err : goal.returns-clause-err
 returns-clause-err g c =
-    let image = image_is c.args.scene.now c.laws_of_scenes.ensures.scene c.laws_of_surfaces.ensures.faces
-    c.laws_of_surfaces.ensures.first
+    let image = image_is c.args.scene.now c.laws_of_scenes.ensures.scene
     c.args.width c.args.height c.args.found.now c.requires.found c.args.part in
     let bytes : c.as_bytes.result.now ≡ header c.args.width c.args.height = cc in
     front_then _ _ _ _ _ _ _ image (rw bytes at c.in_ok-write_whole.ensures.ok) c.write_pixels.ensures.err

@@ -8,7 +8,7 @@ put_row-requires-clause-sights g c = grind (arith, sights_held)
 
 pub loop-y-preserved : goal.loop-y-preserved
 loop-y-preserved g c =
-    let state = (g.A.Array.device c.args.array.now).state in
+    let state = (g.A.Array.view c.args.array.now).device.state in
     let y = c.loop-y.y in
     record {
       puts = rows_more c.args.scene.now y c.args.x0 c.args.y0 c.args.width _ c.args.found.now c.loop-y.found _

@@ -8,7 +8,7 @@ pub returns-clause-picture : goal.returns-clause-picture
 returns-clause-picture g c =
     let made = c.advance.ensures in
     let scene = c.advance.new.self.scene in
-    let device = g.A.Array.device c.advance.new.array in
+    let device = (g.A.Array.view c.advance.new.array).device in
     let can : CanRun scene = subst CanRun (sym made.scene) c.left-left.ensures.can_run in
     let end : c.advance.new.self.place.clock ≡ total scene = grind arith in
     c.law_of_pictures.ensures g.A.Array.BITS scene device can.lawful can.solids

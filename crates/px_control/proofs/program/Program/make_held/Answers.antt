@@ -8,7 +8,7 @@ make_before-requires g c =
     let behind = c.as_slice-2.ensures in
     record {
       can = rw (held.value, behind.value)
-          (can_make c.laws.ensures.more g.A.Array.BITS c.args.self.now _ _ _ (g.A.Array.device c.args.array.now)
+          (can_make c.laws.ensures.more g.A.Array.BITS c.args.self.now _ _ _ (g.A.Array.view c.args.array.now).device
           c.laws.ensures.good c.requires.holds (omega (arith, c.requires.order, c.requires.within))
           c.hold.ensures.lawful
           (rw held.value at held.fits) (rw behind.value at behind.fits));
@@ -19,5 +19,5 @@ returns-clause-holds g c =
     let next = c.hold.ensures in
     let made = c.make_before.ensures in
     holds_more g.A.Array.BITS c.args.self.now _ _ c.args.held.now.items c.hold.new.held.items
-    (g.A.Array.device c.args.array.now) _ c.requires.holds next.lawful next.leads made.pixels
+    (g.A.Array.view c.args.array.now).device _ c.requires.holds next.lawful next.leads made.pixels
     (rw (c.as_slice.ensures.value, c.as_slice-2.ensures.value) at made.device)

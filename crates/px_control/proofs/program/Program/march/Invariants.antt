@@ -1,5 +1,5 @@
 use Rattle.px_num.proofs.Basics.{◌≡◌, ◌+◌, ◌-◌, ◌≤◌, length}
-use Rattle.px_control.proofs.Words.{array_vec_len, Holds, passes, StandsFor, worked}
+use Rattle.px_control.proofs.Words.{array_vec_len, HasRun, Holds, passes, StandsFor}
 use Rattle.px_control.proofs.program.Program.march.Given as goal
 
 abbrev pub decreases-loop-held : goal.decreases-loop-held
@@ -10,9 +10,6 @@ invariant-loop-held g l = record {
   stands : StandsFor l.self l.place;
   micro : l.place.micro ≡ 0;
   within : l.place.clock ≤ l.end;
-  holds : Holds g.A.Array.BITS l.self l.place.clock l.held.items (g.A.Array.device l.array);
-  later : l.from.clock ≤ (g.A.Array.device l.array).clocks;
-  slots : g.A.Array.slots l.array ≡ g.A.Array.slots l.fn.array;
-  work : g.A.Array.work l.array
-      ≡ worked ((g.A.Array.device l.array).clocks - l.from.clock) (g.A.Array.work l.fn.array);
+  holds : Holds g.A.Array.BITS l.self l.place.clock l.held.items (g.A.Array.view l.array).device;
+  run : HasRun (g.A.Array.view l.fn.array) (g.A.Array.view l.array);
 }

@@ -32,8 +32,8 @@ returns-in-Some-clause-at g c =
     let lawful = c.laws.ensures.good.lawful
     in let here = here_of c.args.self.now c.args.place.now c.in-Some.m lawful c.requires.stands c.in-Some.is
     in rw c.go_on.ensures.clock
-    (at_run g.A.Array.BITS c.args.self.now c.args.place.now c.in-Some.m _ (g.A.Array.device c.args.array.now) _ lawful
-    c.requires.stands c.in-Some.is (omega (arith, here.micro, c.cycles-cycles.ensures.value))
+    (at_run g.A.Array.BITS c.args.self.now c.args.place.now c.in-Some.m _ (g.A.Array.view c.args.array.now).device _
+    lawful c.requires.stands c.in-Some.is (omega (arith, here.micro, c.cycles-cycles.ensures.value))
     (omega (arith, c.cycles-cycles.ensures.value)) c.requires.at c.make_micros.ensures.device)
 
 pub returns-in-None-clause-later : goal.returns-in-None-clause-later

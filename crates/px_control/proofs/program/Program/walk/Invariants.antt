@@ -1,5 +1,5 @@
-use Rattle.px_num.proofs.Basics.{◌≡◌, ◌-◌, ◌≤◌}
-use Rattle.px_control.proofs.Words.{IsAt, StandsFor, worked}
+use Rattle.px_num.proofs.Basics.{◌-◌, ◌≤◌}
+use Rattle.px_control.proofs.Words.{HasWorked, IsAt, StandsFor}
 use Rattle.px_control.proofs.program.Program.walk.Given as goal
 
 abbrev pub decreases-loop-place : goal.decreases-loop-place
@@ -10,7 +10,6 @@ invariant-loop-place g l = record {
   stands : StandsFor l.self l.place;
   later : l.from.clock ≤ l.place.clock;
   within : l.place.clock ≤ l.end;
-  at : IsAt g.A.Array.BITS l.self l.place.clock (g.A.Array.device l.array);
-  slots : g.A.Array.slots l.array ≡ g.A.Array.slots l.fn.array;
-  work : g.A.Array.work l.array ≡ worked (l.place.clock - l.from.clock) (g.A.Array.work l.fn.array);
+  at : IsAt g.A.Array.BITS l.self l.place.clock (g.A.Array.view l.array).device;
+  worked : HasWorked (l.place.clock - l.from.clock) (g.A.Array.view l.fn.array) (g.A.Array.view l.array);
 }

@@ -7,12 +7,13 @@ invariant-loop g l =
     let old = l.fn.self in
     let now = l.self in
     record {
-      course : IsOnCourse g.A.Array.BITS now (g.A.Array.device l.array) (g.A.Array.slots l.array);
+      course : IsOnCourse g.A.Array.BITS now (g.A.Array.view l.array);
       same : IsSameCourse old now;
       forth : old.job.place.clock ≤ now.job.place.clock;
       left : after_ends l.count (ends_after old.job.scene old.job.place.clock) old.job.place.clock (total old.job.scene)
           ≡ after_ends (l.count - l.counter) (ends_after now.job.scene now.job.place.clock) now.job.place.clock
           (total now.job.scene);
       trace : IsTraced now;
-      work : g.A.Array.work l.array ≤ g.A.Array.work l.fn.array + (now.job.place.clock - old.job.place.clock);
+      work : (g.A.Array.view l.array).work ≤ (g.A.Array.view l.fn.array).work
+          + (now.job.place.clock - old.job.place.clock);
     }

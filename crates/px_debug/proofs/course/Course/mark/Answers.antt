@@ -15,16 +15,16 @@ returns-then-is_due-clause-course g c =
     let due = rw c.if-is_due.true at c.is_due.ensures in
     let now : old.job.place.clock ≡ count * old.quarter = sym c.now.ensures.clock ∙ due.1 in
     let place : c.place.result.clock ≡ count * old.quarter = ap (λ (p : Place). p.clock) c.place.ensures.value ∙ now in
-    let here : IsAt g.A.Array.BITS old.job.scene (count * old.quarter) (g.A.Array.device c.args.array.now) =
-    subst (λ n. IsAt g.A.Array.BITS old.job.scene n (g.A.Array.device c.args.array.now)) now course.at in
+    let here : IsAt g.A.Array.BITS old.job.scene (count * old.quarter) (g.A.Array.view c.args.array.now).device =
+    subst (λ n. IsAt g.A.Array.BITS old.job.scene n (g.A.Array.view c.args.array.now).device) now course.at in
     record {
       at = rw c.save.ensures.device course.at;
       marks = marks_more old.job.scene old.quarter count old.places c.place.result course.marks due.0
           c.place.ensures.stands place;
       marked = marked_at old.quarter count old.job.place.clock course.marks.step now;
       keeps = rw c.save.ensures.slots
-          (slots_more g.A.Array.BITS old.job.scene old.quarter count (g.A.Array.device c.args.array.now)
-          (g.A.Array.slots c.args.array.now)
+          (slots_more g.A.Array.BITS old.job.scene old.quarter count (g.A.Array.view c.args.array.now).device
+          (g.A.Array.view c.args.array.now).slots
           course.keeps (omega (arith, due.0, c.save.ensures.four)) here);
     }
 

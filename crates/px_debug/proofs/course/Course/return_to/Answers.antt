@@ -15,7 +15,7 @@ returns-clause-course g c =
     let q = old.quarter in
     let scene : c.return_to.new.self.scene ≡ old.job.scene = ap (λ (j : JobView). j.scene) c.return_to.ensures in
     let clock : c.return_to.new.self.place.clock ≡ k * q = grind arith in
-    let device : g.A.Array.device c.restore.new.self ≡ array_after g.A.Array.BITS old.job.scene (k * q) =
+    let device : (g.A.Array.view c.restore.new.self).device ≡ array_after g.A.Array.BITS old.job.scene (k * q) =
     same_device _ _ _ c.restore.ensures.device (course.keeps.kept k c.requires.passed) in
     record {
       at = rw (scene, clock) (record { enough = course.at.enough; reached = device });

@@ -7,10 +7,11 @@ decreases-loop-self g l = l.target - l.self.job.place.clock
 
 abbrev pub invariant-loop-self : goal.invariant-loop-self
 invariant-loop-self g l = record {
-  course : IsOnCourse g.A.Array.BITS l.self (g.A.Array.device l.array) (g.A.Array.slots l.array);
+  course : IsOnCourse g.A.Array.BITS l.self (g.A.Array.view l.array);
   same : IsSameCourse l.fn.self l.self;
   forth : l.fn.self.job.place.clock ≤ l.self.job.place.clock;
   within : l.self.job.place.clock ≤ l.target;
   trace : l.self.trace ≡ l.fn.self.trace;
-  work : g.A.Array.work l.array ≤ g.A.Array.work l.fn.array + (l.self.job.place.clock - l.fn.self.job.place.clock);
+  work : (g.A.Array.view l.array).work ≤ (g.A.Array.view l.fn.array).work
+      + (l.self.job.place.clock - l.fn.self.job.place.clock);
 }

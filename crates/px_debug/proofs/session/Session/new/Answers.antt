@@ -13,14 +13,13 @@ returns-clause-fits g c =
     let course = c.start-course.result in
     let kept = c.start-course.ensures.kept in
     let job = c.start-course.ensures.job in
-    let before = g.A.Array.device c.args.array.now in
-    let after = g.A.Array.device c.save.new.self in
+    let before = (g.A.Array.view c.args.array.now).device in
     let scene : course.job.scene ≡ c.args.job.scene = ap (λ (j : JobView). j.scene) job in
     let clock : course.job.place.clock ≡ 0 = ap (λ (j : JobView). j.place.clock) job ∙ c.requires.start in
     let here : IsAt g.A.Array.BITS course.job.scene (0 * course.quarter) before = grind arith in
-    let one : HasSlots g.A.Array.BITS course.job.scene course.quarter 1 (g.A.Array.slots c.save.new.self) =
+    let one : HasSlots g.A.Array.BITS course.job.scene course.quarter 1 (g.A.Array.view c.save.new.self).slots =
     grind (arith, slots_more, slots_none) in
-    fits_session g.A.Array.BITS course _ after (g.A.Array.slots c.save.new.self) refl refl kept.quarter c.requires.few
+    fits_session g.A.Array.BITS course _ (g.A.Array.view c.save.new.self) refl refl kept.quarter c.requires.few
     record {
       at = rw (c.save.ensures.device, clock, scene) c.requires.at;
       marks = kept.marks;

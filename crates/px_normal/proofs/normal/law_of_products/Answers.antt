@@ -1,9 +1,17 @@
 use Rattle.px_num.proofs.Basics.{All-filter}
 use Rattle.px_normal.specs.Forms.{HasPlain, HasSolidsBelow}
-use Rattle.px_normal.proofs.normal.normal_form_law.Goals as goal
+use Rattle.px_normal.proofs.LiveLemmas.{live_places, live_sides}
+use Rattle.px_normal.proofs.ShorterLemmas.{all_shorter, never_crowded}
+use Rattle.px_normal.proofs.normal.law_of_products.Goals as goal
 
 pub returns-clause-law : goal.returns-clause-law
 returns-clause-law c = c.laws_of_normal_forms.ensures.law _ c.nodes.ensures.lawful.solids
+
+pub returns-clause-live : goal.returns-clause-live
+returns-clause-live c = record { sides = live_sides _; places = live_places _ }
+
+pub returns-clause-crowd : goal.returns-clause-crowd
+returns-clause-crowd c = record { shorter = all_shorter _; none = never_crowded _ }
 
 pub returns-clause-plain : goal.returns-clause-plain
 returns-clause-plain c = All-filter _ HasPlain _ (c.laws_of_normal_forms.ensures.plain _ c.nodes.ensures.lawful.solids)
