@@ -26,6 +26,8 @@ SYSTEM_PARTS = ("libos_c.a", "liblibc_c.a")
 # The module of the library that was kept last, and the checksum of the crates that it was made of.
 KEPT, KEPT_OF = (os.path.join(ends.TOP, "crates", LIBRARY, "out", leaf) for leaf in ("module.bc", "module.of"))
 MODULE = "module.bc"
+# How a folder begins in which what is built for one processor is kept for another.
+KEEPS = "px-build-"
 # The module is compiled for some seconds.
 LOOKED_AFTER = 0.2
 
@@ -186,7 +188,7 @@ class Proved:
     def make_library(self, cpu):
         """Builds the library for C, and of the checkout's first build keeps the module; the file, and the line of its proof."""
         made = of_cpu(os.path.join(self.folder(LIBRARY), "out", "libpx_c.a"), cpu)
-        with tempfile.TemporaryDirectory(prefix="px-build-") as place:
+        with tempfile.TemporaryDirectory(prefix=KEEPS) as place:
             archive, module = (os.path.join(place, leaf) for leaf in ("library.a", MODULE))
             line = self.compile(LIBRARY, cpu, archive, module if cpu == FIRST else None)
             shutil.move(archive, made)
@@ -200,7 +202,7 @@ class Proved:
         made = of_cpu(first, cpu)
         if not os.path.isfile(first):
             raise Bad("no program at %s; rt ci builds it" % first)
-        with tempfile.TemporaryDirectory(prefix="px-build-") as place:
+        with tempfile.TemporaryDirectory(prefix=KEEPS) as place:
             part, whole = (os.path.join(place, leaf) for leaf in ("program.o", "program"))
             line = self.compile(PROGRAM, cpu, part)
             link(part, whole)
