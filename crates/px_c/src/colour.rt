@@ -7,12 +7,11 @@ ghost use Rattle.px_c.specs.Answers.{Answers, TellsAnswer, colour_answer, drawn_
 ghost use Rattle.px_c.specs.Buffers.{HoldsColours};
 ghost use Rattle.px_c.specs.declared.status.TheConstants.{OK};
 
-use crate::answer::{Answer, refused, scene_fault};
-use crate::found::{Found, cost_found};
+use crate::answer::{Answer, refused};
+use crate::found::Found;
 use crate::keys::{pixels_of, write_colours};
-use crate::render::short_of_room;
+use crate::render::{draw, short_of_room};
 use crate::status::{BITS, OK};
-use px_deliver::{draw_job, open_job};
 use px_planes::PlaneArray;
 use px_scene::{Scene, read_scene};
 use std::alloc::Global;
@@ -67,7 +66,6 @@ fn colour_scene(alloc: Global, scene: &Scene, rgb: &mut [u8]) -> Answer
 }
 
 /// The colours of a scene in a buffer that has room for them.
-#[tactic(auto, using(crate::proofs::AnswerLemmas::refuses, crate::proofs::AnswerLemmas::accepts))]
 fn colour_within(alloc: Global, scene: &Scene, rgb: &mut [u8]) -> Answer
     requires { 3 * pixels_of scene.now ≤ length rgb.old }
     ensures answer { Answers (drawn_answer 0 0 scene.now) result }
@@ -76,14 +74,11 @@ fn colour_within(alloc: Global, scene: &Scene, rgb: &mut [u8]) -> Answer
     ensures kept { (result.status ≡ OK → ⊥) → rgb.new ≡ rgb.old }
 {
     let mut array = PlaneArray::<BITS>::new(alloc);
-    let mut job = match open_job(alloc, scene, &mut array) {
-        Ok(job) => job,
-        Err(fault) => return refused(scene_fault(fault)),
-    };
-    let layout = draw_job(&mut job, scene, &mut array);
-    write_colours(&array, &layout, scene, rgb);
-    Answer {
-        status: OK,
-        found: cost_found(scene, job.total_macros(), job.total_clocks()),
+    match draw(alloc, scene, &mut array) {
+        Ok((layout, found)) => {
+            write_colours(&array, &layout, scene, rgb);
+            Answer { status: OK, found }
+        }
+        Err(answer) => answer,
     }
 }

@@ -1,11 +1,13 @@
 //! `pxplanes_render`: the depth and the face number of each pixel of a picture.
-ghost use Rattle.std.specs.Prelude.{◌≡◌, ◌<◌, ◌≤◌, ℕ, length, min};
+ghost use Rattle.std.specs.Prelude.{◌≡◌, ◌<◌, ◌≤◌, IfErr, IfOk, ℕ, length, min};
 ghost use Rattle.px_scene.specs.Reading.{scene_of};
 ghost use Rattle.px_scene.specs.Text.{worded};
+ghost use Rattle.px_sched.specs.Layouts.{layout_of};
+ghost use Rattle.px_deliver.specs.Drawn.{IsDrawn};
 ghost use Rattle.px_frame.specs.Picture.{depth_at, face_at};
 ghost use Rattle.px_c.specs.Answers.{Answers, TellsAnswer, drawn_answer, pixels_of, render_answer};
 ghost use Rattle.px_c.specs.Buffers.{HoldsNumbers};
-ghost use Rattle.px_c.specs.declared.status.TheConstants.{OK};
+ghost use Rattle.px_c.specs.declared.status.TheConstants.{BITS, OK};
 
 use crate::answer::{Answer, refused, scene_fault};
 use crate::check::found_in;
@@ -15,6 +17,7 @@ use crate::status::{BITS, NO_ROOM, OK};
 use px_deliver::{draw_job, open_job};
 use px_planes::PlaneArray;
 use px_scene::{Scene, read_scene};
+use px_sched::Layout;
 use std::alloc::Global;
 
 /// Draws a text's picture: the depth of each pixel in `depths`, and the number of its face in `faces`,
@@ -97,7 +100,6 @@ pub(crate) fn short_of_room(alloc: Global, scene: &Scene, due: usize) -> Answer
 }
 
 /// The picture of a scene in buffers that have room for it.
-#[tactic(auto, using(crate::proofs::AnswerLemmas::refuses, crate::proofs::AnswerLemmas::accepts))]
 fn render_within(alloc: Global, scene: &Scene, depths: &mut [u32], faces: &mut [u32]) -> Answer
     requires depths { pixels_of scene.now ≤ length depths.old }
     requires faces { pixels_of scene.now ≤ length faces.old }
@@ -110,14 +112,36 @@ fn render_within(alloc: Global, scene: &Scene, depths: &mut [u32], faces: &mut [
         → (depths.new ≡ depths.old) × (faces.new ≡ faces.old) }
 {
     let mut array = PlaneArray::<BITS>::new(alloc);
-    let mut job = match open_job(alloc, scene, &mut array) {
-        Ok(job) => job,
-        Err(fault) => return refused(scene_fault(fault)),
-    };
-    let layout = draw_job(&mut job, scene, &mut array);
-    write_keys(&array, &layout, scene, depths, faces);
-    Answer {
-        status: OK,
-        found: cost_found(scene, job.total_macros(), job.total_clocks()),
+    match draw(alloc, scene, &mut array) {
+        Ok((layout, found)) => {
+            write_keys(&array, &layout, scene, depths, faces);
+            Answer { status: OK, found }
+        }
+        Err(answer) => answer,
     }
+}
+
+/// Draws a scene on an array: the layout of what it stores, and what was found; or the answer where it is not drawn.
+#[tactic(auto, using(crate::proofs::AnswerLemmas::refuses, crate::proofs::AnswerLemmas::accepts))]
+pub(crate) fn draw(
+    alloc: Global,
+    scene: &Scene,
+    array: &mut PlaneArray<BITS>,
+) -> Result<(Layout, Found), Answer>
+    ensures drawn { IfOk result (λ _. IsDrawn BITS scene.now array.new.device) }
+    ensures layout { IfOk result (λ drawn. drawn.0 ≡ layout_of scene.now) }
+    ensures found { IfOk result (λ drawn.
+        Answers (drawn_answer 0 0 scene.now) (record { status = OK; found = drawn.1 })) }
+    ensures cause { IfErr result (λ answer. Answers (drawn_answer 0 0 scene.now) answer) }
+    ensures refused { IfErr result (λ answer. answer.status ≡ OK → ⊥) }
+{
+    let mut job = match open_job(alloc, scene, array) {
+        Ok(job) => job,
+        Err(fault) => return Err(refused(scene_fault(fault))),
+    };
+    let layout = draw_job(&mut job, scene, array);
+    Ok((
+        layout,
+        cost_found(scene, job.total_macros(), job.total_clocks()),
+    ))
 }
