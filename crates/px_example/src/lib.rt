@@ -9,9 +9,6 @@ ghost use Rattle.px_frame.specs.Picture.{depth_image, face_image};
 ghost use Rattle.px_scene.specs.Reading.{refusal_of, scene_of};
 ghost use Rattle.px_scene.specs.Text.{worded};
 
-#[cfg(test)]
-mod tests;
-
 use px_control::JobFault;
 use px_deliver::{deliver, open_job};
 use px_io::MemSink;

@@ -140,7 +140,13 @@ fn carry_out(rt: &impl Abort, array: &mut PixelArray<16>, m: &Macro)
 fn try_pixel(rt: &impl Abort, array: &PixelArray<16>, m: &Macro, x: u32, y: u32, want: u32)
     requires pixel { HasPixel array.now.device x y }
 {
-    let found = (array.registers(x, y).enable, number_in(array, WHOLE, x, y));
-    let wanted = (want >> 16 == 1, u64::from(want & 0xffff));
-    assert!(rt; found == wanted, "what an operation leaves");
+    let is_enabled = want >> 16 == 1;
+    assert!(rt;
+        array.registers(x, y).enable == is_enabled,
+        "the enable register"
+    );
+    assert!(rt;
+        number_in(array, WHOLE, x, y) == u64::from(want & 0xffff),
+        "the memory"
+    );
 }

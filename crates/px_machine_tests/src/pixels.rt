@@ -1,5 +1,5 @@
 //! One pixel: the table of acts, worked by hand.
-ghost use Rattle.std.specs.Prelude.{◌<◌, ◌≤◌, ℕ};
+ghost use Rattle.std.specs.Prelude.{◌<◌, ◌≤◌};
 ghost use Rattle.px_pixel.specs.Acts.{HasPlace};
 
 use px_pixel::{Act, Pixel};
@@ -55,8 +55,9 @@ const ROWS: [Row; 42] = [
 ];
 
 /// The act with the place `at`, where it names one.
-fn placed(act: Act, at: u32) -> Act
-    ensures { (bits : ℕ) → at < bits → HasPlace bits result }
+fn placed<const N: usize>(act: Act, at: u32) -> Act
+    requires { at < N }
+    ensures { HasPlace N result }
 {
     match act {
         Act::EnableBit(_, v) => Act::EnableBit(at, v),
@@ -78,7 +79,7 @@ fn try_rows<const N: usize>(rt: &impl Abort, at: u32)
     requires place { at < N }
 {
     for (act, tree, before, after) in ROWS {
-        try_row::<N>(rt, placed(act, at), tree, at, before, after);
+        try_row::<N>(rt, placed::<N>(act, at), tree, at, before, after);
     }
 }
 

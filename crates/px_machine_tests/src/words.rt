@@ -7,11 +7,12 @@ use crate::at_once::{clock_each, open_both};
 use crate::clocks::{feed, make_all};
 use crate::compared::compare;
 use crate::numbers::Numbers;
+use crate::trees::{try_largest, try_six};
 use px_array::{Array, Micro, PixelArray, TreeOp};
 use px_num::{Linear, Memory};
 use px_pixel::Act;
 use px_planes::{PlaneArray, PlaneTree};
-use px_tree::{Tree, feed_form, value_bit};
+use px_tree::{Tree, feed_form};
 use std::alloc::Global;
 use std::process::Abort;
 use std::test::Fail;
@@ -23,30 +24,16 @@ fn the_smallest_tree(rt: HostRuntime) -> Result<(), Fail> {
     Ok(())
 }
 
-/// The value of `3 * x - 5 * y + 7` at (3, 2) is 6.
 #[test]
 fn four_by_four(rt: HostRuntime) -> Result<(), Fail> {
-    let form = Linear { a: 3, b: -5, c: 7 };
-    for (t, want) in [(0, false), (1, true), (2, true), (3, false)] {
-        let mut tree = PlaneTree::new(rt.alloc(), 2, 2)?;
-        assert_eq!(rt; value_bit(&mut tree, 2, 2, &form, 3, 2, t), want);
-    }
+    let mut tree = PlaneTree::new(rt.alloc(), 2, 2)?;
+    try_six(&rt, &mut tree);
     Ok(())
 }
 
-/// The value is `2^27 * (2048 + x - y)`, so its bit 35 is bit 8 of `2048 + x - y`.
 #[test]
 fn largest_tree(rt: HostRuntime) -> Result<(), Fail> {
-    let form = Linear {
-        a: 134217728,
-        b: -134217728,
-        c: 274877906944,
-    };
-    let mut tree = PlaneTree::new(rt.alloc(), 9, 9)?;
-    assert!(rt; value_bit(&mut tree, 9, 9, &form, 511, 0, 35));
-    assert!(rt; !value_bit(&mut tree, 9, 9, &form, 255, 0, 35));
-    assert!(rt; value_bit(&mut tree, 9, 9, &form, 0, 1, 35));
-    assert!(rt; !value_bit(&mut tree, 9, 9, &form, 511, 511, 35));
+    try_largest(&rt, &mut PlaneTree::new(rt.alloc(), 9, 9)?);
     Ok(())
 }
 
@@ -56,11 +43,10 @@ fn outputs_of_whole_words(rt: HostRuntime) -> Result<(), Fail> {
     let form = Linear { a: 1, b: 0, c: 1 };
     let mut tree = PlaneTree::new(rt.alloc(), 3, 3)?;
     feed_form(&mut tree, 3, 3, &form, 6);
-    assert_eq!(rt; tree.outputs(6), [0x00ff_00ff_00ff_00ff].as_slice());
+    are_words(&rt, tree.outputs(6), 1, 0x00ff_00ff_00ff_00ff);
     let mut tree = PlaneTree::new(rt.alloc(), 4, 3)?;
     feed_form(&mut tree, 4, 3, &form, 7);
-    let word = 0x00ff_00ff_00ff_00ff;
-    assert_eq!(rt; tree.outputs(7), [word, word].as_slice());
+    are_words(&rt, tree.outputs(7), 2, 0x00ff_00ff_00ff_00ff);
     Ok(())
 }
 
@@ -70,10 +56,18 @@ fn outputs_of_small_levels(rt: HostRuntime) -> Result<(), Fail> {
     let form = Linear { a: 1, b: 0, c: 1 };
     let mut tree = PlaneTree::new(rt.alloc(), 2, 1)?;
     feed_form(&mut tree, 2, 1, &form, 3);
-    assert_eq!(rt; tree.outputs(3), [0b0011_0011].as_slice());
-    assert_eq!(rt; tree.outputs(2), [0b0110].as_slice());
-    assert_eq!(rt; tree.outputs(1), [0b00].as_slice());
+    are_words(&rt, tree.outputs(3), 1, 0b0011_0011);
+    are_words(&rt, tree.outputs(2), 1, 0b0110);
+    are_words(&rt, tree.outputs(1), 1, 0b00);
     Ok(())
+}
+
+/// So many words, each of which is this one.
+fn are_words(rt: &impl Abort, found: &[u64], count: usize, word: u64) {
+    assert!(rt; found.len() == count);
+    for each in found {
+        assert!(rt; *each == word);
+    }
 }
 
 /// `x + 2 * y + 1` on four pixels is 1, 3, 2 and 4, in the order of their places.
@@ -102,7 +96,7 @@ fn rows_of_a_form(rt: HostRuntime) -> Result<(), Fail> {
 fn try_row(rt: &impl Abort, array: &PlaneArray<5>, at: u32, word: u64) {
     assert!(rt; at < 5);
     assert!(rt; array.size() == (1, 1));
-    assert!(rt; array.row(at) == [word].as_slice());
+    are_words(rt, array.row(at), 1, word);
 }
 
 /// Random micros on both arrays, with saves and restores, in grids of one word and of many.

@@ -1,5 +1,5 @@
 //! What is asked of an array: its openings, operations at once, and clocks.
-use crate::runs::{Given, RENDER, run_words};
+use crate::runs::{Given, render, run_words};
 use arrayvec::ArrayVec;
 use px_array::{Array, Micro, PixelArray, Registers};
 use px_asm::Operating;
@@ -13,24 +13,36 @@ use std::test::Fail;
 const SLOPES: &[u8] = b"pxscene 1\npicture 2 1\ndepth 6\nsolid a 0 0 0\n\
     front 2 0 0\nfront -2 0 8\nshow a\nend\n";
 
-/// An array that keeps of each of its openings the levels of the grid, and the clocks that were made before; and how often
-/// it was asked for an operation at once, and for a clock.
+/// Of each opening the levels of the grid, and the clocks that were made before; and how often an operation at once was asked
+/// for, and a clock.
 #[derive(Drop)]
-pub(crate) struct Watched {
-    array: PixelArray<72>,
+pub(crate) struct Counts {
     openings: ArrayVec<(u32, u32, u64), 8>,
     operations: u64,
     clocks: u64,
+}
+
+/// An array that counts.
+#[derive(Drop)]
+pub(crate) struct Watched {
+    array: PixelArray<72>,
+    counts: Counts,
 }
 
 impl Watched {
     pub(crate) fn new(alloc: Global) -> Watched {
         Watched {
             array: PixelArray::new(alloc),
-            openings: ArrayVec::new(),
-            operations: 0,
-            clocks: 0,
+            counts: Counts {
+                openings: ArrayVec::new(),
+                operations: 0,
+                clocks: 0,
+            },
         }
+    }
+
+    pub(crate) fn counts(self) -> Counts {
+        self.counts
     }
 }
 
@@ -43,12 +55,12 @@ impl Array for Watched {
 
     fn open(&mut self, nx: u32, ny: u32) -> Result<(), Memory> {
         // A ninth opening is not kept.
-        let _ = self.openings.try_push((nx, ny, self.array.clocks()));
+        let _ = self.counts.openings.try_push((nx, ny, self.array.clocks()));
         self.array.open(nx, ny)
     }
 
     fn clock(&mut self, m: Micro) {
-        self.clocks = self.clocks.saturating_add(1);
+        self.counts.clocks = self.counts.clocks.saturating_add(1);
         self.array.clock(m);
     }
 
@@ -95,7 +107,7 @@ impl Array for Watched {
 
 impl Operating for Watched {
     fn operate(&mut self, m: &Macro) {
-        self.operations = self.operations.saturating_add(1);
+        self.counts.operations = self.counts.operations.saturating_add(1);
         self.array.operate(m);
     }
 }
@@ -106,12 +118,12 @@ fn each_tile_is_opened_and_clocked(rt: HostRuntime) -> Result<(), Fail> {
     let given = Given {
         words: &["tile", "5", "1"],
         scene: SLOPES,
-        ..RENDER
+        ..render()
     };
     let left = run_words(rt.alloc(), &given)?;
     left.ended(&rt, Status::Done, b"", 473);
     assert_eq!(rt;
-        left.array.openings.as_slice(),
+        left.counts.openings.as_slice(),
         [(1, 1, 0), (1, 1, 473), (1, 1, 473)].as_slice()
     );
     Ok(())
@@ -121,9 +133,9 @@ fn each_tile_is_opened_and_clocked(rt: HostRuntime) -> Result<(), Fail> {
 /// `copy` take 7, 14 and 12 of the 317 clocks.
 #[test]
 fn most_operations_are_made_at_once(rt: HostRuntime) -> Result<(), Fail> {
-    let left = run_words(rt.alloc(), &RENDER)?;
+    let left = run_words(rt.alloc(), &render())?;
     left.ended(&rt, Status::Done, b"", 317);
-    assert_eq!(rt; left.array.operations, 19);
-    assert_eq!(rt; left.array.clocks, 33);
+    assert_eq!(rt; left.counts.operations, 19);
+    assert_eq!(rt; left.counts.clocks, 33);
     Ok(())
 }

@@ -1,10 +1,8 @@
 //! Runs over sources and sinks in memory, whose calls fail at a place.
-use crate::runs::{Given, RENDER, run_words};
+use crate::runs::{Given, render, run_words, two_maps};
 use px_draw::Status;
 use std::alloc::Global;
 use std::test::Fail;
-
-const TWO_MAPS: &[u8] = b"P6\n1 1\n255\n\0\0\x05P6\n1 1\n255\n\0\0\x02";
 
 /// One read fails at each place, up to the read that finds the end; the one behind it is not made.
 #[test]
@@ -12,15 +10,15 @@ fn a_failing_read_ends_the_run(rt: HostRuntime) -> Result<(), Fail> {
     for call in 1..15 {
         let given = Given {
             reads: (7, call),
-            ..RENDER
+            ..render()
         };
         let left = run_words(rt.alloc(), &given)?;
         if call < 14 {
             left.ended(&rt, Status::ReadFault, b"read fault\n", 0);
-            assert!(rt; left.out.written().is_empty());
+            assert!(rt; left.written.as_slice().is_empty());
         } else {
             left.ended(&rt, Status::Done, b"", 317);
-            assert_eq!(rt; left.out.written(), TWO_MAPS);
+            assert_eq!(rt; left.written.as_slice(), two_maps());
         }
     }
     Ok(())
@@ -34,7 +32,7 @@ fn a_failing_write_leaves_a_front(rt: HostRuntime) -> Result<(), Fail> {
         let given = Given {
             writes: (room, 5, 0),
             notes: 3,
-            ..RENDER
+            ..render()
         };
         let left = run_words(rt.alloc(), &given)?;
         if room < 28 {
@@ -42,16 +40,17 @@ fn a_failing_write_leaves_a_front(rt: HostRuntime) -> Result<(), Fail> {
         } else {
             left.ended(&rt, Status::Done, b"", 317);
         }
-        assert_eq!(rt; left.out.written().len(), room);
-        assert!(rt; TWO_MAPS.starts_with(left.out.written()));
-        assert_eq!(rt; left.out.finished(), room == 28);
+        assert_eq!(rt; left.written.len(), room);
+        assert!(rt; two_maps().starts_with(left.written.as_slice()));
+        assert_eq!(rt; left.is_finished, room == 28);
     }
-    assert_eq!(rt; TWO_MAPS.len(), 28);
+    assert_eq!(rt; two_maps().len(), 28);
     Ok(())
 }
 
-const THREE_ROWS: &[u8] = b"pxscene 1\npicture 2 3\ndepth 4\nsolid a 200 100 50\nfront 0 0 5\n\
-    back 0 0 9\nshow a\nend\n";
+fn scene_of_three_rows() -> &'static [u8] {
+    "pxscene 1\npicture 2 3\ndepth 4\nsolid a 200 100 50\nfront 0 0 5\nback 0 0 9\nshow a\nend\n".as_bytes()
+}
 
 /// Words, and in how many calls a sink is given what they write of three rows and is finished: of an
 /// image a head and each row, in `tile` 512 pixels at once, and of a text all.
@@ -83,9 +82,9 @@ fn how_often_a_sink_is_called(rt: HostRuntime) -> Result<(), Fail> {
 fn three_rows(alloc: Global, words: &[&str], failing: u64) -> Result<Status, Fail> {
     let given = Given {
         words,
-        scene: THREE_ROWS,
+        scene: scene_of_three_rows(),
         writes: (4096, 4096, failing),
-        ..RENDER
+        ..render()
     };
     Ok(run_words(alloc, &given)?.status)
 }

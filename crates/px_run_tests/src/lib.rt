@@ -6,9 +6,15 @@ mod arrays;
 #[cfg(test)]
 mod ends;
 #[cfg(test)]
+mod example;
+#[cfg(test)]
 mod faults;
 #[cfg(test)]
+mod listings;
+#[cfg(test)]
 mod runs;
+#[cfg(test)]
+mod samples;
 #[cfg(test)]
 mod sessions;
 #[cfg(test)]

@@ -1,5 +1,5 @@
 //! Runs over a source and sinks in memory, and over an array that is watched.
-use crate::arrays::Watched;
+use crate::arrays::{Counts, Watched};
 use px_array::Array;
 use px_asked::TellingSource;
 use px_draw::{Status, run};
@@ -8,8 +8,15 @@ use std::alloc::Global;
 use std::process::Abort;
 use std::test::Fail;
 
-pub(crate) const ONE_SOLID: &[u8] = b"pxscene 1\npicture 1 1\ndepth 4\nsolid a 200 100 50\n\
-    front 0 0 5\nback 0 0 9\nshow a\nend\n";
+/// One pixel, with a front of depth 5 and face 2. (What a test names by a call is not laid out in its proof, as a constant is.)
+pub(crate) fn one_solid() -> &'static [u8] {
+    "pxscene 1\npicture 1 1\ndepth 4\nsolid a 200 100 50\nfront 0 0 5\nback 0 0 9\nshow a\nend\n".as_bytes()
+}
+
+/// What `render` writes of it.
+pub(crate) fn two_maps() -> &'static [u8] {
+    "P6\n1 1\n255\n\0\0\x05P6\n1 1\n255\n\0\0\x02".as_bytes()
+}
 
 /// What a run is given, and which of its calls fail: none does where the number is 0.
 #[derive(Clone, Copy)]
@@ -27,31 +34,36 @@ pub(crate) struct Given<'a> {
 }
 
 /// `render` of one solid, by calls that do not fail.
-pub(crate) const RENDER: Given<'static> = Given {
-    words: &[],
-    scene: ONE_SOLID,
-    lines: b"",
-    reads: (4096, 0),
-    writes: (4096, 4096, 0),
-    notes: 100,
-};
+pub(crate) fn render() -> Given<'static> {
+    Given {
+        words: &[],
+        scene: one_solid(),
+        lines: b"",
+        reads: (4096, 0),
+        writes: (4096, 4096, 0),
+        notes: 100,
+    }
+}
 
-/// What a run left.
+/// What a run left: numbers, and bytes of its ends.
 #[derive(Drop)]
 pub(crate) struct Left {
     pub(crate) status: Status,
-    pub(crate) input: TellingSource,
-    pub(crate) out: MemSink,
-    pub(crate) notes: MemSink,
-    pub(crate) array: Watched,
+    /// Each ask of the input: what the output had taken by then, `<`, the bytes that it gave, and `>`.
+    pub(crate) asks: Vec<u8>,
+    pub(crate) written: Vec<u8>,
+    pub(crate) is_finished: bool,
+    pub(crate) notes: Vec<u8>,
+    pub(crate) clocks: u64,
+    pub(crate) counts: Counts,
 }
 
 impl Left {
     /// It ended so, with these notes, and so many clocks were made.
     pub(crate) fn ended(&self, rt: &impl Abort, status: Status, notes: &[u8], clocks: u64) {
         assert_eq!(rt; self.status, status);
-        assert_eq!(rt; self.notes.written(), notes);
-        assert_eq!(rt; self.array.clocks(), clocks);
+        assert_eq!(rt; self.notes.as_slice(), notes);
+        assert_eq!(rt; self.clocks, clocks);
     }
 }
 
@@ -67,11 +79,25 @@ pub(crate) fn run_words(alloc: Global, given: &Given<'_>) -> Result<Left, Fail> 
     let status = run(alloc, words, &mut input, &mut out, &mut notes, &mut array);
     Ok(Left {
         status,
-        input,
-        out,
-        notes,
-        array,
+        asks: asks_of(alloc, &input)?,
+        written: out.written().to_vec(alloc)?,
+        is_finished: out.finished(),
+        notes: notes.written().to_vec(alloc)?,
+        clocks: array.clocks(),
+        counts: array.counts(),
     })
+}
+
+/// The asks as `Left` has them; nothing where memory for them was wanting.
+fn asks_of(alloc: Global, input: &TellingSource) -> Result<Vec<u8>, Fail> {
+    let mut all = Vec::new(alloc);
+    for note in input.notes().unwrap_or(&[]) {
+        all.extend_from_slice(note.told.as_slice())?;
+        all.push(b'<')?;
+        all.extend_from_slice(note.bytes.as_slice())?;
+        all.push(b'>')?;
+    }
+    Ok(all)
 }
 
 fn owned(alloc: Global, words: &[&str]) -> Result<Vec<String>, Fail> {

@@ -1,17 +1,20 @@
 //! Runs of `debug` over sources and sinks in memory, whose calls fail at a place.
-use crate::runs::{Given, Left, ONE_SOLID, RENDER, run_words};
-use px_asked::TellingSource;
+use crate::runs::{Given, Left, one_solid, render, run_words};
 use px_draw::Status;
 use std::alloc::Global;
 use std::process::Abort;
 use std::test::Fail;
 
-const LINES: &[u8] =
-    b"step 3\ntrace\nmacro 3\nrun\nat\nfield 0 0\ntree 1 2\nhello\n\nquit\nstep 1\n";
+fn lines() -> &'static [u8] {
+    "step 3\ntrace\nmacro 3\nrun\nat\nfield 0 0\ntree 1 2\nhello\n\nquit\nstep 1\n".as_bytes()
+}
 
-const ANSWERS: &[u8] = b"at 3\n0: hold enable-all\n1: hold store-const 0 0\n\
+fn answers() -> &'static [u8] {
+    "at 3\n0: hold enable-all\n1: hold store-const 0 0\n\
 2: hold store-const 1 0\nat 9\nat 317\nat 317 of 317 done\nfield 0 0 b 5 2 t 5 2 alive 1 par 0\n\
-? line 7\n? line 8\n";
+? line 7\n? line 8\n"
+        .as_bytes()
+}
 
 /// Runs `debug` on one solid and these lines, read in pieces of which one fails, by a sink of which one call fails.
 fn sit(alloc: Global, lines: &[u8], reads: (usize, u64), failing: u64) -> Result<Left, Fail> {
@@ -20,26 +23,26 @@ fn sit(alloc: Global, lines: &[u8], reads: (usize, u64), failing: u64) -> Result
         lines,
         reads,
         writes: (4096, 4096, failing),
-        ..RENDER
+        ..render()
     };
     run_words(alloc, &given)
 }
 
 /// So many bytes were written, a front of the answers, and the output was finished only where all were.
 fn answered(rt: &impl Abort, left: &Left, answers: &[u8], count: usize) {
-    let told = left.out.written();
+    let told = left.written.as_slice();
     assert_eq!(rt; told.len(), count);
     assert!(rt; answers.starts_with(told));
-    assert_eq!(rt; left.out.finished(), left.status == Status::Done);
+    assert_eq!(rt; left.is_finished, left.status == Status::Done);
 }
 
 /// However the input is cut, the answers are the same; a line behind `quit` is not answered.
 #[test]
 fn pieces_do_not_matter(rt: HostRuntime) -> Result<(), Fail> {
     for piece in [1, 7, 4096] {
-        let left = sit(rt.alloc(), LINES, (piece, 0), 0)?;
+        let left = sit(rt.alloc(), lines(), (piece, 0), 0)?;
         left.ended(&rt, Status::Done, b"", 317);
-        answered(&rt, &left, ANSWERS, ANSWERS.len());
+        answered(&rt, &left, answers(), answers().len());
     }
     Ok(())
 }
@@ -71,51 +74,39 @@ const LEFT_BY_CALL: [(u64, usize, u64); 9] = [
 #[test]
 fn a_failing_write_breaks_off(rt: HostRuntime) -> Result<(), Fail> {
     for (call, output, clocks) in LEFT_BY_CALL {
-        let left = sit(rt.alloc(), LINES, (9, 0), call)?;
+        let left = sit(rt.alloc(), lines(), (9, 0), call)?;
         left.ended(&rt, Status::WriteFault, b"write fault\n", clocks);
-        answered(&rt, &left, ANSWERS, output);
+        answered(&rt, &left, answers(), output);
     }
     Ok(())
-}
-
-/// What the output had taken at an ask, and the bytes that the ask gave.
-type Asked<'a> = (&'a [u8], &'a [u8]);
-
-/// Each of these asks was made, and no other.
-fn asked(rt: &impl Abort, input: &TellingSource, due: &[Asked<'_>]) {
-    let notes = input.notes().expect(rt, "memory for what is told");
-    assert_eq!(rt; notes.len(), due.len());
-    for (note, (told, bytes)) in notes.iter().zip(due) {
-        assert_eq!(rt; note.told.as_slice(), *told);
-        assert_eq!(rt; note.bytes.as_slice(), *bytes);
-    }
 }
 
 /// Cut behind the first line, which is answered before more is asked for; the second, which is none of a debugger's, is answered
 /// before the end is.
 #[test]
 fn each_line_is_answered_before_the_next_ask(rt: HostRuntime) -> Result<(), Fail> {
-    let mut first = ONE_SOLID.to_vec(rt.alloc())?;
-    first.extend_from_slice(b"step 3\n")?;
-    let left = sit(rt.alloc(), b"step 3\nhello\n", (first.len(), 0), 0)?;
+    let first = one_solid().len() + "step 3\n".len();
+    let left = sit(rt.alloc(), b"step 3\nhello\n", (first, 0), 0)?;
     assert_eq!(rt; left.status, Status::Done);
-    let due: [Asked<'_>; 3] = [
-        (b"", first.as_slice()),
-        (b"at 3\n", b"hello\n"),
-        (b"at 3\n? line 2\n", b""),
-    ];
-    asked(&rt, &left.input, &due);
+    asked(&rt, &left, b"step 3\n>at 3\n<hello\n>at 3\n? line 2\n<>");
     Ok(())
 }
 
 /// The second ask fails, behind the answers of both lines.
 #[test]
 fn an_ask_that_fails_is_told(rt: HostRuntime) -> Result<(), Fail> {
-    let mut all = ONE_SOLID.to_vec(rt.alloc())?;
-    all.extend_from_slice(b"step 3\nhello\n")?;
     let left = sit(rt.alloc(), b"step 3\nhello\n", (4096, 2), 0)?;
     assert_eq!(rt; left.status, Status::ReadFault);
-    let due: [Asked<'_>; 2] = [(b"", all.as_slice()), (b"at 3\n? line 2\n", b"")];
-    asked(&rt, &left.input, &due);
+    asked(&rt, &left, b"step 3\nhello\n>at 3\n? line 2\n<>");
     Ok(())
+}
+
+/// The first ask began with the scene, before anything was written; what follows is this.
+fn asked(rt: &impl Abort, left: &Left, rest: &[u8]) {
+    let scene = left
+        .asks
+        .strip_prefix(b"<")
+        .expect(rt, "an ask before anything is written");
+    let found = scene.strip_prefix(one_solid()).expect(rt, "the scene");
+    assert_eq!(rt; found, rest);
 }
