@@ -5,7 +5,7 @@ ghost use Rattle.px_array.specs.Arrays.{registers_of};
 use px_pixel::{Act, Pixel};
 
 /// What the multiplier tree does in a clock (docs/MACHINE.md, "The multiplier tree").
-#[derive(Clone, Copy, Debug, PartialEq, Eq)]
+#[derive(Clone, Copy)]
 pub enum TreeOp {
     /// Changes nothing.
     Hold,
@@ -16,7 +16,7 @@ pub enum TreeOp {
 }
 
 /// A microinstruction: what is broadcast in one clock (docs/MACHINE.md, "One clock").
-#[derive(Clone, Copy, Debug, PartialEq, Eq)]
+#[derive(Clone, Copy)]
 pub struct Micro {
     pub tree: TreeOp,
     pub act: Act,

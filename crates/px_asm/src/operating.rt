@@ -92,7 +92,7 @@ pub fn law_of_renewal()
 }
 
 /// Which of the tree, the carry and the latch an operation begins anew.
-#[derive(Clone, Copy, Debug, PartialEq, Eq)]
+#[derive(Clone, Copy)]
 pub struct Renewal {
     pub tree: bool,
     pub carry: bool,

@@ -11,7 +11,7 @@ use px_scene::{Cause, LimitKind, Scene};
 
 /// What a call found (include/pxplanes.h, `struct pxplanes_found`). What does not apply is 0.
 #[repr(C)]
-#[derive(Clone, Copy, Debug, PartialEq, Eq)]
+#[derive(Clone, Copy)]
 pub struct Found {
     /// The columns of the picture.
     pub width: u32,

@@ -20,7 +20,7 @@ use std::alloc::Global;
 
 /// Where the machine stands (include/pxplanes.h, `struct pxplanes_moment`).
 #[repr(C)]
-#[derive(Clone, Copy, Debug, PartialEq, Eq)]
+#[derive(Clone, Copy)]
 pub struct State {
     /// The columns of the grid.
     pub grid_width: u32,

@@ -13,17 +13,21 @@ canonical_read scene is =
     read_by_walk (canonical_text scene) (scene_words scene) (final_draft scene) (text_is scene)
     (canonical_short scene is) (scene_walk scene is) refl
 
--- a text that is put together of the parts of a lawful scene
-pub parts_read : (scene : SceneView) (count : ℕ) (begun shown text : List ℕ) → length scene.solids ≤ count
+-- a text that is put together of the parts of a scene
+pub parts_are_text : (scene : SceneView) (count : ℕ) (begun shown text : List ℕ) → length scene.solids ≤ count
     → begun ≡ first_lines scene ++ flat_map solid_lines (take count scene.solids) → shown ≡ begun ++ show_line scene
-    → text ≡ shown ++ written_line (codes "end") []
-    → IsLawfulScene scene → All IsLawfulSolid (take count scene.solids) → IsLawfulTree scene.show → IsReadAs text scene
-parts_read scene count begun shown text every first next last law solids show =
+    → text ≡ shown ++ written_line (codes "end") [] → text ≡ canonical_text scene
+parts_are_text scene count begun shown text every first next last =
     let all = take_all count scene.solids every
     in let start = first_lines scene
     in let end = written_line (codes "end") []
-    in let is : text ≡ canonical_text scene =
-    grind arith
-    in let writable : IsWritable scene =
-    record { lawful = law; solids = subst (All IsLawfulSolid) all solids; show = show }
+    in grind arith
+
+-- the same of a lawful scene
+pub parts_read : (scene : SceneView) (count : ℕ) (text : List ℕ) → length scene.solids ≤ count
+    → text ≡ canonical_text scene → IsLawfulScene scene → All IsLawfulSolid (take count scene.solids)
+    → IsLawfulTree scene.show → IsReadAs text scene
+parts_read scene count text every is law solids show =
+    let writable : IsWritable scene =
+    record { lawful = law; solids = subst (All IsLawfulSolid) (take_all count scene.solids every) solids; show = show }
     in subst (λ (t : List ℕ). IsReadAs t scene) (sym is) (canonical_read scene writable)

@@ -14,7 +14,7 @@ pub next_number : (f : ℕ → List ℕ) (a n m : ℕ) (start now new : List ℕ
 next_number f a n m start now new is at more = grind (arith, append_assoc, one_more)
 
 -- the first ones of a list, with the next one
-next_taken : {X : Type 0} (xs items : List X) (i : ℕ) (x : X) → items ≡ xs → i < length items
+pub next_taken : {X : Type 0} (xs items : List X) (i : ℕ) (x : X) → items ≡ xs → i < length items
     → x ≡ slice_index_or items i x → take (i + 1) xs ≡ take i xs ++ x ∷ []
 next_taken xs items i x are within is = grind (arith, take_more)
 

@@ -3,7 +3,7 @@ ghost use Rattle.std.specs.Prelude.{◌≡◌};
 ghost use Rattle.px_command.specs.Commands.{doublings};
 
 /// What the program is asked to do (docs/SCENES.md, "Commands").
-#[derive(Clone, Copy, Debug, PartialEq, Eq)]
+#[derive(Clone, Copy)]
 pub enum Command {
     /// Makes something of the scene that is the whole input.
     Make(Work),
@@ -18,7 +18,7 @@ pub enum Command {
 }
 
 /// What is made of a scene.
-#[derive(Clone, Copy, Debug, PartialEq, Eq)]
+#[derive(Clone, Copy)]
 pub enum Work {
     /// Draws the depth image and the face image.
     Render,
@@ -39,7 +39,7 @@ pub enum Work {
 }
 
 /// How many finer pixels stand along each side of a pixel.
-#[derive(Clone, Copy, Debug, PartialEq, Eq)]
+#[derive(Clone, Copy)]
 pub enum Fineness {
     /// Two, so that a pixel is the mean of four.
     Two,
@@ -48,7 +48,7 @@ pub enum Fineness {
 }
 
 /// The size of a wide picture in pixels, each side of 1 to `px_model::MAX_WIDE_PICTURE_SIZE`.
-#[derive(Clone, Copy, Debug, PartialEq, Eq)]
+#[derive(Clone, Copy)]
 pub struct Size {
     /// The pixels of a row.
     pub width: u32,

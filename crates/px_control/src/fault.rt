@@ -4,7 +4,7 @@ use px_num::Memory;
 use thiserror::Error;
 
 /// Why a scene cannot be run on an array.
-#[derive(Debug, Drop, PartialEq, Eq, Error)]
+#[derive(Debug, Drop, Error)]
 pub enum JobFault {
     /// The passes need more memory bits than a pixel of the array has.
     #[error("{need} memory bits a pixel")]

@@ -5,7 +5,7 @@ use px_sched::Cursor;
 /// Where a job stands before a broadcast, or at the end of its program.
 ///
 /// Plain data: a place may be kept, and a job returned to it.
-#[derive(Clone, Copy, Debug, PartialEq, Eq)]
+#[derive(Clone, Copy)]
 pub struct Place {
     pub(crate) cursor: Cursor,
     pub(crate) clock: u64,

@@ -24,7 +24,7 @@ use std::alloc::Global;
 use std::marker::Model;
 
 /// Whether a session goes on after a line.
-#[derive(Clone, Copy, Debug, PartialEq, Eq)]
+#[derive(Clone, Copy)]
 pub enum Going {
     More,
     Quit,

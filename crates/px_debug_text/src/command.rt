@@ -18,7 +18,7 @@ const MOST_BYTES: usize = 255;
 const MOST_DIGITS: usize = 18;
 
 /// What a command line asks for (docs/DEBUGGER.md, "Lines").
-#[derive(Clone, Copy, Debug, PartialEq, Eq)]
+#[derive(Clone, Copy)]
 pub enum Command {
     /// So many clocks forward.
     Step(u64),

@@ -23,7 +23,7 @@ const ROOM: usize = 2 * (32 + 3 * 512 * 512);
 const BITS: usize = 72;
 
 /// Why a text has no picture.
-#[derive(Debug, Drop, PartialEq, Eq)]
+#[derive(Debug, Drop)]
 pub enum NotDrawn {
     /// The text is no scene: the first bad line, and its cause or the limit that it passes.
     Text(SceneFault),

@@ -11,14 +11,14 @@ use std::alloc::Global;
 use std::marker::Model;
 
 /// A waiting subtree: the place of its root, and how deep it is nested.
-#[derive(Clone, Copy, Debug)]
+#[derive(Clone, Copy)]
 struct Subtree {
     root: u16,
     nesting: u8,
 }
 
 /// Subtrees that wait to be joined. Contracts see the list of them, the newest first.
-#[derive(Debug, Drop)]
+#[derive(Drop)]
 pub struct ExprBuilder {
     nodes: Vec<Node>,
     waiting: Vec<Subtree>,

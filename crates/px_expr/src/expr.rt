@@ -14,7 +14,7 @@ use std::marker::Model;
 
 /// An expression over solids, of at most `MAX_LEAVES` leaves and `MAX_NESTING` levels of nesting.
 /// Contracts see the tree that is written.
-#[derive(Debug, Drop)]
+#[derive(Drop)]
 pub struct Expr {
     pub(crate) nodes: Vec<Node>,
 }

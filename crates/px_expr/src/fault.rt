@@ -4,7 +4,7 @@ use std::alloc::AllocError;
 use thiserror::Error;
 
 /// Why a leaf or an operator was refused (docs/SCENES.md, "Limits").
-#[derive(Debug, Drop, PartialEq, Eq, Error)]
+#[derive(Debug, Drop, Error)]
 pub enum ExprFault {
     /// An expression has at most `MAX_LEAVES` leaves.
     #[error("{found} leaves, of at most 512")]

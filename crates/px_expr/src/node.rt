@@ -14,7 +14,7 @@ pub const MAX_NESTING: u8 = 64;
 pub const MAX_WAITING: usize = MAX_NESTING as usize + 1;
 
 /// What joins two expressions.
-#[derive(Clone, Copy, Debug, PartialEq, Eq)]
+#[derive(Clone, Copy)]
 pub enum Op {
     /// The cells of either side.
     Union,
@@ -27,14 +27,14 @@ pub enum Op {
 }
 
 /// How a side is taken: as it is, or by its complement, the cells that it lacks.
-#[derive(Clone, Copy, Debug, PartialEq, Eq)]
+#[derive(Clone, Copy)]
 pub enum Sense {
     Plain,
     Complement,
 }
 
 /// What an operator makes of its two sides, or what its complement is of them.
-#[derive(Clone, Copy, Debug, PartialEq, Eq)]
+#[derive(Clone, Copy)]
 pub enum Combination {
     /// The cells of both, the left side and the right one each in its sense.
     Both(Sense, Sense),
@@ -46,7 +46,7 @@ pub enum Combination {
 }
 
 /// A leaf by the index of its solid, or an operator by the places of its left and its right side.
-#[derive(Clone, Copy, Debug, PartialEq, Eq)]
+#[derive(Clone, Copy)]
 pub enum Node {
     Leaf(u8),
     Union(u16, u16),
@@ -56,7 +56,7 @@ pub enum Node {
 }
 
 /// A node as it is read: a leaf, or an operator between the places of its sides.
-#[derive(Clone, Copy, Debug, PartialEq, Eq)]
+#[derive(Clone, Copy)]
 pub enum Shape {
     Leaf(u8),
     Join(Op, u16, u16),

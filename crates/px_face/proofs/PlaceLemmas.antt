@@ -1,17 +1,28 @@
 -- The place of the greatest number: above all before it, and at least all after it.
-use Rattle.px_num.proofs.Basics.{common_steps, ◌≡◌, ◌<◌, ◌≤◌, ℕ, zero, suc, ℤ, Bool, true, false, ◌&&◌, List, [], ◌∷◌}
+use Rattle.px_num.proofs.Basics.{◌≡◌, ◌<◌, ◌≤◌, ℕ, zero, suc, ℤ, Bool, true, false, ◌&&◌, List, [], ◌∷◌}
 use Rattle.px_num.proofs.Basics.{length, take, drop, get_or, eqb, ap, sym, ◌∙◌, arith, inl, inr, list_all, ints}
-use Rattle.px_num.proofs.Basics.{cases_Bool, nat_tests}
+use Rattle.px_num.proofs.Basics.{cases_Bool, if◌then◌else◌, nat_tests}
 use Rattle.px_face.proofs.Words.{and_both, and_left, and_right, and_true, greatest_place, le_z, lt_z}
 
 -- v is above those before it, and at least those after it
 abbrev pub is_first_greatest : List ℤ → ℤ → List ℤ → Bool
 is_first_greatest before v after = list_all (λ u. lt_z u v) before && list_all (λ u. le_z u v) after
 
+-- g is the greatest of some, of which all are at most v or not, and at most z or not
+step_to : (v z g : ℤ) (low under : Bool) → le_z g v ≡ under → le_z g z ≡ low
+    → le_z (if under then v else g) z ≡ (le_z v z && low)
+step_to v z g low true e is = grind (arith, ints)
+step_to v z g low false e is = grind (arith, ints)
+
 greatest_cons : (v : ℤ) (vs : List ℤ) (d z : ℤ) → le_z (get_or (v ∷ vs) (greatest_place (v ∷ vs)) d) z
     ≡ list_all (λ u. le_z u z) (v ∷ vs)
 greatest_cons v [] d z = sym (and_true (le_z v z))
-greatest_cons v (w ∷ ws) d z = grind (arith, nat_tests, common_steps, greatest_cons w ws d)
+greatest_cons v (w ∷ ws) d z =
+    let step = step_to v z _ _ _ (greatest_cons w ws d v) (greatest_cons w ws d z) in
+    elim (cases_Bool (list_all (λ u. le_z u v) (w ∷ ws))) [
+      | inl all ↦ rw all (rw all at step)
+      | inr some ↦ rw some (rw some at step)
+    ]
 
 -- the greatest is at most z exactly where all are
 pub greatest_bounds : (vs : List ℤ) (d z : ℤ) → 0 < length vs → le_z (get_or vs (greatest_place vs) d) z

@@ -10,7 +10,7 @@ use px_model::{Colour, Scene};
 use px_sched::Layout;
 
 /// What an image shows of each pixel.
-#[derive(Clone, Copy, Debug, PartialEq, Eq)]
+#[derive(Clone, Copy)]
 pub enum Plane {
     /// How deep the first cell is.
     Depth,

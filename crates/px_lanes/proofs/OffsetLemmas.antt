@@ -1,9 +1,13 @@
 -- The offset of a lane, from the bits of its number.
 use Rattle.px_num.proofs.Basics.{◌≡◌, ℕ, ◌+◌, ◌-◌, ◌*◌, ◌/◌, ◌%◌, ◌^◌, ◌<◌, ◌≤◌, ◌==◌, ℤ, pos, ◌+ℤ◌, ◌*ℤ◌}
 use Rattle.px_num.proofs.Basics.{if◌then◌else◌, ap, ◌∙◌, arith, inl, inr, ◌⊎◌, mod-mul, mod-eq_of_lt, one-le-pow}
-use Rattle.px_num.proofs.Basics.{pow-le-pow_right, cases_lt, ints, pow-add}
+use Rattle.px_num.proofs.Basics.{pow-le-pow_right, cases_lt, ints, pow-add, pow_below}
 use Rattle.px_lanes.proofs.Words.{Linear, nat_bit, offset, value_at}
 use Rattle.std.proofs.Math.Nat.{add-mul-div_left, add-mul-mod_self_left, div-eq_of_lt}
+
+-- the height of a column as it is computed
+pub height : (ny : ℕ) → ny ≤ 9 → 1 * 2 ^ ny % 4294967296 ≡ 2 ^ ny
+height ny low = let s : 2 ^ ny < 2 ^ 10 = pow_below ny 10 (omega arith) in omega arith
 
 pub offset_zero : (form : Linear) (ny : ℕ) → offset form ny 0 ≡ pos 0
 offset_zero form ny = grind (arith, one-le-pow, div-eq_of_lt, mod-eq_of_lt)

@@ -16,7 +16,7 @@ pub(crate) enum Keyword {
 }
 
 /// What is due on a line, by the line before it.
-#[derive(Clone, Copy, PartialEq, Eq)]
+#[derive(Clone, Copy)]
 pub(crate) enum Due {
     Header,
     Grid,

@@ -31,7 +31,7 @@ use px_num::power;
 use px_show::{LineFault, past};
 
 /// What has a limit in a listing (docs/LISTINGS.md, "Limits").
-#[derive(Clone, Copy, Debug, PartialEq, Eq)]
+#[derive(Clone, Copy, Debug)]
 pub enum ListKind {
     Grid,
     Coefficient,

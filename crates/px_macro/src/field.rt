@@ -12,7 +12,7 @@ ghost use Rattle.px_macro.specs.FieldLaws.{
 
 /// `len` bits of the memory from place `at` on, the lowest bit first
 /// (docs/MACHINE.md, "Broadcast operations").
-#[derive(Clone, Copy, Debug, PartialEq, Eq)]
+#[derive(Clone, Copy)]
 pub struct Field {
     pub at: u32,
     pub len: u32,

@@ -8,7 +8,7 @@ use px_num::Linear;
 ///
 /// In the formulas `v` is the value of the linear form at the pixel, and `f` and `g` are the numbers
 /// in the first and the second field. A pixel that is not enabled keeps its memory.
-#[derive(Clone, Copy, Debug, Default, PartialEq, Eq)]
+#[derive(Clone, Copy, Default)]
 pub enum Macro {
     /// `enable = 1`
     ///

@@ -29,7 +29,7 @@ use px_num::{Linear, Memory};
 use std::alloc::Global;
 
 /// Other pixels over the half-spaces of a scene.
-#[derive(Clone, Copy, Debug, PartialEq, Eq)]
+#[derive(Clone, Copy)]
 pub enum Pixels {
     /// Each pixel is cut into `2^s` by `2^s` of them (docs/PICTURE.md, "Refinement").
     Finer {

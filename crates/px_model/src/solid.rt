@@ -9,7 +9,7 @@ use std::alloc::Global;
 use std::marker::Model;
 
 /// A colour, each part from 0 to 255.
-#[derive(Clone, Copy, Debug, PartialEq, Eq)]
+#[derive(Clone, Copy)]
 pub struct Colour {
     pub red: u8,
     pub green: u8,
@@ -17,7 +17,7 @@ pub struct Colour {
 }
 
 /// A numbered plane of a solid, a front or a back (docs/PICTURE.md, "Faces").
-#[derive(Clone, Copy, Debug, PartialEq, Eq)]
+#[derive(Clone, Copy)]
 pub struct Face {
     pub number: u32,
     pub plane: Linear,

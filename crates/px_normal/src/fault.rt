@@ -3,7 +3,7 @@ use px_num::Memory;
 use thiserror::Error;
 
 /// Why an expression is not made into products (docs/SCENES.md, "Limits").
-#[derive(Debug, Drop, PartialEq, Eq, Error)]
+#[derive(Debug, Drop, Error)]
 pub enum NormalFault {
     /// A wanted list of live products has more than `MAX_PRODUCTS`; the count is at most `2^21`.
     #[error("{count} products, of at most 1024")]

@@ -9,7 +9,7 @@ use std::marker::Model;
 pub const MAX_PRODUCTS: u32 = 1024;
 
 /// The cells inside every plain solid and inside no barred one.
-#[derive(Clone, Copy, Debug, Default, PartialEq, Eq)]
+#[derive(Clone, Copy, Default)]
 pub struct Product {
     pub plain: SolidSet,
     pub barred: SolidSet,
@@ -48,7 +48,7 @@ impl Product {
 }
 
 /// A sum of products, seen by contracts as the list of them.
-#[derive(Debug, Drop)]
+#[derive(Drop)]
 pub struct Products {
     list: Vec<Product>,
 }

@@ -5,7 +5,7 @@ ghost use Rattle.px_num.specs.Forms.{IsInHalfRange, IsInTreeRange, IsWithin, les
 /// A linear form `a * x + b * y + c` over the pixels of a screen.
 ///
 /// `x` counts pixels from the left, and `y` from the top (docs/PICTURE.md, "Pixels and cells").
-#[derive(Clone, Copy, Debug, Default, PartialEq, Eq)]
+#[derive(Clone, Copy, Default)]
 pub struct Linear {
     pub a: i64,
     pub b: i64,

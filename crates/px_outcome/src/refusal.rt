@@ -10,7 +10,7 @@ use px_text::MAX_TEXT_BYTES;
 pub const READ_LIMIT: usize = MAX_TEXT_BYTES + 1;
 
 /// Why a text is refused (docs/SCENES.md, "Refusals").
-#[derive(Clone, Copy, Debug, PartialEq, Eq)]
+#[derive(Clone, Copy)]
 pub enum Refusal {
     /// The words of a line are bad, or lines are missing.
     Malformed { line: u32, cause: Cause },
@@ -19,7 +19,7 @@ pub enum Refusal {
 }
 
 /// Which limit is passed.
-#[derive(Clone, Copy, Debug, PartialEq, Eq)]
+#[derive(Clone, Copy)]
 pub enum Kind {
     /// One of those of scenes.
     Scene(LimitKind),

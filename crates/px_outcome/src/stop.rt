@@ -18,7 +18,7 @@ use px_refine::FineFault;
 use px_scene::{LimitKind, SceneFault};
 
 /// Why the work was not done.
-#[derive(Debug, Drop)]
+#[derive(Drop)]
 pub enum Stop {
     Usage,
     Refused(Refusal),
@@ -28,7 +28,7 @@ pub enum Stop {
 }
 
 /// Why a scene was not served: by what it is, or for want of memory.
-#[derive(Debug, Drop)]
+#[derive(Drop)]
 pub enum SceneStop {
     Refused(Refusal),
     Memory(Memory),

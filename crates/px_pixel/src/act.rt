@@ -4,7 +4,7 @@
 ///
 /// `tree` is the bit of the multiplier tree at the pixel, and each formula speaks of the values
 /// before the clock. A `u32` is a place in the pixel's memory.
-#[derive(Clone, Copy, Debug, PartialEq, Eq)]
+#[derive(Clone, Copy)]
 pub enum Act {
     /// Changes nothing.
     Nop,

@@ -18,7 +18,7 @@ use px_sets::SolidSet;
 use std::alloc::Global;
 
 /// The products of a scene that can show anything.
-#[derive(Debug, Drop)]
+#[derive(Drop)]
 pub struct Plan {
     pub products: Vec<Product>,
 }

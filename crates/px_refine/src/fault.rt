@@ -3,7 +3,7 @@ use px_num::Memory;
 use thiserror::Error;
 
 /// Why a scene has no finer scene (docs/PICTURE.md, "Refinement").
-#[derive(Debug, Drop, PartialEq, Eq, Error)]
+#[derive(Debug, Drop, Error)]
 pub enum FineFault {
     /// The fraction of a depth would have more bits than it may: at most 8, and with the bits of
     /// the depth at most 24.

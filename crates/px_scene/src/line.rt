@@ -20,7 +20,7 @@ pub(crate) enum Keyword {
 }
 
 /// What is due on a line, by the line before it.
-#[derive(Clone, Copy, Debug, PartialEq, Eq)]
+#[derive(Clone, Copy)]
 pub enum Due {
     Header,
     Picture,
@@ -32,7 +32,7 @@ pub enum Due {
 }
 
 /// What is counted over the lines before a line.
-#[derive(Clone, Copy, Debug, PartialEq, Eq)]
+#[derive(Clone, Copy)]
 pub struct Tally {
     pub solids: u32,
     pub numbered: u32,

@@ -29,7 +29,7 @@ use px_prune::Plan;
 
 /// A place in the passes of a scene (docs/PASSES.md). It takes no memory, and finds the next
 /// operation without those before it.
-#[derive(Clone, Copy, Debug, PartialEq, Eq)]
+#[derive(Clone, Copy)]
 pub struct Cursor {
     /// How many operations it has given.
     pub given: u64,

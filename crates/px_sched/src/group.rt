@@ -31,7 +31,7 @@ use px_model::Scene;
 use px_normal::Product;
 
 /// A step of the passes of one literal of a product, by their indices.
-#[derive(Clone, Copy, Debug, PartialEq, Eq)]
+#[derive(Clone, Copy)]
 pub(crate) struct Group {
     pub product: usize,
     pub literal: usize,
@@ -39,7 +39,7 @@ pub(crate) struct Group {
 }
 
 /// How far the passes are.
-#[derive(Clone, Copy, Debug, PartialEq, Eq)]
+#[derive(Clone, Copy)]
 pub(crate) enum Stage {
     /// The background becomes the best.
     Start,

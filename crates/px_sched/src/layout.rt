@@ -23,7 +23,7 @@ use thiserror::Error;
 /// Key B has the best depth and face number so far, key T those of the candidate. In a key the
 /// number is the low bits and the depth the high ones. A layout keeps in its type that its parts
 /// stand one after another, for a depth of 1 to 24 bits and a number of 1 to 12.
-#[derive(Clone, Copy, Debug)]
+#[derive(Clone, Copy)]
 pub struct Layout {
     pub depth_bits: u32,
     pub fraction_bits: u32,

@@ -11,7 +11,7 @@ use px_normal::Product;
 pub(crate) const MAX_LITERALS: usize = 512;
 
 /// A solid of a product, plain or barred.
-#[derive(Clone, Copy, Debug, Default, PartialEq, Eq)]
+#[derive(Clone, Copy, Default)]
 pub struct Literal {
     pub solid: u8,
     pub plain: bool,

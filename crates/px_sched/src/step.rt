@@ -27,7 +27,7 @@ use px_num::{Linear, power};
 ///
 /// A solid stands by its index in the scene, and another literal by its place among the literals
 /// of the product that are of other solids.
-#[derive(Clone, Copy, Debug, PartialEq, Eq)]
+#[derive(Clone, Copy)]
 pub enum Step {
     /// The background becomes the best.
     Start,

@@ -35,7 +35,7 @@ use px_prune::Plan;
 
 /// A place in the steps of a scene (docs/PASSES.md, "Steps"). It takes no memory, and finds the next
 /// step without those before it.
-#[derive(Clone, Copy, Debug, PartialEq, Eq)]
+#[derive(Clone, Copy)]
 pub struct StepCursor {
     /// How many steps it has given.
     pub given: u64,

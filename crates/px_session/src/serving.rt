@@ -17,7 +17,7 @@ use px_debug::{Going, Session};
 use px_io::Sink;
 
 /// Why no more lines are answered.
-#[derive(Clone, Copy, Debug, PartialEq, Eq)]
+#[derive(Clone, Copy)]
 pub enum Ending {
     /// A line was `quit`.
     Quit,

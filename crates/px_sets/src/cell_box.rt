@@ -4,7 +4,7 @@ ghost use Rattle.px_sets.specs.Boxes.{common_part, has_cell, narrowed};
 
 /// Cells from one corner to the other, both included: pixels `x0` to `x1` of the rows `y0` to
 /// `y1`, at the depths `z0` to `z1`.
-#[derive(Clone, Copy, Debug, PartialEq, Eq)]
+#[derive(Clone, Copy)]
 pub struct CellBox {
     pub x0: u32,
     pub x1: u32,

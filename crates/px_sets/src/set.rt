@@ -8,7 +8,7 @@ ghost use Rattle.px_sets.specs.SetLaws.{LawsOfSets};
 use arrayvec::ArrayVec;
 
 /// A set of solids: solid `q` is in it where bit `q mod 64` of word `q div 64` is 1.
-#[derive(Clone, Copy, Debug, Default, PartialEq, Eq)]
+#[derive(Clone, Copy, Default)]
 pub struct SolidSet {
     words: [u64; 4],
 }

@@ -26,7 +26,7 @@ use px_text::{before_comment, is_blank, is_name, is_word, without_last_feed};
 use thiserror::Error;
 
 /// A line of lights is bad (docs/SCENES.md, "Light lines").
-#[derive(Clone, Copy, Debug, PartialEq, Eq, Error)]
+#[derive(Clone, Copy, Debug, Error)]
 pub enum LightFault {
     /// Its words are no light.
     #[error("line {line}: {cause:?}")]

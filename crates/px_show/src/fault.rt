@@ -8,7 +8,7 @@ use std::fmt::Debug;
 use thiserror::Error;
 
 /// Why the words of a line are bad (docs/SCENES.md, "Causes").
-#[derive(Clone, Copy, Debug, PartialEq, Eq)]
+#[derive(Clone, Copy, Debug)]
 pub enum Cause {
     NotHeader,
     Unexpected,
@@ -23,7 +23,7 @@ pub enum Cause {
 }
 
 /// What has a limit in a scene text (docs/SCENES.md, "Limits").
-#[derive(Clone, Copy, Debug, PartialEq, Eq)]
+#[derive(Clone, Copy, Debug)]
 pub enum LimitKind {
     Text,
     Picture,
@@ -43,21 +43,21 @@ pub enum LimitKind {
 }
 
 /// A line's form is bad, or else one of its numbers or counts passes a limit.
-#[derive(Clone, Copy, Debug, PartialEq, Eq)]
+#[derive(Clone, Copy)]
 pub enum LineFault<K> {
     Malformed(Cause),
     Limit { kind: K, found: i64 },
 }
 
 /// A line is bad, or memory was wanted and not given.
-#[derive(Debug, Drop, PartialEq, Eq)]
+#[derive(Drop)]
 pub enum LineError<K> {
     Bad(LineFault<K>),
     Memory(Memory),
 }
 
 /// Why a text is refused (docs/SCENES.md, "Refusals"). The first bad line decides.
-#[derive(Debug, Drop, PartialEq, Eq, Error)]
+#[derive(Debug, Drop, Error)]
 #[error_bound(K: Debug)]
 pub enum TextFault<K> {
     /// The words of a line are bad, or the text has no `end`.

@@ -4,7 +4,7 @@ ghost use Rattle.px_text.specs.LentWords.{now_of};
 ghost use Rattle.px_show.specs.Versions.{has_differ, version_named, version_of, version_word};
 
 /// What a scene text may say. Each version has all that the one before has.
-#[derive(Clone, Copy, Debug, PartialEq, Eq)]
+#[derive(Clone, Copy)]
 pub enum Version {
     /// Whole depths, and the signs `+`, `*` and `-`.
     One,

@@ -8,7 +8,7 @@ use px_scene::SceneFault;
 use thiserror::Error;
 
 /// Why there is no state, or there are no micros or operations.
-#[derive(Debug, Drop, PartialEq, Eq, Error)]
+#[derive(Debug, Drop, Error)]
 pub enum StateFault {
     /// The text is no scene, and no listing (docs/SCENES.md, "Refusals"), or it is too long.
     #[error("{0}")]

@@ -24,7 +24,7 @@ use px_sched::Step;
 
 /// An operation of a scene's passes or of a listing (include/pxplanes.h, `struct pxplanes_operation`).
 #[repr(C)]
-#[derive(Clone, Copy, Debug, PartialEq, Eq)]
+#[derive(Clone, Copy)]
 pub struct Operation {
     /// The numbers of its line, in their order (docs/LISTINGS.md, "Operations"), and 0 behind them.
     pub first: i64,

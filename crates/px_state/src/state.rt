@@ -3,7 +3,7 @@
 use px_array::Micro;
 
 /// What is broadcast next.
-#[derive(Clone, Copy, Debug, PartialEq, Eq)]
+#[derive(Clone, Copy)]
 pub struct Next {
     /// The operation that it belongs to, counted from 0.
     pub operation: u64,
@@ -13,7 +13,7 @@ pub struct Next {
 }
 
 /// A grid after so many clocks of what is broadcast to it; its bits are words in a list of their own.
-#[derive(Clone, Copy, Debug, PartialEq, Eq)]
+#[derive(Clone, Copy)]
 pub struct State {
     /// The exponents of the grid: it has `2^nx` columns and `2^ny` rows.
     pub nx: u32,
@@ -30,7 +30,7 @@ pub struct State {
 }
 
 /// How many operations a text broadcasts, and how many clocks they take.
-#[derive(Clone, Copy, Debug, PartialEq, Eq)]
+#[derive(Clone, Copy)]
 pub struct Course {
     pub operations: u64,
     pub clocks: u64,

@@ -4,7 +4,7 @@ use px_num::Memory;
 use thiserror::Error;
 
 /// Why a scene has no tile at a place.
-#[derive(Debug, Drop, PartialEq, Eq, Error)]
+#[derive(Debug, Drop, Error)]
 pub enum TileFault {
     /// A plane's `C` is greater than `2^33` in size at the tile's first pixel.
     #[error("a coefficient of {found}")]
@@ -18,7 +18,7 @@ pub enum TileFault {
 }
 
 /// Why a picture is not drawn tile by tile, in the order in which it is asked.
-#[derive(Debug, Drop, PartialEq, Eq, Error)]
+#[derive(Debug, Drop, Error)]
 pub enum WideFault {
     /// There are more than `MAX_TILES` tiles.
     #[error("{found} tiles, of at most 1024")]

@@ -7,7 +7,7 @@ ghost use Rattle.px_tree.specs.Nodes.{IsGrid};
 use px_num::{Linear, bit_of};
 
 /// The three bits of one feed.
-#[derive(Clone, Copy, Debug, PartialEq, Eq)]
+#[derive(Clone, Copy)]
 pub struct Lines {
     pub a: bool,
     pub b: bool,

@@ -5,7 +5,7 @@ ghost use Rattle.px_tree.specs.Nodes.{next_node, zero_node};
 use px_num::majority;
 
 /// The two latches of a node (docs/MACHINE.md, "The multiplier tree").
-#[derive(Clone, Copy, Debug, PartialEq, Eq)]
+#[derive(Clone, Copy)]
 pub struct Node {
     pub output: bool,
     pub carry: bool,

@@ -1,10 +1,7 @@
 use Rattle.px_num.proofs.Basics.{◌≡◌, ◌+◌, ◌*◌, ◌/◌, ◌%◌, ◌^◌, ◌<◌, ◌≤◌, ℕ, arith, ints, to_z-of_z, pow-add, pow_below}
 use Rattle.px_num.proofs.Basics.{one-le-pow, pow-le-pow_right}
-use Rattle.px_lanes.proofs.OffsetLemmas.{value_in_word}
+use Rattle.px_lanes.proofs.OffsetLemmas.{height, value_in_word}
 use Rattle.px_lanes.proofs.values.base_of.Goals as goal
-
-height : (ny : ℕ) → ny ≤ 9 → 1 * 2 ^ ny % 4294967296 ≡ 2 ^ ny
-height ny low = let s : 2 ^ ny < 2 ^ 10 = pow_below ny 10 (omega arith) in omega arith
 
 pub returns-clause-value : goal.returns-clause-value
 returns-clause-value c j small = grind (arith, to_z-of_z, height, value_in_word)

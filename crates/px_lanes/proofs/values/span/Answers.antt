@@ -3,7 +3,7 @@ use Rattle.px_num.proofs.Basics.{if◌then◌else◌, ap, arith, w64, to_z, of_z
 use Rattle.px_num.proofs.Basics.{pow_below, int_max, int_min}
 use Rattle.px_lanes.proofs.Words.{IsWithin, nat_bit, offset, SFits}
 use Rattle.std.proofs.lemmas.Int.{clamps}
-use Rattle.px_lanes.proofs.OffsetLemmas.{offset_step}
+use Rattle.px_lanes.proofs.OffsetLemmas.{offset_step, offset_zero}
 use Rattle.px_lanes.proofs.values.span.Goals as goal
 
 below_64 : (k : ℕ) → k < 6 → 1 * 2 ^ k % 4294967296 ≡ 2 ^ k
@@ -101,3 +101,6 @@ pub returns-clause-most : goal.returns-clause-most
 returns-clause-most c j small =
     let e = whole c.loop-k.k j c.loop-k-test.false c.loop-k.auto.k-end small in
     rw e at (c.loop-k.invariant.most j small)
+
+pub loop-k-init : goal.loop-k-init
+loop-k-init c = grind (arith, offset_zero)
