@@ -3,6 +3,7 @@
 `rt ci` leaves in each library's folder what the crates above it may cite, its statements, and proves all crates over those. So
 does `rattle build`, by which this proves the library for C, or the program, once more over them, and compiles it. `rt lib` knows no
 such way: it proves every crate below anew."""
+import hashlib
 import os
 import re
 import shutil
@@ -23,9 +24,10 @@ LINE = re.compile(r"(?m)^([a-z]\w*)( staticlib)?:(.*)$")
 PROVED = re.compile(r"(?m)^logic=proved .*\bstatements=trusted\b.*$")
 TARGET = "x86_64-unknown-linux-gnu"
 SYSTEM_PARTS = ("libos_c.a", "liblibc_c.a")
-# The module of the library that was kept last, and the checksum of the crates that it was made of.
-KEPT, KEPT_OF = (os.path.join(ends.TOP, "crates", LIBRARY, "out", leaf) for leaf in ("module.bc", "module.of"))
 MODULE = "module.bc"
+# What was built last, outside the crates' own folders, which rt ci empties: each file, and beside it what it was built of.
+STORE = os.path.join(ends.TOP, "built")
+KEPT = os.path.join(STORE, MODULE)
 # How a folder begins in which what is built for one processor is kept for another.
 KEEPS = "px-build-"
 # The module is compiled for some seconds.
@@ -74,16 +76,32 @@ def copied(path, copy):
         return False
 
 
+def of_crates():
+    """What builds are made of: the crates as they stand, and the kit. In one line."""
+    return "%s %s" % (gate.sum_crates(), ends.content(in_kit("KIT-ID")).decode("utf-8").strip())
+
+
+def kept_of(leaf):
+    """What a file that is kept was built of, and the line of its proof; none where it is not there, or is not as it was kept."""
+    path = os.path.join(STORE, leaf)
+    if not os.path.isfile(path) or not os.path.isfile(path + ".of"):
+        return None, None
+    of, line, summed = ends.content(path + ".of").decode("utf-8").splitlines()
+    return (of, line) if summed == hashlib.sha256(ends.content(path)).hexdigest() else (None, None)
+
+
 def is_kept():
     """Whether the module that is kept is of the crates as they stand."""
-    return os.path.isfile(KEPT) and os.path.isfile(KEPT_OF) and ends.content(KEPT_OF).decode("ascii") == gate.sum_crates()
+    return (kept_of(MODULE)[0] or "").partition(" ")[0] == gate.sum_crates()
 
 
-def keep(module):
-    """Keeps the module of the crates as they stand."""
-    shutil.copyfile(module, KEPT)
-    with open(KEPT_OF, "w", encoding="ascii") as file:
-        file.write(gate.sum_crates())
+def keep(path, leaf, of, line):
+    """Keeps a file by a name, with what it was built of and the line of its proof."""
+    os.makedirs(STORE, exist_ok=True)
+    kept = os.path.join(STORE, leaf)
+    shutil.copy(path, kept)
+    with open(kept + ".of", "w", encoding="utf-8") as file:
+        file.write("%s\n%s\n%s\n" % (of, line, hashlib.sha256(ends.content(kept)).hexdigest()))
 
 
 def of_cpu(path, cpu):
@@ -136,10 +154,10 @@ def calls_of(path):
 
 class Proved:
     """A folder of crates in which `rt ci` has proved all that crates.txt names. What was proved for one processor is kept, where a
-    folder is given for it, and is not proved again for another."""
+    folder is given for it, and is not proved again for another; `anew`, what was built earlier of the same is built again."""
 
-    def __init__(self, top, jobs, kept=None):
-        self.top, self.jobs, self.kept = os.path.abspath(top), str(jobs), kept
+    def __init__(self, top, jobs, kept=None, anew=False):
+        self.top, self.jobs, self.kept, self.anew = os.path.abspath(top), str(jobs), kept, anew
         text = ends.content(os.path.join(self.top, "crates.txt")).decode("utf-8")
         self.lines = {name: rest.split() for name, _, rest in LINE.findall(text)}
 
@@ -185,29 +203,44 @@ class Proved:
             raise Bad("%s: no line of what was built says that it is proved" % crate)
         return found[0]
 
-    def make_library(self, cpu):
-        """Builds the library for C, and of the checkout's first build keeps the module; the file, and the line of its proof."""
-        made = of_cpu(os.path.join(self.folder(LIBRARY), "out", "libpx_c.a"), cpu)
+    def once(self, made, make, *beside):
+        """A file, the line of its proof, and whether it was kept of these very crates and this kit; else `make` makes it now, and
+        it is kept with the files beside it that `make` leaves. Of another folder than this repository nothing is kept."""
+        leaf, of = os.path.basename(made), of_crates() if self.top == ends.TOP else None
+        found, line = (None, None) if of is None or self.anew else kept_of(leaf)
+        if found == of != None and all(kept_of(each)[0] == of for each in beside):
+            shutil.copy(os.path.join(STORE, leaf), made)
+            return made, line, True
         with tempfile.TemporaryDirectory(prefix=KEEPS) as place:
+            whole, line = make(place)
+            if of is not None and of == of_crates():
+                for path, name in ((whole, leaf), *((os.path.join(place, each), each) for each in beside)):
+                    keep(path, name, of, line)
+            shutil.move(whole, made)
+        return made, line, False
+
+    def make_library(self, cpu):
+        """Builds the library for C, and of the first build keeps the module too; as `once`."""
+        def make(place):
             archive, module = (os.path.join(place, leaf) for leaf in ("library.a", MODULE))
-            line = self.compile(LIBRARY, cpu, archive, module if cpu == FIRST else None)
-            shutil.move(archive, made)
-            if cpu == FIRST and self.top == ends.TOP:
-                keep(module)
-        return made, line
+            return archive, self.compile(LIBRARY, cpu, archive, module if cpu == FIRST else None)
+
+        made = of_cpu(os.path.join(self.folder(LIBRARY), "out", "libpx_c.a"), cpu)
+        return self.once(made, make, *[MODULE][:cpu == FIRST])
 
     def make_program(self, cpu):
-        """Builds the program for a processor, which may call nothing that the one of `rt ci` does not; the file, and the line."""
+        """Builds the program for a processor, which may call nothing that the one of `rt ci` does not; as `once`."""
         first = os.path.join(self.folder(PROGRAM), "out", PROGRAM)
-        made = of_cpu(first, cpu)
         if not os.path.isfile(first):
             raise Bad("no program at %s; rt ci builds it" % first)
-        with tempfile.TemporaryDirectory(prefix=KEEPS) as place:
+
+        def make(place):
             part, whole = (os.path.join(place, leaf) for leaf in ("program.o", "program"))
             line = self.compile(PROGRAM, cpu, part)
             link(part, whole)
             more = sorted(calls_of(whole) - calls_of(first))
             if more:
                 raise Bad("the program for %s calls %s, which the other does not" % (cpu, ", ".join(more)))
-            shutil.move(whole, made)
-        return made, line
+            return whole, line
+
+        return self.once(of_cpu(first, cpu), make)

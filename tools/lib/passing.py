@@ -1,0 +1,58 @@
+"""What tools/check passed last, so that the very same is not checked twice. It is no tool itself."""
+import hashlib
+import importlib.metadata
+import os
+import subprocess
+import sys
+
+import building
+import ends
+import gate
+import program
+
+# The checksum of what passed last, beside what was built.
+PASSED = os.path.join(building.STORE, "checked")
+# What is installed here, by Debian.
+INSTALLED = "/var/lib/dpkg/status"
+# The settings that a check may hear of.
+OWN = ("PXPLANES_", "PATH", "PYTHON")
+
+
+def git(*words):
+    """What git says at the top of the repository; None where that is none."""
+    if not os.path.exists(os.path.join(ends.TOP, ".git")):
+        return None
+    done = subprocess.run(["git", "-C", ends.TOP, *words], capture_output=True, text=True)
+    return done.stdout.strip() if done.returncode == 0 else None
+
+
+def built():
+    """All that was built here and may be checked."""
+    yield from (path for _, path in program.builds(program.DEFAULT))
+    yield from (os.path.join(ends.TOP, leaf) for leaf in (gate.ARCHIVE, gate.NEWER_ARCHIVE))
+    yield building.KEPT
+    yield gate.PASSED
+
+
+def key():
+    """One checksum of all that checks stand on: the files that git tracks, what was built, what is installed, Python with what it
+    has, and the settings. None where a file differs from the last commit, or where what is installed is not known."""
+    tree = git("rev-parse", "HEAD^{tree}")
+    if not tree or git("status", "--porcelain") != "" or not os.path.isfile(INSTALLED):
+        return None
+    files = {path: hashlib.sha256(ends.content(path)).hexdigest() for path in (INSTALLED, *built()) if os.path.isfile(path)}
+    modules = sorted((each.name or "", each.version) for each in importlib.metadata.distributions())
+    settings = sorted(pair for pair in os.environ.items() if pair[0].startswith(OWN))
+    return hashlib.sha256(repr((tree, files, sys.version, modules, settings)).encode()).hexdigest()
+
+
+def has_passed(found):
+    """Whether what has this key passed last."""
+    return found is not None and os.path.isfile(PASSED) and ends.content(PASSED).decode("ascii").strip() == found
+
+
+def note(found):
+    """Notes that what has this key passed."""
+    os.makedirs(building.STORE, exist_ok=True)
+    with open(PASSED, "w", encoding="ascii") as file:
+        file.write(found + "\n")
