@@ -3,11 +3,12 @@ use Rattle.px_num.proofs.Basics.{ℕ, ℤ, pos, ◌≡◌, ◌<◌, ◌≤◌, �
 use Rattle.px_num.proofs.Basics.{ap, fold, fold-append, get_or, length, list_all-append, map, map-append, sym, take}
 use Rattle.px_num.proofs.Basics.{take_more, ◌+◌}
 use Rattle.px_num.proofs.Basics.{nat_lt, List, [], ◌∷◌, refl, ◌∙◌, arith, Some, None, Option, list_all, ints}
-use Rattle.px_prune.proofs.Words.{all_same, Block, CellBox, Depths, end_of, greatest_in, has_pixel, hull, in_block}
-use Rattle.px_prune.proofs.Words.{is_in_box, is_inside, is_one_pixel, IsBoxOf, IsReachOf, le_z, least_in, lt_z}
-use Rattle.px_prune.proofs.Words.{SolidView, value_at, value_of, with_block}
-use Rattle.px_num.proofs.TruthLaws.{lt_holds}
+use Rattle.px_prune.proofs.Words.{all_same, Block, cell_is_first, cell_of, CellBox, Depths, end_of, greatest_in}
+use Rattle.px_prune.proofs.Words.{has_pixel, hull, in_block, is_in_box, is_inside, is_one_pixel, IsBoxOf, IsReachOf}
+use Rattle.px_prune.proofs.Words.{le_z, least_in, lt_z, SolidView, value_at, value_of, with_block}
+use Rattle.px_num.proofs.TruthLaws.{le_holds, le_true, lt_holds}
 use Rattle.px_num.specs.declared.linear.Linear.{Linear}
+use Rattle.px_prune.specs.Blocks.{IsShutAt}
 use Rattle.px_prune.specs.Covered.{is_covered}
 use Rattle.px_prune.proofs.BlockLemmas.{greatest_at_pixel, greatest_bounds, least_at_pixel, least_bounds, one_column}
 use Rattle.px_prune.proofs.BlockLemmas.{one_row}
@@ -128,18 +129,34 @@ lt_of_test a b test = grind (arith, ints)
 shut_cell : (t n p q r : Bool) → (t ≡ true → n ≡ true → q ≡ true → r ≡ true → ⊥) → t && (n && p && q && r) ≡ false
 shut_cell t n p q r h = grind arith
 
--- a front that is nowhere in a block before a back leaves no cell there
+le_test : (a b : ℤ) → a ≤ℤ b → le_z a b ≡ true
+le_test a b h = grind (arith, ints)
+
+-- where the cell of a back is not behind that of a front, no cell behind the front is before the back
+no_room : (d : Depths) (front back : ℤ) (z : ℕ) → cell_of d back ≤ cell_of d front → front ≤ℤ pos (value_of d z)
+    → back ≤ℤ pos (value_of d z)
+no_room d front back z room behind =
+    let to : cell_of d front ≤ z = le_holds _ _ (cell_is_first d front z ∙ le_test _ _ behind) in
+    le_of_test _ _ (sym (cell_is_first d back z) ∙ le_true (cell_of d back) z (omega arith))
+
+-- a front that leaves no room before a back in a block leaves no cell there
 pub shut : (s : SolidView) (d : Depths) (b : Block) (front back : Linear)
     → ((x y value : ℕ) → list_all (λ f. le_z (value_at f.plane x y) (pos value)) s.fronts ≡ true
     → value_at front x y ≤ℤ pos value)
     → ((x y value : ℕ) → value < end_of d → list_all (λ f. lt_z (pos value) (value_at f.plane x y)) s.backs ≡ true
     → pos value <ℤ value_at back x y)
-    → ((x y : ℕ) → has_pixel b x y ≡ true → value_at back x y ≤ℤ value_at front x y)
+    → ((x y : ℕ) → has_pixel b x y ≡ true → IsShutAt front back d.fraction_bits x y)
     → (x y z : ℕ) → in_block (is_inside s d) b x y z ≡ false
+unfolding IsShutAt
 shut s d b front back before behind apart x y z =
     shut_cell _ _ _ _ _ (λ there low fronts backs.
     let v = value_of d z in
-    omega (arith, ints, before x y v fronts, behind x y v (lt_holds v (end_of d) low) backs, apart x y there))
+    omega (
+      arith,
+      ints,
+      behind x y v (lt_holds v (end_of d) low) backs,
+      no_room d (value_at front x y) (value_at back x y) z (apart x y there d.far) (before x y v fronts),
+    ))
 
 pub shut_reach : (cells : ℕ → ℕ → ℕ → Bool) (b : Block) → ((x y z : ℕ) → in_block cells b x y z ≡ false)
     → IsReachOf cells b None

@@ -1,7 +1,9 @@
 -- A block of pixels: the values of linear forms in it, and the cells of a solid. Only proofs and private
 -- functions stand on it.
-use Rattle.std.specs.Prelude.{ℕ, ℤ, pos, ◌≡◌, ◌+◌, ◌-◌, ◌==◌, Bool, true, ◌&&◌, ◌||◌, nat_le, Option, if◌then◌else◌}
+use Rattle.std.specs.Prelude.{ℕ, ℤ, pos, ◌≡◌, ◌+◌, ◌-◌, ◌≤◌, ◌==◌, Bool, true, ◌&&◌, ◌||◌, nat_le, Option}
+use Rattle.std.specs.Prelude.{if◌then◌else◌}
 use Rattle.std.specs.Int.Signed.{lt_z}
+use Rattle.px_model.specs.Cells.{cell_of, depths}
 use Rattle.px_num.specs.declared.linear.Linear.{Linear}
 use Rattle.px_num.specs.Forms.{value_at}
 use Rattle.px_prune.specs.declared.block.Block.{Block}
@@ -33,6 +35,11 @@ greatest_in b form =
 -- cells at the pixels of a block
 abbrev pub in_block : (ℕ → ℕ → ℕ → Bool) → Block → ℕ → ℕ → ℕ → Bool
 in_block cells b x y z = has_pixel b x y && cells x y z
+
+-- at a pixel each cell that is not before a front is not before a back
+unfoldable pub IsShutAt : Linear → Linear → ℕ → ℕ → ℕ → Type 0
+IsShutAt front back fraction_bits x y = (far : ℕ) →
+    cell_of (depths far fraction_bits) (value_at back x y) ≤ cell_of (depths far fraction_bits) (value_at front x y)
 
 -- the box holds the cells at the pixels of a block, and is their least box where the block is one pixel
 pub record IsReachOf (cells : ℕ → ℕ → ℕ → Bool) (block : Block) (box : Option CellBox) : Type 0 where

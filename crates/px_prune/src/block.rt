@@ -4,6 +4,9 @@ ghost use Rattle.px_model.specs.declared.limits.TheConstants.{MAX_PICTURE_SIZE};
 
 use px_num::Linear;
 
+/// The extent of a block of 32 by 32 pixels, the largest whose pixels are looked at one by one.
+const SMALL_EXTENT: u32 = 62;
+
 /// The pixels `x0` to `x1` of the rows `y0` to `y1`, both ends included.
 #[derive(Clone, Copy)]
 pub(crate) struct Block {
@@ -50,6 +53,11 @@ impl Block {
         ensures { result ≡ is_one_pixel self.now }
     {
         self.x0 == self.x1 && self.y0 == self.y1
+    }
+
+    /// Whether its pixels may be looked at one by one.
+    pub(crate) fn is_small(&self) -> bool {
+        (self.x1 - self.x0) + (self.y1 - self.y0) <= SMALL_EXTENT
     }
 
     /// Its two halves, across the longer side.

@@ -28,8 +28,17 @@ ghost use Rattle.std.specs.List.{list_all};
 ghost use Rattle.std.specs.Int.Signed.{le_z, lt_z};
 ghost use Rattle.px_model.specs.Scenes.{IsPlane, IsLawfulScene};
 ghost use Rattle.px_model.specs.Cells.{cell_of, depths, is_inside};
+ghost use Rattle.px_model.specs.declared.limits.TheConstants.{MAX_PICTURE_SIZE};
 ghost use Rattle.px_num.specs.Forms.{IsInHalfRange, value_at};
-ghost use Rattle.px_prune.specs.Blocks.{IsReachOf, greatest_in, in_block, least_in, with_block};
+ghost use Rattle.px_prune.specs.Blocks.{
+  IsReachOf,
+  IsShutAt,
+  greatest_in,
+  has_pixel,
+  in_block,
+  least_in,
+  with_block,
+};
 ghost use Rattle.px_normal.specs.Live.{boxes_in};
 ghost use Rattle.px_prune.specs.Bounding.{bounding_box, IsBoundingBox, IsBoxOf};
 
@@ -127,8 +136,8 @@ fn reach(solid: &Solid, far: u32, fraction_bits: u32, block: &Block) -> Option<C
     })
 }
 
-/// Whether a solid has no cell in a block since a front of it is nowhere there before a back: those two are tried that are
-/// nearest to it at the block's first pixel.
+/// Whether a solid has no cell in a block since a front of it leaves no room there before a back: those two are tried that
+/// are nearest to it at the block's first pixel.
 fn is_shut(solid: &Solid, far: u32, fraction_bits: u32, block: &Block) -> bool
     requires fraction { fraction_bits ≤ 8 }
     requires far { far < 2 ^ 24 }
@@ -137,7 +146,62 @@ fn is_shut(solid: &Solid, far: u32, fraction_bits: u32, block: &Block) -> bool
 {
     let front = furthest_front(solid.fronts(), block);
     let back = nearest_back(solid.backs(), end_value(far, fraction_bits), block);
-    block.greatest(&back.minus(&front)) <= 0
+    leaves_none(&front, &back, fraction_bits, block)
+}
+
+/// Whether a front leaves no room for a cell before a back in a block, where that is seen at a corner, or the block is small.
+fn leaves_none(front: &Linear, back: &Linear, fraction_bits: u32, block: &Block) -> bool
+    requires front { IsInHalfRange front.now }
+    requires back { IsInHalfRange back.now }
+    requires fraction { fraction_bits ≤ 8 }
+    ensures { (x y : ℕ) → result ≡ true → has_pixel block.now x y ≡ true
+        → IsShutAt front.now back.now fraction_bits x y }
+{
+    if block.greatest(&back.minus(front)) <= 0 {
+        return true;
+    }
+    block.is_small() && !is_room(front, back, fraction_bits, block)
+}
+
+/// Whether a front leaves room for a cell before a back at some pixel of a block.
+fn is_room(front: &Linear, back: &Linear, fraction_bits: u32, block: &Block) -> bool
+    requires front { IsInHalfRange front.now }
+    requires back { IsInHalfRange back.now }
+    requires fraction { fraction_bits ≤ 8 }
+    ensures { (x y : ℕ) → result ≡ false → has_pixel block.now x y ≡ true
+        → IsShutAt front.now back.now fraction_bits x y }
+{
+    for y in block.y0..block.y1 + 1 {
+        for x in block.x0..block.x1 + 1 {
+            if is_room_at(front, back, fraction_bits, x, y) {
+                return true;
+            }
+        }
+    }
+    false
+}
+
+/// Whether a front leaves room for a cell before a back at a pixel.
+fn is_room_at(front: &Linear, back: &Linear, fraction_bits: u32, x: u32, y: u32) -> bool
+    requires front { IsInHalfRange front.now }
+    requires back { IsInHalfRange back.now }
+    requires fraction { fraction_bits ≤ 8 }
+    requires x { x < MAX_PICTURE_SIZE }
+    requires y { y < MAX_PICTURE_SIZE }
+    ensures { result ≡ false → IsShutAt front.now back.now fraction_bits x y }
+{
+    cell_at(front, fraction_bits, x, y) < cell_at(back, fraction_bits, x, y)
+}
+
+/// The first cell at a pixel that is not before a form's value.
+fn cell_at(form: &Linear, fraction_bits: u32, x: u32, y: u32) -> u64
+    requires range { IsInHalfRange form.now }
+    requires fraction { fraction_bits ≤ 8 }
+    requires x { x < MAX_PICTURE_SIZE }
+    requires y { y < MAX_PICTURE_SIZE }
+    ensures { (far : ℕ) → result ≡ cell_of (depths far fraction_bits) (value_at form.now x y) }
+{
+    cell_of(form.value(x, y), fraction_bits)
 }
 
 /// The plane of the front that is furthest at the first pixel of a block, the near face among them.
@@ -192,17 +256,16 @@ fn first_depth(fronts: &[Face], fraction_bits: u32, block: &Block) -> u64
     ensures { (z : ℕ) → list_all (λ f. le_z (least_in block.now f.plane) (pos (z * 2 ^ fraction_bits))) fronts.now
         ≡ nat_le result z }
 {
-    cell_of(greatest_front(fronts, block) as u64, fraction_bits)
+    cell_of(greatest_front(fronts, block), fraction_bits)
 }
 
 /// The first cell whose value is at least this.
-fn cell_of(value: u64, fraction_bits: u32) -> u64
-    requires value { value < 2 ^ 39 }
+fn cell_of(value: i64, fraction_bits: u32) -> u64
+    requires value { value <ℤ pos (2 ^ 39) }
     requires fraction { fraction_bits ≤ 8 }
-    ensures { (far : ℕ) → result ≡ cell_of (depths far fraction_bits) (pos value) }
+    ensures { (far : ℕ) → result ≡ cell_of (depths far fraction_bits) value }
 {
-    let unit = power(fraction_bits) as u64;
-    (value + (unit - 1)) / unit
+    (value.max(0) as u64 + (power(fraction_bits) as u64 - 1)) >> fraction_bits
 }
 
 /// The first depth from which some back, the far limit among them, is passed all over a block.
@@ -217,11 +280,7 @@ fn end_depth(backs: &[Face], far: u32, fraction_bits: u32, block: &Block) -> u64
     ensures far { result ≤ far }
 {
     let least = least_back(backs, end_value(far, fraction_bits), block);
-    if least <= 0 {
-        0
-    } else {
-        cell_of(least as u64, fraction_bits)
-    }
+    cell_of(least, fraction_bits)
 }
 
 /// The value of the far limit.
