@@ -52,7 +52,7 @@ impl Strip {
         ensures { HoldsRow self.new field (A.view array.now).device.state width y }
     {
         if y % ROWS == 0 {
-            self.numbers = numbers_of_rows(array, field, width, y);
+            read_rows(&mut self.numbers, array, field, width, y);
         }
     }
 
@@ -65,24 +65,24 @@ impl Strip {
     }
 }
 
-/// The numbers of so many columns in the eight rows from row `top` on.
-fn numbers_of_rows<A: Array>(
+/// Reads the numbers of so many columns in the eight rows from row `top` on, in place of those that were there.
+fn read_rows<A: Array>(
+    numbers: &mut ArrayVec<u32, NUMBERS>,
     array: &A,
     field: Field,
     width: u32,
     top: u32,
-) -> ArrayVec<u32, NUMBERS>
+)
     requires numbers { HasNumbers A.BITS (A.view array.now).device field width top }
     requires first { top % 8 ≡ 0 }
-    ensures { HoldsRow result.items field (A.view array.now).device.state width top }
+    ensures { HoldsRow numbers.new.items field (A.view array.now).device.state width top }
 {
     let (nx, ny) = array.size();
-    let mut numbers = ArrayVec::new();
+    numbers.clear();
     for x in 0..width {
         let column = eight_numbers(array, field, leaf_index(nx, ny, x, top));
         numbers.try_extend_from_slice(&column).unwrap();
     }
-    numbers
 }
 
 /// The numbers in a field of the memories of eight pixels, from a place on.

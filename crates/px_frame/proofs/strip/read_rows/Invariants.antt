@@ -1,7 +1,7 @@
 use Rattle.px_num.proofs.Basics.{◌≡◌, ◌*◌}
 use Rattle.arrayvec.specs.ArrayVec.{array_vec_len}
 use Rattle.px_frame.specs.Strips.{HoldsRow}
-use Rattle.px_frame.proofs.strip.numbers_of_rows.Given as goal
+use Rattle.px_frame.proofs.strip.read_rows.Given as goal
 
 abbrev pub invariant-loop-x : goal.invariant-loop-x
 invariant-loop-x g l = record {

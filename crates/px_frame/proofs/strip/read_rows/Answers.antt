@@ -1,6 +1,6 @@
 use Rattle.px_num.proofs.Basics.{◌≡◌, ◌+◌, ◌*◌, ◌^◌, ◌<◌, length, arith}
 use Rattle.px_frame.proofs.StripLemmas.{columns_more}
-use Rattle.px_frame.proofs.strip.numbers_of_rows.Goals as goal
+use Rattle.px_frame.proofs.strip.read_rows.Goals as goal
 
 pub loop-x-preserved : goal.loop-x-preserved
 loop-x-preserved g c =
