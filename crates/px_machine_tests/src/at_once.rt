@@ -1,13 +1,12 @@
 //! Each operation at once beside its micros, from one random state to the next.
-ghost use Rattle.std.specs.Prelude.{◌≡◌, ◌≤◌, IfOk};
+ghost use Rattle.std.specs.Prelude.{◌≡◌, ◌≤◌, OnOk};
 ghost use Rattle.px_array.specs.Arrays.{IsOpen};
 ghost use Rattle.px_pixel.specs.Acts.{HasPlace};
 ghost use Rattle.px_machine_tests.specs.Ready.{IsReady};
 
 use crate::compared::{compare, compare_memories};
 use crate::drawn::operation;
-use crate::numbers::Numbers;
-use crate::words::Draw;
+use crate::words::{Draw, agree};
 use px_array::{Array, Micro, PixelArray};
 use px_asm::{Operating, cycles, make_micros};
 use px_macro::{Field, Macro, lawful};
@@ -76,6 +75,19 @@ const CROWDED: [Macro; 14] = [
     Macro::AddLinear(SLOPE, INNER),
 ];
 
+/// What is tried on both arrays.
+#[derive(Clone, Copy)]
+pub(crate) enum Trial {
+    /// The operations that crowd words.
+    Crowd,
+    /// A random operation in a state that random micros made.
+    Stirred,
+    /// So many random operations.
+    Operations(u32),
+    /// Random micros, with saves and restores.
+    Saved,
+}
+
 #[test]
 fn five_bits(rt: HostRuntime) -> Result<(), Fail> {
     try_grids::<5>(&rt, rt.alloc(), 60)?;
@@ -94,40 +106,12 @@ fn the_most_bits(rt: HostRuntime) -> Result<(), Fail> {
     Ok(())
 }
 
+/// The operations on a grid of 512 words.
 #[test]
 fn a_crowd_of_words(rt: HostRuntime) -> Result<(), Fail> {
     for (nx, ny) in [(8, 7), (6, 9)] {
-        try_crowd(&rt, rt.alloc(), nx, ny)?;
+        try_both::<7>(&rt, rt.alloc(), nx, ny, Trial::Crowd, &mut Draw::from(0))?;
     }
-    Ok(())
-}
-
-/// Both arrays, with as many columns and rows, in which every bit is 0.
-pub(crate) fn open_both<const N: usize>(
-    rt: &impl Abort,
-    alloc: Global,
-    nx: u32,
-    ny: u32,
-) -> Result<(PlaneArray<N>, PixelArray<N>), Memory>
-    requires bits { N ≤ 256 }
-    ensures { IfOk result (λ both. IsReady N both.0 × IsReady N both.1) }
-{
-    assert!(rt; 1 <= nx && nx <= 9);
-    assert!(rt; 1 <= ny && ny <= 9);
-    let mut planes = PlaneArray::new(alloc);
-    let mut pixels = PixelArray::new(alloc);
-    planes.open(nx, ny)?;
-    pixels.open(nx, ny)?;
-    Ok((planes, pixels))
-}
-
-/// Those operations on a grid of 512 words.
-fn try_crowd(rt: &impl Abort, alloc: Global, nx: u32, ny: u32) -> Result<(), Memory> {
-    let (mut planes, mut pixels) = open_both::<7>(rt, alloc, nx, ny)?;
-    for m in CROWDED {
-        operate_both(rt, &mut planes, &mut pixels, &m);
-    }
-    renew_both(rt, &mut planes, &mut pixels);
     Ok(())
 }
 
@@ -137,48 +121,10 @@ fn after_random_micros(rt: HostRuntime) -> Result<(), Fail> {
     for (nx, ny) in GRIDS {
         let mut draw = Draw::from(8 * u64::from(nx) + u64::from(ny));
         for _ in 0..20 {
-            try_stirred(&rt, rt.alloc(), nx, ny, &mut draw)?;
+            try_both::<5>(&rt, rt.alloc(), nx, ny, Trial::Stirred, &mut draw)?;
         }
     }
     Ok(())
-}
-
-fn try_stirred(
-    rt: &impl Abort,
-    alloc: Global,
-    nx: u32,
-    ny: u32,
-    draw: &mut Draw,
-) -> Result<(), Memory> {
-    let (mut planes, mut pixels) = open_both::<5>(rt, alloc, nx, ny)?;
-    for _ in 0..60 {
-        clock_each(rt, &mut planes, &mut pixels, draw.micro());
-    }
-    let m = operation(draw.numbers(), 5);
-    operate_both(rt, &mut planes, &mut pixels, &m);
-    renew_both(rt, &mut planes, &mut pixels);
-    Ok(())
-}
-
-/// Makes a clock on both arrays.
-pub(crate) fn clock_each(
-    rt: &impl Abort,
-    planes: &mut PlaneArray<5>,
-    pixels: &mut PixelArray<5>,
-    m: Micro,
-)
-    requires place { HasPlace 5 m.act }
-    requires planes { IsReady 5 planes.old }
-    requires pixels { IsReady 5 pixels.old }
-    ensures planes { IsReady 5 planes.new }
-    ensures pixels { IsReady 5 pixels.new }
-    ensures plane_slots { planes.new.slots ≡ planes.old.slots }
-    ensures pixel_slots { pixels.new.slots ≡ pixels.old.slots }
-{
-    assert!(rt; planes.clocks() < MANY);
-    assert!(rt; pixels.clocks() < MANY);
-    planes.clock(m);
-    pixels.clock(m);
 }
 
 /// So many random operations on each grid.
@@ -186,63 +132,178 @@ fn try_grids<const N: usize>(rt: &impl Abort, alloc: Global, count: u32) -> Resu
     requires bits { N ≤ 256 }
 {
     for (nx, ny) in GRIDS {
-        try_grid::<N>(rt, alloc, nx, ny, count)?;
+        let mut draw = Draw::from(8 * u64::from(nx) + u64::from(ny));
+        try_both::<N>(rt, alloc, nx, ny, Trial::Operations(count), &mut draw)?;
     }
     Ok(())
 }
 
-fn try_grid<const N: usize>(
+/// A trial on two new arrays with as many columns and rows.
+pub(crate) fn try_both<const N: usize>(
     rt: &impl Abort,
     alloc: Global,
     nx: u32,
     ny: u32,
-    count: u32,
+    trial: Trial,
+    draw: &mut Draw,
 ) -> Result<(), Memory>
     requires bits { N ≤ 256 }
 {
-    let (mut planes, mut pixels) = open_both::<N>(rt, alloc, nx, ny)?;
-    let mut numbers = Numbers::from(8 * u64::from(nx) + u64::from(ny));
-    for _ in 0..count {
-        let m = operation(&mut numbers, N as u32);
-        operate_both(rt, &mut planes, &mut pixels, &m);
-        renew_both(rt, &mut planes, &mut pixels);
+    let mut planes = PlaneArray::<N>::new(alloc);
+    let mut pixels = PixelArray::<N>::new(alloc);
+    try_on(rt, &mut planes, &mut pixels, nx, ny, trial, draw)
+}
+
+fn try_on<A: Operating, B: Operating>(
+    rt: &impl Abort,
+    planes: &mut A,
+    pixels: &mut B,
+    nx: u32,
+    ny: u32,
+    trial: Trial,
+    draw: &mut Draw,
+) -> Result<(), Memory> {
+    assert!(rt; A::BITS <= 256);
+    open_both(rt, planes, pixels, nx, ny)?;
+    match trial {
+        Trial::Crowd => crowd(rt, planes, pixels),
+        Trial::Stirred => stir(rt, planes, pixels, draw),
+        Trial::Operations(count) => operate_often(rt, planes, pixels, count, draw),
+        Trial::Saved => agree(rt, planes, pixels, draw),
     }
     Ok(())
 }
 
-/// Makes an operation at once on one array and by its micros on the other.
-fn operate_both<const N: usize>(
+/// Opens both arrays with as many columns and rows, in which every bit is 0.
+fn open_both<A: Array, B: Array>(
     rt: &impl Abort,
-    planes: &mut PlaneArray<N>,
-    pixels: &mut PixelArray<N>,
+    planes: &mut A,
+    pixels: &mut B,
+    nx: u32,
+    ny: u32,
+) -> Result<(), Memory>
+    ensures planes { OnOk result (IsReady A.BITS (A.view planes.new)) }
+    ensures pixels { OnOk result (IsReady B.BITS (B.view pixels.new)) }
+{
+    assert!(rt; 1 <= nx && nx <= 9);
+    assert!(rt; 1 <= ny && ny <= 9);
+    planes.open(nx, ny)?;
+    pixels.open(nx, ny)
+}
+
+fn crowd<A: Operating, B: Operating>(rt: &impl Abort, planes: &mut A, pixels: &mut B)
+    requires planes { IsReady A.BITS (A.view planes.old) }
+    requires pixels { IsReady B.BITS (B.view pixels.old) }
+{
+    for m in &CROWDED {
+        operate_both(rt, planes, pixels, m);
+    }
+    renew_both(rt, planes, pixels);
+}
+
+fn stir<A: Operating, B: Operating>(
+    rt: &impl Abort,
+    planes: &mut A,
+    pixels: &mut B,
+    draw: &mut Draw,
+)
+    requires planes { IsReady A.BITS (A.view planes.old) }
+    requires pixels { IsReady B.BITS (B.view pixels.old) }
+{
+    assert!(rt; A::BITS == 5);
+    assert!(rt; B::BITS == 5);
+    for _ in 0..60 {
+        clock_each(rt, planes, pixels, draw.micro());
+    }
+    let m = operation(draw.numbers(), 5);
+    operate_both(rt, planes, pixels, &m);
+    renew_both(rt, planes, pixels);
+}
+
+fn operate_often<A: Operating, B: Operating>(
+    rt: &impl Abort,
+    planes: &mut A,
+    pixels: &mut B,
+    count: u32,
+    draw: &mut Draw,
+)
+    requires bits { A.BITS ≤ 256 }
+    requires planes { IsReady A.BITS (A.view planes.old) }
+    requires pixels { IsReady B.BITS (B.view pixels.old) }
+{
+    for _ in 0..count {
+        let m = operation(draw.numbers(), A::BITS as u32);
+        operate_both(rt, planes, pixels, &m);
+        renew_both(rt, planes, pixels);
+    }
+}
+
+/// Makes a clock on both arrays.
+pub(crate) fn clock_each<A: Array, B: Array>(
+    rt: &impl Abort,
+    planes: &mut A,
+    pixels: &mut B,
+    m: Micro,
+)
+    requires plane_place { HasPlace A.BITS m.act }
+    requires pixel_place { HasPlace B.BITS m.act }
+    requires planes { IsReady A.BITS (A.view planes.old) }
+    requires pixels { IsReady B.BITS (B.view pixels.old) }
+    ensures planes { IsReady A.BITS (A.view planes.new) }
+    ensures pixels { IsReady B.BITS (B.view pixels.new) }
+    ensures plane_slots { (A.view planes.new).slots ≡ (A.view planes.old).slots }
+    ensures pixel_slots { (B.view pixels.new).slots ≡ (B.view pixels.old).slots }
+{
+    clock_ready(rt, planes, m);
+    clock_ready(rt, pixels, m);
+}
+
+fn clock_ready<A: Array>(rt: &impl Abort, array: &mut A, m: Micro)
+    requires place { HasPlace A.BITS m.act }
+    requires ready { IsReady A.BITS (A.view array.old) }
+    ensures ready { IsReady A.BITS (A.view array.new) }
+    ensures slots { (A.view array.new).slots ≡ (A.view array.old).slots }
+{
+    assert!(rt; array.clocks() < MANY);
+    array.clock(m);
+}
+
+/// Makes an operation at once on one array and by its micros on the other.
+fn operate_both<A: Operating, B: Operating>(
+    rt: &impl Abort,
+    planes: &mut A,
+    pixels: &mut B,
     m: &Macro,
 )
-    requires planes { IsReady N planes.old }
-    requires pixels { IsReady N pixels.old }
-    ensures planes { IsReady N planes.new }
-    ensures pixels { IsReady N pixels.new }
+    requires planes { IsReady A.BITS (A.view planes.old) }
+    requires pixels { IsReady B.BITS (B.view pixels.old) }
+    ensures planes { IsReady A.BITS (A.view planes.new) }
+    ensures pixels { IsReady B.BITS (B.view pixels.new) }
 {
-    assert!(rt; N <= 256);
-    assert!(rt; planes.clocks() < MANY);
-    assert!(rt; pixels.clocks() < MANY);
-    if lawful(m, N as u32) && lawful(m, 256) {
-        planes.operate(m);
-        pixels.operate(m);
-    }
+    operate(rt, planes, m);
+    operate(rt, pixels, m);
     compare_memories(rt, pixels, planes);
+}
+
+/// Makes an operation that the array can carry out.
+fn operate<A: Operating>(rt: &impl Abort, array: &mut A, m: &Macro)
+    requires ready { IsReady A.BITS (A.view array.old) }
+    ensures ready { IsReady A.BITS (A.view array.new) }
+{
+    assert!(rt; A::BITS <= 256);
+    assert!(rt; array.clocks() < MANY);
+    if lawful(m, A::BITS as u32) && lawful(m, 256) {
+        array.operate(m);
+    }
 }
 
 /// Makes operations by their micros that begin the tree, the carry and the latch anew, and takes
 /// both arrays back.
-fn renew_both<const N: usize>(
-    rt: &impl Abort,
-    planes: &mut PlaneArray<N>,
-    pixels: &mut PixelArray<N>,
-)
-    requires planes { IsReady N planes.old }
-    requires pixels { IsReady N pixels.old }
-    ensures planes { IsReady N planes.new }
-    ensures pixels { IsReady N pixels.new }
+fn renew_both<A: Array, B: Array>(rt: &impl Abort, planes: &mut A, pixels: &mut B)
+    requires planes { IsReady A.BITS (A.view planes.old) }
+    requires pixels { IsReady B.BITS (B.view pixels.old) }
+    ensures planes { IsReady A.BITS (A.view planes.new) }
+    ensures pixels { IsReady B.BITS (B.view pixels.new) }
 {
     planes.save(0);
     pixels.save(0);

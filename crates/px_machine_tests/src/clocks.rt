@@ -5,7 +5,7 @@ ghost use Rattle.px_array.specs.Slots.{IsSaved};
 ghost use Rattle.px_pixel.specs.Acts.{HasPlace};
 ghost use Rattle.px_machine_tests.specs.Ready.{AreSaved};
 
-use crate::compared::{compare, try_pixel};
+use crate::compared::{compare, try_node, try_pixel, try_registers, try_size};
 use crate::words::placed;
 use px_array::{Array, Micro, PixelArray, Registers, TreeOp};
 use px_num::Memory;
@@ -17,9 +17,11 @@ use std::test::Fail;
 /// before its lowest bit is at the leaves.
 #[test]
 fn a_form_is_loaded(rt: HostRuntime) -> Result<(), Fail> {
-    let mut array = PixelArray::<5>::new(rt.alloc());
-    assert_eq!(rt; array.size(), (0, 0));
-    array.open(1, 1)?;
+    load(&rt, &mut PixelArray::<5>::new(rt.alloc()))
+}
+
+fn load<A: Array>(rt: &impl Abort, array: &mut A) -> Result<(), Fail> {
+    assert!(rt; A::BITS == 5);
     let micros = [
         (TreeOp::Clear, Act::EnableAll),
         (feed(true, false, true), Act::SetCarry(true)),
@@ -28,28 +30,46 @@ fn a_form_is_loaded(rt: HostRuntime) -> Result<(), Fail> {
         (feed(false, false, false), Act::StoreTree(1)),
         (feed(false, false, false), Act::StoreTree(2)),
     ];
-    make_all(&rt, &mut array, &micros[..4]);
-    try_latches(&rt, &array);
-    make_all(&rt, &mut array, &micros[4..]);
-    try_numbers(&rt, &array);
+    try_size(rt, array, 0, 0);
+    array.open(1, 1)?;
+    make_all(rt, array, &micros[..4]);
+    try_latches(rt, array);
+    make_all(rt, array, &micros[4..]);
+    try_numbers(rt, array);
     array.open(2, 1)?;
-    try_opened(&rt, &array);
+    try_opened(rt, array);
     Ok(())
 }
 
 /// Where the lowest bit is stored.
-fn try_latches(rt: &impl Abort, array: &PixelArray<5>) {
-    assert_eq!(rt; array.clocks(), 4);
-    assert!(rt; array.size() == (1, 1));
-    assert_eq!(rt;
-        (array.node(2, 0), array.node(2, 3)),
-        ((false, false), (false, true))
-    );
-    assert_eq!(rt; (array.tree_bit(0, 1), array.tree_bit(1, 1)), (true, false));
+fn try_latches<A: Array>(rt: &impl Abort, array: &A) {
+    assert!(rt; array.clocks() == 4);
+    try_size(rt, array, 1, 1);
+    try_latch(rt, array, 2, 0, false, false);
+    try_latch(rt, array, 2, 3, false, true);
+    assert!(rt; array.tree_bit(0, 1));
+    assert!(rt; !array.tree_bit(1, 1));
+}
+
+/// The output and the carry latch of a node.
+fn try_latch<A: Array>(
+    rt: &impl Abort,
+    array: &A,
+    level: u32,
+    index: u32,
+    output: bool,
+    carry: bool,
+) {
+    try_node(rt, array, level, index);
+    let found = array.node(level, index);
+    assert!(rt; found.0 == output);
+    assert!(rt; found.1 == carry);
 }
 
 /// The value at each pixel, and registers.
-fn try_numbers(rt: &impl Abort, array: &PixelArray<5>) {
+fn try_numbers<A: Array>(rt: &impl Abort, array: &A)
+    requires bits { A.BITS ≡ 5 }
+{
     for (x, y, want) in [(0, 0, 1), (1, 0, 2), (0, 1, 3), (1, 1, 4)] {
         try_number(rt, array, x, y, want);
     }
@@ -58,11 +78,13 @@ fn try_numbers(rt: &impl Abort, array: &PixelArray<5>) {
         carry: true,
         latch: false,
     };
-    assert!(rt; array.size() == (1, 1));
-    assert_eq!(rt; array.registers(1, 0), registers);
+    try_size(rt, array, 1, 1);
+    try_registers(rt, array, 1, 0, &registers);
 }
 
-fn try_number(rt: &impl Abort, array: &PixelArray<5>, x: u32, y: u32, want: u32) {
+fn try_number<A: Array>(rt: &impl Abort, array: &A, x: u32, y: u32, want: u32)
+    requires bits { A.BITS ≡ 5 }
+{
     try_pixel(rt, array, x, y);
     for at in 0..5 {
         assert!(rt;
@@ -73,13 +95,13 @@ fn try_number(rt: &impl Abort, array: &PixelArray<5>, x: u32, y: u32, want: u32)
 }
 
 /// Eight pixels on which no clock was made.
-fn try_opened(rt: &impl Abort, array: &PixelArray<5>) {
-    assert_eq!(rt; array.clocks(), 0);
-    assert!(rt; array.size() == (2, 1));
-    assert_eq!(rt;
-        (array.bit(0, 0, 0), array.registers(3, 1).enable),
-        (false, false)
-    );
+fn try_opened<A: Array>(rt: &impl Abort, array: &A)
+    requires bits { A.BITS ≡ 5 }
+{
+    assert!(rt; array.clocks() == 0);
+    try_size(rt, array, 2, 1);
+    assert!(rt; !array.bit(0, 0, 0));
+    assert!(rt; !array.registers(3, 1).enable);
 }
 
 /// Makes a clock for each of these on pixels of five bits.
@@ -109,21 +131,26 @@ pub(crate) fn feed(a: bool, b: bool, c: bool) -> TreeOp {
 #[test]
 fn turning_back(rt: HostRuntime) -> Result<(), Fail> {
     let mut array = PixelArray::<5>::new(rt.alloc());
-    let mut plain = PixelArray::<5>::new(rt.alloc());
+    turn(&rt, &mut array, &mut PixelArray::<5>::new(rt.alloc()))
+}
+
+fn turn<A: Array>(rt: &impl Abort, array: &mut A, plain: &mut A) -> Result<(), Fail> {
+    assert!(rt; A::BITS == 5);
     array.open(1, 1)?;
-    save_each(&rt, &mut array);
-    assert_eq!(rt; array.work(), 8);
-    turn_back(&rt, &mut array, &mut plain)?;
-    assert_eq!(rt; array.work(), 8 + 4 + 8 + 2 + 6 + 4);
+    save_each(rt, array);
+    assert!(rt; array.work() == 8);
+    turn_back(rt, array, plain)?;
+    assert!(rt; array.work() == 8 + 4 + 8 + 2 + 6 + 4);
     array.open(1, 1)?;
-    assert_eq!(rt; array.work(), 0);
+    assert!(rt; array.work() == 0);
     Ok(())
 }
 
-fn save_each(rt: &impl Abort, array: &mut PixelArray<5>)
-    requires is_open { IsOpen array.old.device }
-    ensures is_open { IsOpen array.new.device }
-    ensures saved { AreSaved array.new.slots }
+fn save_each<A: Array>(rt: &impl Abort, array: &mut A)
+    requires bits { A.BITS ≡ 5 }
+    requires is_open { IsOpen (A.view array.old).device }
+    ensures is_open { IsOpen (A.view array.new).device }
+    ensures saved { AreSaved (A.view array.new).slots }
 {
     array.save(2);
     make_clocks(rt, array, 0, 2);
@@ -135,13 +162,10 @@ fn save_each(rt: &impl Abort, array: &mut PixelArray<5>)
     make_clocks(rt, array, 6, 8);
 }
 
-fn turn_back(
-    rt: &impl Abort,
-    array: &mut PixelArray<5>,
-    plain: &mut PixelArray<5>,
-) -> Result<(), Memory>
-    requires is_open { IsOpen array.old.device }
-    requires saved { AreSaved array.old.slots }
+fn turn_back<A: Array>(rt: &impl Abort, array: &mut A, plain: &mut A) -> Result<(), Memory>
+    requires bits { A.BITS ≡ 5 }
+    requires is_open { IsOpen (A.view array.old).device }
+    requires saved { AreSaved (A.view array.old).slots }
 {
     try_back(rt, array, plain, 3, 4)?;
     try_back(rt, array, plain, 2, 0)?;
@@ -151,33 +175,30 @@ fn turn_back(
 }
 
 /// Turns back to a slot that was saved after so many clocks, and goes on from there.
-fn try_back(
+fn try_back<A: Array>(
     rt: &impl Abort,
-    array: &mut PixelArray<5>,
-    plain: &mut PixelArray<5>,
+    array: &mut A,
+    plain: &mut A,
     slot: u32,
     clock: u32,
 ) -> Result<(), Memory>
-    requires is_open { IsOpen array.old.device }
-    requires saved { IsSaved array.old.slots slot }
-    ensures is_open { IsOpen array.new.device }
-    ensures slots { array.new.slots ≡ array.old.slots }
+    requires bits { A.BITS ≡ 5 }
+    requires is_open { IsOpen (A.view array.old).device }
+    requires saved { IsSaved (A.view array.old).slots slot }
+    ensures is_open { IsOpen (A.view array.new).device }
+    ensures slots { (A.view array.new).slots ≡ (A.view array.old).slots }
 {
     array.restore(slot);
     go_on(rt, array, plain, clock)
 }
 
 /// Brings the second array to a clock, and then both to the end, equal at each clock.
-fn go_on(
-    rt: &impl Abort,
-    array: &mut PixelArray<5>,
-    plain: &mut PixelArray<5>,
-    clock: u32,
-) -> Result<(), Memory>
-    ensures is_open { IsOpen array.new.device }
-    ensures slots { array.new.slots ≡ array.old.slots }
+fn go_on<A: Array>(rt: &impl Abort, array: &mut A, plain: &mut A, clock: u32) -> Result<(), Memory>
+    requires bits { A.BITS ≡ 5 }
+    ensures is_open { IsOpen (A.view array.new).device }
+    ensures slots { (A.view array.new).slots ≡ (A.view array.old).slots }
 {
-    assert!(rt; array.size() == (1, 1));
+    try_size(rt, array, 1, 1);
     plain.open(1, 1)?;
     make_clocks(rt, plain, 0, clock);
     compare(rt, array, plain);
@@ -189,20 +210,22 @@ fn go_on(
     Ok(())
 }
 
-fn make_clocks(rt: &impl Abort, array: &mut PixelArray<5>, from: u32, to: u32)
-    requires is_open { IsOpen array.old.device }
-    ensures is_open { IsOpen array.new.device }
-    ensures slots { array.new.slots ≡ array.old.slots }
+fn make_clocks<A: Array>(rt: &impl Abort, array: &mut A, from: u32, to: u32)
+    requires bits { A.BITS ≡ 5 }
+    requires is_open { IsOpen (A.view array.old).device }
+    ensures is_open { IsOpen (A.view array.new).device }
+    ensures slots { (A.view array.new).slots ≡ (A.view array.old).slots }
 {
     for k in from..to {
         make_clock(rt, array, k);
     }
 }
 
-fn make_clock(rt: &impl Abort, array: &mut PixelArray<5>, k: u32)
-    requires is_open { IsOpen array.old.device }
-    ensures is_open { IsOpen array.new.device }
-    ensures slots { array.new.slots ≡ array.old.slots }
+fn make_clock<A: Array>(rt: &impl Abort, array: &mut A, k: u32)
+    requires bits { A.BITS ≡ 5 }
+    requires is_open { IsOpen (A.view array.old).device }
+    ensures is_open { IsOpen (A.view array.new).device }
+    ensures slots { (A.view array.new).slots ≡ (A.view array.old).slots }
 {
     make_one(rt, array, eighth(k));
 }

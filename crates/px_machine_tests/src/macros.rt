@@ -28,8 +28,8 @@ fn operations_of_pixels_of_sixteen_bits(rt: HostRuntime) {
         (Macro::KeepLess(field(0, 8), field(7, 8)), true),
         (Macro::KeepLess(field(0, 8), field(7, 7)), false),
     ];
-    for (m, want) in rows {
-        assert_eq!(rt; lawful(&m, 16), want);
+    for (m, want) in &rows {
+        assert!(rt; lawful(m, 16) == *want);
     }
     assert!(rt; !lawful(&Macro::LoadConst(field(0, 41), 1), 256));
 }

@@ -5,7 +5,7 @@ ghost use Rattle.px_array.specs.Arrays.{HasPixel};
 use px_array::{Array, PixelArray};
 use px_asm::{cycles, micro_at, number_in};
 use px_macro::{Field, Macro, lawful};
-use px_num::Linear;
+use px_num::{Linear, Memory};
 use std::process::Abort;
 use std::test::Fail;
 
@@ -89,13 +89,18 @@ const ROWS: [(Macro, [u32; 4]); 16] = [
 
 #[test]
 fn each_operation_leaves_its_meaning(rt: HostRuntime) -> Result<(), Fail> {
-    let mut array = PixelArray::<16>::new(rt.alloc());
+    try_operations(&rt, &mut PixelArray::<16>::new(rt.alloc()))?;
+    Ok(())
+}
+
+fn try_operations<A: Array>(rt: &impl Abort, array: &mut A) -> Result<(), Memory> {
+    assert!(rt; A::BITS == 16);
     array.open(1, 1)?;
-    for (m, want) in ROWS {
-        carry_out(&rt, &mut array, &m);
+    for (m, want) in &ROWS {
+        carry_out(rt, array, m);
         for y in 0..2 {
             for x in 0..2 {
-                try_pixel(&rt, &array, &m, x, y, want[(2 * y + x) as usize]);
+                try_pixel(rt, array, x, y, want[(2 * y + x) as usize]);
             }
         }
     }
@@ -116,18 +121,19 @@ fn clocks_on_the_smallest_grid(rt: HostRuntime) {
         (Macro::KeepLess(six, other), 14),
         (Macro::Copy(six, other), 12),
     ];
-    for (m, want) in rows {
-        assert!(rt; lawful(&m, 256));
-        assert_eq!(rt; cycles(&m, 1, 1), want);
+    for (m, want) in &rows {
+        assert!(rt; lawful(m, 256));
+        assert!(rt; cycles(m, 1, 1) == *want);
     }
 }
 
 /// Clocks the micros of an operation.
-fn carry_out(rt: &impl Abort, array: &mut PixelArray<16>, m: &Macro)
-    requires columns { array.old.device.state.tree.nx ≡ 1 }
-    requires rows { array.old.device.state.tree.ny ≡ 1 }
-    ensures columns { array.new.device.state.tree.nx ≡ 1 }
-    ensures rows { array.new.device.state.tree.ny ≡ 1 }
+fn carry_out<A: Array>(rt: &impl Abort, array: &mut A, m: &Macro)
+    requires bits { A.BITS ≡ 16 }
+    requires columns { (A.view array.old).device.state.tree.nx ≡ 1 }
+    requires rows { (A.view array.old).device.state.tree.ny ≡ 1 }
+    ensures columns { (A.view array.new).device.state.tree.nx ≡ 1 }
+    ensures rows { (A.view array.new).device.state.tree.ny ≡ 1 }
 {
     assert!(rt; lawful(m, 16) && lawful(m, 256));
     assert!(rt; array.clocks() < 1000);
@@ -137,8 +143,9 @@ fn carry_out(rt: &impl Abort, array: &mut PixelArray<16>, m: &Macro)
 }
 
 /// The enable register and the memory of a pixel, after an operation.
-fn try_pixel(rt: &impl Abort, array: &PixelArray<16>, m: &Macro, x: u32, y: u32, want: u32)
-    requires pixel { HasPixel array.now.device x y }
+fn try_pixel<A: Array>(rt: &impl Abort, array: &A, x: u32, y: u32, want: u32)
+    requires bits { A.BITS ≡ 16 }
+    requires pixel { HasPixel (A.view array.now).device x y }
 {
     let is_enabled = want >> 16 == 1;
     assert!(rt;

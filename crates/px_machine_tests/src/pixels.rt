@@ -5,53 +5,53 @@ ghost use Rattle.px_pixel.specs.Acts.{HasPlace};
 use px_pixel::{Act, Pixel};
 use std::process::Abort;
 
-/// An act and the bit of the tree; then enable, carry, latch and the bit of memory that the act
-/// names, before it and after it.
-type Row = (Act, u32, [u32; 4], [u32; 4]);
+/// An act and the bit of the tree; then, as the digits of a number, enable, carry, latch and the bit of
+/// memory that the act names, before it and after it.
+type Row = (Act, u32, u32, u32);
 
 const ROWS: [Row; 42] = [
-    (Act::Nop, 1, [0, 1, 0, 1], [0, 1, 0, 1]),
-    (Act::Nop, 1, [1, 0, 1, 0], [1, 0, 1, 0]),
-    (Act::EnableAll, 0, [0, 1, 0, 1], [1, 1, 0, 1]),
-    (Act::EnableAll, 0, [1, 0, 1, 0], [1, 0, 1, 0]),
-    (Act::EnableCarry(true), 0, [0, 1, 0, 1], [0, 1, 0, 1]),
-    (Act::EnableCarry(true), 0, [1, 1, 0, 0], [1, 1, 0, 0]),
-    (Act::EnableCarry(true), 1, [1, 0, 1, 1], [0, 0, 1, 1]),
-    (Act::EnableCarry(false), 1, [1, 1, 0, 0], [0, 1, 0, 0]),
-    (Act::EnableTree(true), 1, [0, 1, 1, 1], [0, 1, 1, 1]),
-    (Act::EnableTree(true), 1, [1, 0, 0, 0], [1, 0, 0, 0]),
-    (Act::EnableTree(true), 0, [1, 1, 1, 1], [0, 1, 1, 1]),
-    (Act::EnableTree(false), 1, [1, 0, 0, 0], [0, 0, 0, 0]),
-    (Act::EnableBit(0, true), 0, [0, 0, 0, 1], [0, 0, 0, 1]),
-    (Act::EnableBit(0, true), 0, [1, 0, 0, 1], [1, 0, 0, 1]),
-    (Act::EnableBit(0, true), 1, [1, 1, 1, 0], [0, 1, 1, 0]),
-    (Act::EnableBit(0, false), 0, [1, 0, 0, 1], [0, 0, 0, 1]),
-    (Act::SetCarry(true), 0, [0, 0, 1, 0], [0, 1, 1, 0]),
-    (Act::SetCarry(false), 1, [0, 1, 0, 1], [0, 0, 0, 1]),
-    (Act::SetCarry(true), 0, [1, 0, 0, 1], [1, 1, 0, 1]),
-    (Act::Fetch(0), 0, [0, 1, 0, 1], [0, 1, 1, 1]),
-    (Act::Fetch(0), 1, [1, 0, 1, 0], [1, 0, 0, 0]),
-    (Act::StoreTree(0), 1, [0, 0, 0, 0], [0, 0, 0, 0]),
-    (Act::StoreTree(0), 1, [1, 0, 0, 0], [1, 0, 0, 1]),
-    (Act::StoreTree(0), 0, [1, 1, 1, 1], [1, 1, 1, 0]),
-    (Act::StoreLatch(0), 0, [0, 0, 1, 0], [0, 0, 1, 0]),
-    (Act::StoreLatch(0), 0, [1, 0, 1, 0], [1, 0, 1, 1]),
-    (Act::StoreLatch(0), 1, [1, 1, 0, 1], [1, 1, 0, 0]),
-    (Act::StoreConst(0, true), 0, [0, 0, 0, 0], [0, 0, 0, 0]),
-    (Act::StoreConst(0, true), 0, [1, 1, 0, 0], [1, 1, 0, 1]),
-    (Act::StoreConst(0, false), 1, [1, 0, 1, 1], [1, 0, 1, 0]),
-    (Act::Toggle(0), 1, [0, 0, 0, 1], [0, 0, 0, 1]),
-    (Act::Toggle(0), 0, [1, 0, 0, 1], [1, 0, 0, 0]),
-    (Act::Toggle(0), 0, [1, 1, 1, 0], [1, 1, 1, 1]),
-    (Act::CarryTree(0), 0, [0, 0, 1, 1], [0, 1, 1, 1]),
-    (Act::CarryTree(0), 1, [1, 1, 0, 0], [1, 0, 0, 0]),
-    (Act::CarryTree(0), 1, [1, 0, 0, 1], [1, 0, 0, 1]),
-    (Act::CarryLatch(0), 1, [0, 0, 0, 1], [0, 1, 0, 1]),
-    (Act::CarryLatch(0), 0, [1, 1, 1, 0], [1, 0, 1, 0]),
-    (Act::AddTree(0), 1, [0, 0, 0, 1], [0, 1, 0, 1]),
-    (Act::AddTree(0), 1, [1, 0, 0, 1], [1, 1, 0, 0]),
-    (Act::AddTree(0), 1, [1, 1, 1, 1], [1, 1, 1, 1]),
-    (Act::AddTree(0), 0, [1, 1, 0, 0], [1, 0, 0, 1]),
+    (Act::Nop, 1, 0b0101, 0b0101),
+    (Act::Nop, 1, 0b1010, 0b1010),
+    (Act::EnableAll, 0, 0b0101, 0b1101),
+    (Act::EnableAll, 0, 0b1010, 0b1010),
+    (Act::EnableCarry(true), 0, 0b0101, 0b0101),
+    (Act::EnableCarry(true), 0, 0b1100, 0b1100),
+    (Act::EnableCarry(true), 1, 0b1011, 0b0011),
+    (Act::EnableCarry(false), 1, 0b1100, 0b0100),
+    (Act::EnableTree(true), 1, 0b0111, 0b0111),
+    (Act::EnableTree(true), 1, 0b1000, 0b1000),
+    (Act::EnableTree(true), 0, 0b1111, 0b0111),
+    (Act::EnableTree(false), 1, 0b1000, 0b0000),
+    (Act::EnableBit(0, true), 0, 0b0001, 0b0001),
+    (Act::EnableBit(0, true), 0, 0b1001, 0b1001),
+    (Act::EnableBit(0, true), 1, 0b1110, 0b0110),
+    (Act::EnableBit(0, false), 0, 0b1001, 0b0001),
+    (Act::SetCarry(true), 0, 0b0010, 0b0110),
+    (Act::SetCarry(false), 1, 0b0101, 0b0001),
+    (Act::SetCarry(true), 0, 0b1001, 0b1101),
+    (Act::Fetch(0), 0, 0b0101, 0b0111),
+    (Act::Fetch(0), 1, 0b1010, 0b1000),
+    (Act::StoreTree(0), 1, 0b0000, 0b0000),
+    (Act::StoreTree(0), 1, 0b1000, 0b1001),
+    (Act::StoreTree(0), 0, 0b1111, 0b1110),
+    (Act::StoreLatch(0), 0, 0b0010, 0b0010),
+    (Act::StoreLatch(0), 0, 0b1010, 0b1011),
+    (Act::StoreLatch(0), 1, 0b1101, 0b1100),
+    (Act::StoreConst(0, true), 0, 0b0000, 0b0000),
+    (Act::StoreConst(0, true), 0, 0b1100, 0b1101),
+    (Act::StoreConst(0, false), 1, 0b1011, 0b1010),
+    (Act::Toggle(0), 1, 0b0001, 0b0001),
+    (Act::Toggle(0), 0, 0b1001, 0b1000),
+    (Act::Toggle(0), 0, 0b1110, 0b1111),
+    (Act::CarryTree(0), 0, 0b0011, 0b0111),
+    (Act::CarryTree(0), 1, 0b1100, 0b1000),
+    (Act::CarryTree(0), 1, 0b1001, 0b1001),
+    (Act::CarryLatch(0), 1, 0b0001, 0b0101),
+    (Act::CarryLatch(0), 0, 0b1110, 0b1010),
+    (Act::AddTree(0), 1, 0b0001, 0b0101),
+    (Act::AddTree(0), 1, 0b1001, 0b1100),
+    (Act::AddTree(0), 1, 0b1111, 0b1111),
+    (Act::AddTree(0), 0, 0b1100, 0b1001),
 ];
 
 /// The act with the place `at`, where it names one.
@@ -78,20 +78,13 @@ fn try_rows<const N: usize>(rt: &impl Abort, at: u32)
     requires bits { N ≤ 256 }
     requires place { at < N }
 {
-    for (act, tree, before, after) in ROWS {
-        try_row::<N>(rt, placed::<N>(act, at), tree, at, before, after);
+    for (act, tree, before, after) in &ROWS {
+        try_row::<N>(rt, placed::<N>(*act, at), *tree, at, *before, *after);
     }
 }
 
 /// The act on the pixel of the bits `before`.
-fn try_row<const N: usize>(
-    rt: &impl Abort,
-    act: Act,
-    tree: u32,
-    at: u32,
-    before: [u32; 4],
-    after: [u32; 4],
-)
+fn try_row<const N: usize>(rt: &impl Abort, act: Act, tree: u32, at: u32, before: u32, after: u32)
     requires bits { N ≤ 256 }
     requires place { at < N }
     requires act { HasPlace N act }
@@ -99,8 +92,10 @@ fn try_row<const N: usize>(
     let mut pixel = pixel_of::<N>(at, before);
     pixel.act(act, tree == 1);
     let bits = pixel.memory;
-    let found = [pixel.enable, pixel.carry, pixel.latch, bits.get(at)];
-    assert_eq!(rt; found.map(u32::from), after);
+    assert!(rt; pixel.enable == has_digit(after, 3));
+    assert!(rt; pixel.carry == has_digit(after, 2));
+    assert!(rt; pixel.latch == has_digit(after, 1));
+    assert!(rt; bits.get(at) == has_digit(after, 0));
     for other in 0..N as u32 {
         let is_kept = other == at || bits.get(other) == (other % 3 == 0);
         assert!(rt; is_kept, "another bit");
@@ -108,7 +103,7 @@ fn try_row<const N: usize>(
 }
 
 /// A pixel of the four bits, with 1 at every third of the other places.
-fn pixel_of<const N: usize>(at: u32, bits: [u32; 4]) -> Pixel<N>
+fn pixel_of<const N: usize>(at: u32, bits: u32) -> Pixel<N>
     requires bits { N ≤ 256 }
     requires place { at < N }
 {
@@ -116,11 +111,17 @@ fn pixel_of<const N: usize>(at: u32, bits: [u32; 4]) -> Pixel<N>
     for place in 0..N as u32 {
         pixel.memory.set(place, place % 3 == 0);
     }
-    pixel.memory.set(at, bits[3] == 1);
-    pixel.enable = bits[0] == 1;
-    pixel.carry = bits[1] == 1;
-    pixel.latch = bits[2] == 1;
+    pixel.memory.set(at, has_digit(bits, 0));
+    pixel.enable = has_digit(bits, 3);
+    pixel.carry = has_digit(bits, 2);
+    pixel.latch = has_digit(bits, 1);
     pixel
+}
+
+fn has_digit(bits: u32, place: u32) -> bool
+    requires { place < 32 }
+{
+    bits >> place & 1 == 1
 }
 
 #[test]

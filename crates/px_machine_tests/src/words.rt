@@ -3,17 +3,16 @@ ghost use Rattle.std.specs.Prelude.{◌≡◌, ◌<◌};
 ghost use Rattle.px_pixel.specs.Acts.{HasPlace};
 ghost use Rattle.px_machine_tests.specs.Ready.{IsReady};
 
-use crate::at_once::{clock_each, open_both};
+use crate::at_once::{Trial, clock_each, try_both};
 use crate::clocks::{feed, make_all};
-use crate::compared::compare;
+use crate::compared::{compare, try_size};
 use crate::numbers::Numbers;
 use crate::trees::{try_largest, try_six};
-use px_array::{Array, Micro, PixelArray, TreeOp};
+use px_array::{Array, Micro, TreeOp};
 use px_num::{Linear, Memory};
 use px_pixel::Act;
 use px_planes::{PlaneArray, PlaneTree};
 use px_tree::{Tree, feed_form};
-use std::alloc::Global;
 use std::process::Abort;
 use std::test::Fail;
 
@@ -73,9 +72,20 @@ fn are_words(rt: &impl Abort, found: &[u64], count: usize, word: u64) {
 /// `x + 2 * y + 1` on four pixels is 1, 3, 2 and 4, in the order of their places.
 #[test]
 fn rows_of_a_form(rt: HostRuntime) -> Result<(), Fail> {
-    let mut array = PlaneArray::<5>::new(rt.alloc());
-    assert_eq!(rt; array.size(), (0, 0));
-    array.open(1, 1)?;
+    try_rows(&rt, &mut PlaneArray::new(rt.alloc()))
+}
+
+fn try_rows(rt: &impl Abort, array: &mut PlaneArray<5>) -> Result<(), Fail> {
+    load(rt, array)?;
+    for (at, word) in [(0, 0b0011), (1, 0b0110), (2, 0b1000), (3, 0b1111), (4, 0)] {
+        try_row(rt, array, at, word);
+    }
+    Ok(())
+}
+
+/// Loads the form into the first bits of pixels, and toggles the bit behind them.
+fn load<A: Array>(rt: &impl Abort, array: &mut A) -> Result<(), Memory> {
+    assert!(rt; A::BITS == 5);
     let micros = [
         (TreeOp::Clear, Act::EnableAll),
         (feed(true, false, true), Act::Nop),
@@ -85,17 +95,16 @@ fn rows_of_a_form(rt: HostRuntime) -> Result<(), Fail> {
         (feed(false, false, false), Act::StoreTree(2)),
         (TreeOp::Hold, Act::Toggle(3)),
     ];
-    make_all(&rt, &mut array, &micros);
-    for (at, word) in [(0, 0b0011), (1, 0b0110), (2, 0b1000), (3, 0b1111), (4, 0)] {
-        try_row(&rt, &array, at, word);
-    }
+    try_size(rt, array, 0, 0);
+    array.open(1, 1)?;
+    make_all(rt, array, &micros);
     Ok(())
 }
 
 /// The row of four pixels is this word.
 fn try_row(rt: &impl Abort, array: &PlaneArray<5>, at: u32, word: u64) {
     assert!(rt; at < 5);
-    assert!(rt; array.size() == (1, 1));
+    try_size(rt, array, 1, 1);
     are_words(rt, array.row(at), 1, word);
 }
 
@@ -103,31 +112,37 @@ fn try_row(rt: &impl Abort, array: &PlaneArray<5>, at: u32, word: u64) {
 #[test]
 fn both_arrays_agree(rt: HostRuntime) -> Result<(), Fail> {
     for (nx, ny) in [(1, 1), (2, 1), (1, 3), (3, 3), (4, 4), (6, 1), (5, 5)] {
-        try_agreement(&rt, rt.alloc(), nx, ny)?;
+        let mut draw = Draw::from(7);
+        try_both::<5>(&rt, rt.alloc(), nx, ny, Trial::Saved, &mut draw)?;
     }
     Ok(())
 }
 
-fn try_agreement(rt: &impl Abort, alloc: Global, nx: u32, ny: u32) -> Result<(), Memory> {
-    let (mut planes, mut pixels) = open_both(rt, alloc, nx, ny)?;
-    let mut draw = Draw::from(7);
+/// Micros with saves and restores.
+pub(crate) fn agree<A: Array, B: Array>(
+    rt: &impl Abort,
+    planes: &mut A,
+    pixels: &mut B,
+    draw: &mut Draw,
+)
+    requires planes { IsReady A.BITS (A.view planes.old) }
+    requires pixels { IsReady B.BITS (B.view pixels.old) }
+{
+    assert!(rt; A::BITS == 5);
+    assert!(rt; B::BITS == 5);
     for _ in 0..6 {
-        try_saved(rt, &mut planes, &mut pixels, &mut draw);
+        try_saved(rt, planes, pixels, draw);
     }
-    Ok(())
 }
 
 /// Random micros on both arrays, and more of them that are taken back.
-fn try_saved(
-    rt: &impl Abort,
-    planes: &mut PlaneArray<5>,
-    pixels: &mut PixelArray<5>,
-    draw: &mut Draw,
-)
-    requires planes { IsReady 5 planes.old }
-    requires pixels { IsReady 5 pixels.old }
-    ensures planes { IsReady 5 planes.new }
-    ensures pixels { IsReady 5 pixels.new }
+fn try_saved<A: Array, B: Array>(rt: &impl Abort, planes: &mut A, pixels: &mut B, draw: &mut Draw)
+    requires plane_bits { A.BITS ≡ 5 }
+    requires pixel_bits { B.BITS ≡ 5 }
+    requires planes { IsReady A.BITS (A.view planes.old) }
+    requires pixels { IsReady B.BITS (B.view pixels.old) }
+    ensures planes { IsReady A.BITS (A.view planes.new) }
+    ensures pixels { IsReady B.BITS (B.view pixels.new) }
 {
     clock_both(rt, planes, pixels, draw, 40);
     planes.save(2);
@@ -136,7 +151,7 @@ fn try_saved(
     planes.restore(2);
     pixels.restore(2);
     compare(rt, pixels, planes);
-    assert_eq!(rt; pixels.work(), planes.work());
+    assert!(rt; pixels.work() == planes.work());
 }
 
 /// Random numbers, and the lines of the last feed.
@@ -226,19 +241,21 @@ pub(crate) fn placed(act: Act) -> Act
 }
 
 /// So many random micros on both arrays, which are compared after each.
-fn clock_both(
+fn clock_both<A: Array, B: Array>(
     rt: &impl Abort,
-    planes: &mut PlaneArray<5>,
-    pixels: &mut PixelArray<5>,
+    planes: &mut A,
+    pixels: &mut B,
     draw: &mut Draw,
     count: u32,
 )
-    requires planes { IsReady 5 planes.old }
-    requires pixels { IsReady 5 pixels.old }
-    ensures planes { IsReady 5 planes.new }
-    ensures pixels { IsReady 5 pixels.new }
-    ensures plane_slots { planes.new.slots ≡ planes.old.slots }
-    ensures pixel_slots { pixels.new.slots ≡ pixels.old.slots }
+    requires plane_bits { A.BITS ≡ 5 }
+    requires pixel_bits { B.BITS ≡ 5 }
+    requires planes { IsReady A.BITS (A.view planes.old) }
+    requires pixels { IsReady B.BITS (B.view pixels.old) }
+    ensures planes { IsReady A.BITS (A.view planes.new) }
+    ensures pixels { IsReady B.BITS (B.view pixels.new) }
+    ensures plane_slots { (A.view planes.new).slots ≡ (A.view planes.old).slots }
+    ensures pixel_slots { (B.view pixels.new).slots ≡ (B.view pixels.old).slots }
 {
     for _ in 0..count {
         clock_each(rt, planes, pixels, draw.micro());

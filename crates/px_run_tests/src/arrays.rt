@@ -1,12 +1,11 @@
 //! What is asked of an array: its openings, operations at once, and clocks.
 use crate::runs::{Given, render, run_words};
 use arrayvec::ArrayVec;
-use px_array::{Array, Micro, PixelArray, Registers};
+use px_array::{Array, Micro, Registers};
 use px_asm::Operating;
 use px_draw::Status;
 use px_macro::Macro;
 use px_num::Memory;
-use std::alloc::Global;
 use std::test::Fail;
 
 /// Two slopes that meet at the third column, at depth 4.
@@ -24,15 +23,15 @@ pub(crate) struct Counts {
 
 /// An array that counts.
 #[derive(Drop)]
-pub(crate) struct Watched {
-    array: PixelArray<72>,
+pub(crate) struct Watched<A: Array> {
+    array: A,
     counts: Counts,
 }
 
-impl Watched {
-    pub(crate) fn new(alloc: Global) -> Watched {
+impl<A: Array + Drop> Watched<A> {
+    pub(crate) fn new(array: A) -> Watched<A> {
         Watched {
-            array: PixelArray::new(alloc),
+            array,
             counts: Counts {
                 openings: ArrayVec::new(),
                 operations: 0,
@@ -46,12 +45,12 @@ impl Watched {
     }
 }
 
-impl Array for Watched {
-    const BITS: usize = 72;
+impl<A: Array> Array for Watched<A> {
+    const BITS: usize = A::BITS;
 
-    ghost BITS = { 72 };
+    ghost BITS = { A.BITS };
 
-    ghost view = { λ a. a.array };
+    ghost view = { λ a. A.view a.array };
 
     fn open(&mut self, nx: u32, ny: u32) -> Result<(), Memory> {
         // A ninth opening is not kept.
@@ -105,7 +104,7 @@ impl Array for Watched {
     }
 }
 
-impl Operating for Watched {
+impl<A: Operating> Operating for Watched<A> {
     fn operate(&mut self, m: &Macro) {
         self.counts.operations = self.counts.operations.saturating_add(1);
         self.array.operate(m);

@@ -1,9 +1,9 @@
 //! The ends in memory, the calm ones, and those over a reader and a writer of std, through the calls that read and write
 //! whole; failures in mid-stream.
-use crate::runs::{sink_of, source_of};
+use crate::runs::{sink_of, source_of, try_bytes};
 use px_io::{
-    CalmSink, CalmSource, Failed, MemSink, ReadError, Sink, Source, StdSink, StdSource, read_whole,
-    write_whole,
+    CalmSink, CalmSource, Failed, MemSink, MemSource, ReadError, Sink, Source, StdSink, StdSource,
+    read_whole, write_whole,
 };
 use std::alloc::Global;
 use std::io;
@@ -20,7 +20,7 @@ fn reads<S: Source>(
     want: &[u8],
 ) -> Result<(), Fail> {
     let read = read_whole(alloc, input, limit)?;
-    assert_eq!(rt; read.as_slice(), want);
+    try_bytes(rt, read.as_slice(), want);
     Ok(())
 }
 
@@ -41,36 +41,48 @@ fn finishes<O: Sink>(rt: &impl Abort, out: &mut O, want: Result<(), Failed>) {
 
 /// The sink has taken these bytes, and is finished or not.
 fn has_taken(rt: &impl Abort, out: &MemSink, bytes: &[u8], is_finished: bool) {
-    assert_eq!(rt; out.written(), bytes);
-    assert_eq!(rt; out.finished(), is_finished);
+    try_bytes(rt, out.written(), bytes);
+    assert!(rt; out.finished() == is_finished);
 }
 
 #[test]
 fn memory_carries_all_bytes(rt: HostRuntime) -> Result<(), Fail> {
     let alloc = rt.alloc();
-    let mut input = source_of(alloc, b"abcdef", 4, 0)?;
-    reads(&rt, alloc, &mut input, 5, b"abcde")?;
-    reads(&rt, alloc, &mut input, 5, b"f")?;
-    let mut out = sink_of(alloc, 6, 4, 0)?;
-    writes(&rt, &mut out, b"abcdef", Ok(()));
-    has_taken(&rt, &out, b"abcdef", false);
-    finishes(&rt, &mut out, Ok(()));
-    has_taken(&rt, &out, b"abcdef", true);
+    carries(&rt, alloc, &mut source_of(alloc, b"abcdef", 4, 0)?)?;
+    takes(&rt, &mut sink_of(alloc, 6, 4, 0)?);
     Ok(())
+}
+
+fn carries(rt: &impl Abort, alloc: Global, input: &mut MemSource) -> Result<(), Fail> {
+    reads(rt, alloc, input, 5, b"abcde")?;
+    reads(rt, alloc, input, 5, b"f")
+}
+
+fn takes(rt: &impl Abort, out: &mut MemSink) {
+    writes(rt, out, b"abcdef", Ok(()));
+    has_taken(rt, out, b"abcdef", false);
+    finishes(rt, out, Ok(()));
+    has_taken(rt, out, b"abcdef", true);
 }
 
 #[test]
 fn memory_fails_in_mid_stream(rt: HostRuntime) -> Result<(), Fail> {
     let alloc = rt.alloc();
-    let mut input = source_of(alloc, b"abcdef", 2, 2)?;
-    fails(&rt, alloc, &mut input);
-    reads(&rt, alloc, &mut input, 9, b"cdef")?;
-    let mut out = sink_of(alloc, 9, 2, 2)?;
-    writes(&rt, &mut out, b"abcdef", Err(Failed));
-    has_taken(&rt, &out, b"ab", false);
-    writes(&rt, &mut out, b"xy", Ok(()));
-    has_taken(&rt, &out, b"abxy", false);
+    gives_the_rest(&rt, alloc, &mut source_of(alloc, b"abcdef", 2, 2)?)?;
+    takes_after_a_fault(&rt, &mut sink_of(alloc, 9, 2, 2)?);
     Ok(())
+}
+
+fn gives_the_rest(rt: &impl Abort, alloc: Global, input: &mut MemSource) -> Result<(), Fail> {
+    fails(rt, alloc, input);
+    reads(rt, alloc, input, 9, b"cdef")
+}
+
+fn takes_after_a_fault(rt: &impl Abort, out: &mut MemSink) {
+    writes(rt, out, b"abcdef", Err(Failed));
+    has_taken(rt, out, b"ab", false);
+    writes(rt, out, b"xy", Ok(()));
+    has_taken(rt, out, b"abxy", false);
 }
 
 #[test]
@@ -133,12 +145,19 @@ fn std_reader_fails_once(rt: HostRuntime) -> Result<(), Fail> {
 #[test]
 fn std_writer_is_a_sink(rt: HostRuntime) -> Result<(), Fail> {
     let mut room = [0; 4];
-    let mut out = StdSink::new(BufWriter::new(rt.alloc(), room.as_mut_slice())?);
-    writes(&rt, &mut out, b"abcd", Ok(()));
-    finishes(&rt, &mut out, Ok(()));
-    writes(&rt, &mut out, b"e", Ok(()));
-    finishes(&rt, &mut out, Err(Failed));
-    drop(out);
-    assert_eq!(rt; room, *b"abcd");
+    fill(&rt, rt.alloc(), &mut room)?;
+    try_bytes(&rt, &room, b"abcd");
     Ok(())
+}
+
+fn fill(rt: &impl Abort, alloc: Global, room: &mut [u8]) -> Result<(), Fail> {
+    takes_four(rt, &mut StdSink::new(BufWriter::new(alloc, room)?));
+    Ok(())
+}
+
+fn takes_four<O: Sink>(rt: &impl Abort, out: &mut O) {
+    writes(rt, out, b"abcd", Ok(()));
+    finishes(rt, out, Ok(()));
+    writes(rt, out, b"e", Ok(()));
+    finishes(rt, out, Err(Failed));
 }

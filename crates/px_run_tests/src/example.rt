@@ -1,12 +1,12 @@
 //! The example for callers, by pictures that were worked out by hand.
-use crate::runs::{one_solid, two_maps};
+use crate::runs::{one_solid, try_bytes, two_maps};
 use px_example::{NotDrawn, picture_of};
 use px_scene::{Cause, SceneFault};
 
 #[test]
 fn one_pixel_shows_its_front(rt: HostRuntime) {
     let maps = picture_of(rt.alloc(), one_solid()).expect(&rt, "a picture");
-    assert_eq!(rt; maps.written(), two_maps());
+    try_bytes(&rt, maps.written(), two_maps());
     assert!(rt; maps.finished());
 }
 

@@ -1,10 +1,14 @@
 //! Listings for pixels of other bits than the program's, with values that were worked out by hand.
 ghost use Rattle.std.specs.Prelude.{◌≤◌, length};
 
-use px_array::{Array, PixelArray};
+use crate::runs::try_bytes;
+use px_array::PixelArray;
+use px_asm::Operating;
 use px_io::MemSink;
 use px_listing::{read_listing, write_listing};
 use px_playing::{play, write_memory};
+use std::alloc::Global;
+use std::process::Abort;
 use std::test::Fail;
 
 /// The passes of a scene of one solid.
@@ -40,12 +44,29 @@ fn each() -> &'static [u8]
 #[test]
 fn passes_are_played_on_13_bits(rt: HostRuntime) -> Result<(), Fail> {
     let alloc = rt.alloc();
-    let listing = read_listing(alloc, passes(), 13)?;
-    let mut array = PixelArray::<13>::new(alloc);
-    play(&listing, &mut array)?;
     let mut out = MemSink::new(alloc, 1000, 300, Vec::new(alloc))?;
-    write_memory(&array, &mut out)?;
-    assert_eq!(rt; out.written(), passes_left_without_par());
+    try_bits::<13>(&rt, alloc, &mut out)
+}
+
+/// The passes on pixels of so many bits.
+fn try_bits<const N: usize>(rt: &impl Abort, alloc: Global, out: &mut MemSink) -> Result<(), Fail>
+    requires bits { N ≤ 256 }
+{
+    let mut array = PixelArray::<N>::new(alloc);
+    try_passes(rt, alloc, &mut array, out)
+}
+
+fn try_passes<A: Operating>(
+    rt: &impl Abort,
+    alloc: Global,
+    array: &mut A,
+    out: &mut MemSink,
+) -> Result<(), Fail> {
+    assert!(rt; A::BITS <= 256);
+    let listing = read_listing(alloc, passes(), A::BITS as u32)?;
+    play(&listing, array)?;
+    write_memory(array, out)?;
+    try_bytes(rt, out.written(), passes_left_without_par());
     assert_eq!(rt; array.clocks(), 317);
     Ok(())
 }
@@ -53,9 +74,13 @@ fn passes_are_played_on_13_bits(rt: HostRuntime) -> Result<(), Fail> {
 #[test]
 fn each_operation_is_read_and_written(rt: HostRuntime) -> Result<(), Fail> {
     let alloc = rt.alloc();
-    let listing = read_listing(alloc, each(), 256)?;
     let mut out = MemSink::new(alloc, 1000, 1000, Vec::new(alloc))?;
-    write_listing(&listing, &mut out)?;
-    assert_eq!(rt; out.written(), each());
+    try_each(&rt, alloc, &mut out)
+}
+
+fn try_each(rt: &impl Abort, alloc: Global, out: &mut MemSink) -> Result<(), Fail> {
+    let listing = read_listing(alloc, each(), 256)?;
+    write_listing(&listing, out)?;
+    try_bytes(rt, out.written(), each());
     Ok(())
 }

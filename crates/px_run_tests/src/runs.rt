@@ -1,7 +1,10 @@
 //! Runs over a source and sinks in memory, and over an array that is watched.
+ghost use Rattle.std.specs.Prelude.{◌≤◌};
+
 use crate::arrays::{Counts, Watched};
-use px_array::Array;
+use px_array::{Array, PixelArray};
 use px_asked::TellingSource;
+use px_asm::Operating;
 use px_draw::{Status, run};
 use px_io::{MemSink, MemSource};
 use std::alloc::Global;
@@ -62,29 +65,109 @@ impl Left {
     /// It ended so, with these notes, and so many clocks were made.
     pub(crate) fn ended(&self, rt: &impl Abort, status: Status, notes: &[u8], clocks: u64) {
         assert_eq!(rt; self.status, status);
-        assert_eq!(rt; self.notes.as_slice(), notes);
+        try_bytes(rt, self.notes.as_slice(), notes);
         assert_eq!(rt; self.clocks, clocks);
+    }
+
+    /// So many bytes were written, a front of these, and the output was finished or not.
+    pub(crate) fn wrote(&self, rt: &impl Abort, front: &[u8], count: usize, is_finished: bool) {
+        let written = self.written.as_slice();
+        assert_eq!(rt; written.len(), count);
+        assert!(rt; front.starts_with(written));
+        assert!(rt; self.is_finished == is_finished);
     }
 }
 
-/// Does what the words ask.
+/// These bytes are those that are wanted.
+pub(crate) fn try_bytes(rt: &impl Abort, found: &[u8], want: &[u8]) {
+    assert_eq!(rt; found, want);
+}
+
+/// Does what the words ask. (Each end is made by a function of its own, so that few of them are dropped where a call fails.)
 pub(crate) fn run_words(alloc: Global, given: &Given<'_>) -> Result<Left, Fail> {
     let words = owned(alloc, given.words)?;
+    run_owned(alloc, words.as_slice(), given)
+}
+
+fn run_owned(alloc: Global, words: &[String], given: &Given<'_>) -> Result<Left, Fail> {
     let mut input = TellingSource::new(alloc, source_given(alloc, given)?);
+    run_over(alloc, words, given, &mut input)
+}
+
+fn run_over(
+    alloc: Global,
+    words: &[String],
+    given: &Given<'_>,
+    input: &mut TellingSource,
+) -> Result<Left, Fail> {
     let (room, piece, failing) = given.writes;
     let mut out = sink_of(alloc, room, piece, failing)?;
-    let mut notes = sink_of(alloc, given.notes, 5, 0)?;
-    let mut array = Watched::new(alloc);
-    let words = words.as_slice();
-    let status = run(alloc, words, &mut input, &mut out, &mut notes, &mut array);
-    Ok(Left {
+    run_into::<72>(alloc, words, given.notes, input, &mut out)
+}
+
+fn run_into<const N: usize>(
+    alloc: Global,
+    words: &[String],
+    room: usize,
+    input: &mut TellingSource,
+    out: &mut MemSink,
+) -> Result<Left, Fail>
+    requires some_bits { 1 ≤ N }
+    requires bits { N ≤ 256 }
+{
+    let mut notes = sink_of(alloc, room, 5, 0)?;
+    let array = PixelArray::<N>::new(alloc);
+    run_on(alloc, words, input, out, &mut notes, array)
+}
+
+fn run_on<A: Operating + Drop>(
+    alloc: Global,
+    words: &[String],
+    input: &mut TellingSource,
+    out: &mut MemSink,
+    notes: &mut MemSink,
+    array: A,
+) -> Result<Left, Fail>
+    requires some_bits { 1 ≤ A.BITS }
+    requires bits { A.BITS ≤ 256 }
+{
+    let mut array = Watched::new(array);
+    let status = run(alloc, words, input, out, notes, &mut array);
+    let clocks = array.clocks();
+    let run = Run {
         status,
-        asks: asks_of(alloc, &input)?,
-        written: out.written().to_vec(alloc)?,
-        is_finished: out.finished(),
-        notes: notes.written().to_vec(alloc)?,
-        clocks: array.clocks(),
+        clocks,
         counts: array.counts(),
+    };
+    left_by(alloc, run, input, out, notes.written())
+}
+
+/// What a run tells beside its ends.
+#[derive(Drop)]
+struct Run {
+    status: Status,
+    clocks: u64,
+    counts: Counts,
+}
+
+fn left_by(
+    alloc: Global,
+    run: Run,
+    input: &TellingSource,
+    out: &MemSink,
+    notes: &[u8],
+) -> Result<Left, Fail> {
+    let asks = asks_of(alloc, input)?;
+    let written = out.written().to_vec(alloc)?;
+    let notes = notes.to_vec(alloc)?;
+    Ok(Left {
+        status: run.status,
+        asks,
+        written,
+        is_finished: out.finished(),
+        notes,
+        clocks: run.clocks,
+        counts: run.counts,
     })
 }
 

@@ -1,5 +1,5 @@
 //! Runs of `debug` over sources and sinks in memory, whose calls fail at a place.
-use crate::runs::{Given, Left, one_solid, render, run_words};
+use crate::runs::{Given, Left, one_solid, render, run_words, try_bytes};
 use px_draw::Status;
 use std::alloc::Global;
 use std::process::Abort;
@@ -30,10 +30,7 @@ fn sit(alloc: Global, lines: &[u8], reads: (usize, u64), failing: u64) -> Result
 
 /// So many bytes were written, a front of the answers, and the output was finished only where all were.
 fn answered(rt: &impl Abort, left: &Left, answers: &[u8], count: usize) {
-    let told = left.written.as_slice();
-    assert_eq!(rt; told.len(), count);
-    assert!(rt; answers.starts_with(told));
-    assert_eq!(rt; left.is_finished, left.status == Status::Done);
+    left.wrote(rt, answers, count, left.status == Status::Done);
 }
 
 /// However the input is cut, the answers are the same; a line behind `quit` is not answered.
@@ -108,5 +105,5 @@ fn asked(rt: &impl Abort, left: &Left, rest: &[u8]) {
         .strip_prefix(b"<")
         .expect(rt, "an ask before anything is written");
     let found = scene.strip_prefix(one_solid()).expect(rt, "the scene");
-    assert_eq!(rt; found, rest);
+    try_bytes(rt, found, rest);
 }

@@ -12,7 +12,6 @@ use px_tile::{TileFault, WideFault};
 use std::alloc::Global;
 use std::fmt::Display;
 use std::process::Abort;
-use std::test::Fail;
 
 fn expressions() -> [(ExprFault, &'static str); 2] {
     [
@@ -138,33 +137,31 @@ fn wide() -> [(WideFault, &'static str); 4] {
 }
 
 #[test]
-fn faults_as_text(rt: HostRuntime) -> Result<(), Fail> {
+fn faults_as_text(rt: HostRuntime) {
     let alloc = rt.alloc();
-    assert!(rt; have_texts(alloc, &expressions())?);
-    assert!(rt; have_texts(alloc, &products())?);
-    assert!(rt; have_texts(alloc, &scenes())?);
-    assert!(rt; have_texts(alloc, &layouts())?);
-    assert!(rt; have_texts(alloc, &jobs())?);
-    assert!(rt; have_texts(alloc, &listings())?);
-    assert!(rt; have_texts(alloc, &lights())?);
-    assert!(rt; have_texts(alloc, &finer())?);
-    assert!(rt; have_texts(alloc, &tiles())?);
-    assert!(rt; have_texts(alloc, &wide())?);
-    Ok(())
+    have_texts(&rt, alloc, &expressions());
+    have_texts(&rt, alloc, &products());
+    have_texts(&rt, alloc, &scenes());
+    have_texts(&rt, alloc, &layouts());
+    have_texts(&rt, alloc, &jobs());
+    have_texts(&rt, alloc, &listings());
+    have_texts(&rt, alloc, &lights());
+    have_texts(&rt, alloc, &finer());
+    have_texts(&rt, alloc, &tiles());
+    have_texts(&rt, alloc, &wide());
 }
 
 #[test]
-fn want_of_memory_as_text(rt: HostRuntime) -> Result<(), Fail> {
+fn want_of_memory_as_text(rt: HostRuntime) {
     let alloc = rt.alloc();
-    assert!(rt; is_told(alloc, &ExprFault::Memory(lack(&rt, alloc)))?);
-    assert!(rt; is_told(alloc, &NormalFault::Memory(lack(&rt, alloc)))?);
-    assert!(rt; is_told(alloc, &SceneFault::Memory(lack(&rt, alloc)))?);
-    assert!(rt; is_told(alloc, &JobFault::Memory(lack(&rt, alloc)))?);
-    assert!(rt; is_told(alloc, &ListFault::Memory(lack(&rt, alloc)))?);
-    assert!(rt; is_told(alloc, &FineFault::Memory(lack(&rt, alloc)))?);
-    assert!(rt; is_told(alloc, &TileFault::Memory(lack(&rt, alloc)))?);
-    assert!(rt; is_told(alloc, &WideFault::Memory(lack(&rt, alloc)))?);
-    Ok(())
+    is_told(&rt, alloc, &ExprFault::Memory(lack(&rt, alloc)));
+    is_told(&rt, alloc, &NormalFault::Memory(lack(&rt, alloc)));
+    is_told(&rt, alloc, &SceneFault::Memory(lack(&rt, alloc)));
+    is_told(&rt, alloc, &JobFault::Memory(lack(&rt, alloc)));
+    is_told(&rt, alloc, &ListFault::Memory(lack(&rt, alloc)));
+    is_told(&rt, alloc, &FineFault::Memory(lack(&rt, alloc)));
+    is_told(&rt, alloc, &TileFault::Memory(lack(&rt, alloc)));
+    is_told(&rt, alloc, &WideFault::Memory(lack(&rt, alloc)));
 }
 
 /// What more than all memory is refused with.
@@ -173,21 +170,19 @@ fn lack(rt: &impl Abort, alloc: Global) -> Memory {
     Memory::from(refused.expect(rt, "no machine has so much memory"))
 }
 
-/// Whether want of memory has its text.
-fn is_told<F: Display>(alloc: Global, fault: &F) -> Result<bool, Memory> {
-    has_text(alloc, fault, "out of memory")
+/// Want of memory has its text.
+fn is_told<F: Display>(rt: &impl Abort, alloc: Global, fault: &F) {
+    has_text(rt, alloc, fault, "out of memory");
 }
 
-/// Whether each fault has its text.
-fn have_texts<F: Display>(alloc: Global, rows: &[(F, &str)]) -> Result<bool, Memory> {
+/// Each fault has its text.
+fn have_texts<F: Display>(rt: &impl Abort, alloc: Global, rows: &[(F, &str)]) {
     for (fault, text) in rows {
-        if !has_text(alloc, fault, text)? {
-            return Ok(false);
-        }
+        has_text(rt, alloc, fault, text);
     }
-    Ok(true)
 }
 
-fn has_text<F: Display>(alloc: Global, fault: &F, text: &str) -> Result<bool, Memory> {
-    Ok(fault.to_string(alloc)?.as_str() == text)
+fn has_text<F: Display>(rt: &impl Abort, alloc: Global, fault: &F, text: &str) {
+    let found = fault.to_string(alloc).expect(rt, "memory for a text");
+    assert!(rt; found.as_str() == text);
 }

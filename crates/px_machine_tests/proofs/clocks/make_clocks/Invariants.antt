@@ -3,4 +3,7 @@ use Rattle.px_array.specs.Arrays.{IsOpen}
 use Rattle.px_machine_tests.proofs.clocks.make_clocks.Given as goal
 
 abbrev pub invariant-loop-k : goal.invariant-loop-k
-invariant-loop-k g l = record { is_open : IsOpen l.array.device; slots : l.array.slots ≡ l.fn.array.slots }
+invariant-loop-k g l = record {
+  is_open : IsOpen (g.A.Array.view l.array).device;
+  slots : (g.A.Array.view l.array).slots ≡ (g.A.Array.view l.fn.array).slots;
+}
