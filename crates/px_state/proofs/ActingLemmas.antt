@@ -1,5 +1,5 @@
 -- What an act leaves of a pixel whose bits stand in words.
-use Rattle.px_num.proofs.Basics.{◌≡◌, ◌≢◌, ℕ, ◌+◌, ◌*◌, ◌<◌, ◌≤◌, Bool, true, false, cond, List, length, get_or, set}
+use Rattle.px_num.proofs.Basics.{◌≡◌, ◌≢◌, ℕ, ◌+◌, ◌*◌, ◌<◌, ◌≤◌, Bool, true, false, List, length, get_or, set}
 use Rattle.px_num.proofs.Basics.{refl, sym, ap, ◌∙◌, arith, inl, inr, length-set, mul-le-mul_right, cases_eq, cases_lt}
 use Rattle.px_num.proofs.Basics.{if◌then◌else◌, slice_set}
 use Rattle.std.proofs.lemmas.List.{get_or-set_other, get_or-set_same}

@@ -59,13 +59,7 @@ job_leaves (job.PixelMemory need) bits l before now leaves = leaves
 job_leaves (job.Products count) bits l before now leaves = leaves
 job_leaves (job.Memory _) bits l before now leaves = leaves
 
--- what is refused by the first is refused by both
-pub first_refused : (fault : StateFault) (a b : Option StateFault) → IsRefusedBy fault a
-    → IsRefusedBy fault (option_or a b)
-first_refused fault a b (inl memory) = inl memory
-first_refused fault a b (inr is) = inr (rw is refl)
-
--- and so is what the second alone refuses
+-- what the second alone refuses is refused by both
 pub second_refused : (fault : StateFault) (a b : Option StateFault) → a ≡ None → b ≡ Some fault
     → IsRefusedBy fault (option_or a b)
 second_refused fault a b none some = inr (rw none some)

@@ -1,13 +1,18 @@
 -- The operations of a scene as those of a listing.
-use Rattle.px_num.proofs.Basics.{◌≡◌, ℕ, ◌<◌, Option, Some, None, refl, ◌∙◌, arith, sym, slice_get}
+use Rattle.px_num.proofs.Basics.{◌≡◌, ℕ, ◌+◌, ◌-◌, ◌<◌, ◌≤◌, min, All, length, Option, Some, None, refl, ◌∙◌, arith}
+use Rattle.px_num.proofs.Basics.{sym, slice_get}
 use Rattle.px_array.specs.Arrays.{Device}
 use Rattle.px_array.specs.declared.micro.Micro.{Micro}
 use Rattle.px_macro.specs.declared.operation.Macro.{Macro}
-use Rattle.px_model.specs.Scenes.{SceneView}
+use Rattle.px_model.specs.Scenes.{IsLawfulScene, IsLawfulSolid, SceneView}
+use Rattle.px_normal.specs.declared.product.TheConstants.{MAX_PRODUCTS}
+use Rattle.px_prune.specs.Kept.{plan_of}
 use Rattle.px_control.specs.Program.{IsAt, array_after, micro_at_clock, operation_at, program}
 use Rattle.px_control.specs.Program as program
+use Rattle.px_control.specs.ProgramLaws.{IsGoodProgram}
 use Rattle.px_control.specs.Standing.{StandsFor}
 use Rattle.px_control.specs.declared.place.Place.{Place}
+use Rattle.px_control.proofs.ProgramLemmas.{good_program}
 use Rattle.px_control.proofs.PlaceLemmas.{at_end, micro_is, operation_is}
 use Rattle.px_playing.specs.PassesText.{passes_listing}
 use Rattle.px_state.specs.Courses.{HasCycle, IsNextBroadcast, device_after, total_of_listing}
@@ -16,10 +21,20 @@ pub same_total : (scene : SceneView) → program.total scene ≡ total_of_listin
 unfolding program
 same_total scene = refl
 
+-- a lawful scene of few products has a good program
+pub can_run : (scene : SceneView) → IsLawfulScene scene → All IsLawfulSolid scene.solids
+    → length (plan_of scene) ≤ MAX_PRODUCTS → IsGoodProgram scene
+can_run scene lawful solids few = good_program scene (record { lawful = lawful; solids = solids; few = few })
+
 pub device_is : (bits : ℕ) (scene : SceneView) (n : ℕ) (device : Device) → IsAt bits scene n device
     → device ≡ device_after bits (passes_listing scene) n
 unfolding array_after program
 device_is bits scene n device at = at.reached
+
+-- a job that begins at clock 0 and makes clocks up to one that is not past the last stands there
+pub made_to : (clock was made now total : ℕ) → now ≡ was + made → made ≡ min clock (total - was) → was ≡ 0
+    → clock ≤ total → now ≡ clock
+made_to clock was made now total is makes new within = omega (arith, is, makes, new, within)
 
 -- an operation runs where a clock is left
 running : (scene : SceneView) (p : Place) (o : Option Macro) → StandsFor scene p → p.current ≡ o

@@ -18,10 +18,10 @@ use Rattle.px_state.specs.Refusals.{list_fault, fault_of_scene, input_refusal, p
 use Rattle.px_state.specs.Keeping.{KeepsArray}
 use Rattle.px_state.specs.declared.fault.StateFault.{StateFault}
 
-pub long_text : (bits : ℕ) (text : List ℕ) → MAX_TEXT_BYTES < length text → input_refusal bits text
-    ≡ Some past_text_limit
+pub long_text : (bits : ℕ) (text : List ℕ) → MAX_TEXT_BYTES < length text
+    → IsRefusedBy past_text_limit (input_refusal bits text)
 unfolding input_refusal
-long_text bits text long = rw (lt-ltb MAX_TEXT_BYTES (length text) long) refl
+long_text bits text long = inr (rw (lt-ltb MAX_TEXT_BYTES (length text) long) refl)
 
 pub list_text : (bits : ℕ) (text : List ℕ) → length text ≤ MAX_TEXT_BYTES → is_listing text ≡ true
     → input_refusal bits text ≡ option_map list_fault (listing.listing_refusal_of bits text)

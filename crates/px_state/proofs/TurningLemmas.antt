@@ -1,10 +1,10 @@
 -- The stages by which a block is turned over.
 use Rattle.px_num.proofs.Basics.{◌≡◌, ℕ, zero, suc, ◌+◌, ◌-◌, ◌*◌, ◌/◌, ◌%◌, ◌^◌, ◌==◌, ◌<◌, ◌≤◌, nat_le, nat_lt, Bool}
-use Rattle.px_num.proofs.Basics.{true, false, cond, if◌then◌else◌, List, get_or, refl, ap, ◌∙◌, arith, inl, inr}
+use Rattle.px_num.proofs.Basics.{◌&&◌, true, false, cond, if◌then◌else◌, List, get_or, refl, ap, ◌∙◌, arith, inl, inr}
 use Rattle.px_num.proofs.Basics.{agree_below_at, cases_Bool, nat_tests, bit_at_cat_high}
 use Rattle.px_num.specs.Bits.{nat_bit}
 use Rattle.px_num.proofs.BitLaws.{pow_above}
-use Rattle.px_num.proofs.TruthLaws.{itself_true, lt_holds}
+use Rattle.px_num.proofs.TruthLaws.{itself_true}
 use Rattle.px_rows.proofs.BitLaws.{bit_down, bit_of_low}
 use Rattle.px_rows.specs.Rows.{row_bit}
 use Rattle.px_state.specs.Turning.{HasLow, turned_place, exchanged, rest_at}
@@ -12,47 +12,34 @@ use Rattle.px_state.specs.Turning.{HasLow, turned_place, exchanged, rest_at}
 same : (a b : ℕ) → (a == b) ≡ true → a ≡ b
 same a b e = grind (arith, nat_tests)
 
--- a stage stays in the block
+-- a stage stays in the block, and brings the bits nearer to their places
+steps : (k p : ℕ) → Bool
+steps k p = nat_lt (exchanged k p) 4096 && (turned_place k (exchanged k p) == turned_place (k + 1) p)
+
+steps_all : (k p : ℕ) → k < 6 → p < 4096 → steps k p ≡ true
+unfolding steps
+steps_all zero p few within = agree_below_at (steps 0) (λ _. true) 4096 p refl within
+steps_all (suc zero) p few within = agree_below_at (steps 1) (λ _. true) 4096 p refl within
+steps_all (suc (suc zero)) p few within = agree_below_at (steps 2) (λ _. true) 4096 p refl within
+steps_all (suc (suc (suc zero))) p few within = agree_below_at (steps 3) (λ _. true) 4096 p refl within
+steps_all (suc (suc (suc (suc zero)))) p few within = agree_below_at (steps 4) (λ _. true) 4096 p refl within
+steps_all (suc (suc (suc (suc (suc zero))))) p few within = agree_below_at (steps 5) (λ _. true) 4096 p refl within
+steps_all (suc (suc (suc (suc (suc (suc k)))))) p few within = absurd (omega (arith, few))
+
 pub exchanged_below : (k p : ℕ) → k < 6 → p < 4096 → exchanged k p < 4096
-exchanged_below k p few within = by_test (in_block k p few within)
-  where
-    in_block : (k p : ℕ) → k < 6 → p < 4096 → nat_lt (exchanged k p) 4096 ≡ true
-    in_block zero p few within = agree_below_at (λ p. nat_lt (exchanged 0 p) 4096) (λ _. true) 4096 p refl within
-    in_block (suc zero) p few within = agree_below_at (λ p. nat_lt (exchanged 1 p) 4096) (λ _. true) 4096 p refl within
-    in_block (suc (suc zero)) p few within = agree_below_at (λ p. nat_lt (exchanged 2 p) 4096) (λ _. true) 4096 p refl
-        within
-    in_block (suc (suc (suc zero))) p few within =
-        agree_below_at (λ p. nat_lt (exchanged 3 p) 4096) (λ _. true) 4096 p refl within
-    in_block (suc (suc (suc (suc zero)))) p few within =
-        agree_below_at (λ p. nat_lt (exchanged 4 p) 4096) (λ _. true) 4096 p refl within
-    in_block (suc (suc (suc (suc (suc zero))))) p few within =
-        agree_below_at (λ p. nat_lt (exchanged 5 p) 4096) (λ _. true) 4096 p refl within
-    in_block (suc (suc (suc (suc (suc (suc k)))))) p few within = absurd (omega (arith, few))
+unfolding steps
+exchanged_below k p few within = let all = steps_all k p few within in grind (arith, nat_tests)
 
-    by_test : nat_lt (exchanged k p) 4096 ≡ true → exchanged k p < 4096
-    by_test e = lt_holds _ _ e
+pub crossed_more : (k p : ℕ) → k < 6 → p < 4096 → turned_place k (exchanged k p) ≡ turned_place (k + 1) p
+unfolding steps
+crossed_more k p few within = let all = steps_all k p few within in grind (arith, nat_tests)
 
--- each stage brings the bits nearer to their places, and after six they are there
+-- after six stages they are there
 pub crossed_none : (p : ℕ) → turned_place 0 p ≡ p
 crossed_none p = omega arith
 
 pub crossed_all : (p : ℕ) → p < 4096 → turned_place 6 p ≡ 64 * (p % 64) + p / 64
 crossed_all p within = omega (arith, within)
-
-pub crossed_more : (k p : ℕ) → k < 6 → p < 4096 → turned_place k (exchanged k p) ≡ turned_place (k + 1) p
-crossed_more zero p few within =
-    same _ _ (agree_below_at (λ p. turned_place 0 (exchanged 0 p) == turned_place 1 p) (λ _. true) 4096 p refl within)
-crossed_more (suc zero) p few within =
-    same _ _ (agree_below_at (λ p. turned_place 1 (exchanged 1 p) == turned_place 2 p) (λ _. true) 4096 p refl within)
-crossed_more (suc (suc zero)) p few within =
-    same _ _ (agree_below_at (λ p. turned_place 2 (exchanged 2 p) == turned_place 3 p) (λ _. true) 4096 p refl within)
-crossed_more (suc (suc (suc zero))) p few within =
-    same _ _ (agree_below_at (λ p. turned_place 3 (exchanged 3 p) == turned_place 4 p) (λ _. true) 4096 p refl within)
-crossed_more (suc (suc (suc (suc zero)))) p few within =
-    same _ _ (agree_below_at (λ p. turned_place 4 (exchanged 4 p) == turned_place 5 p) (λ _. true) 4096 p refl within)
-crossed_more (suc (suc (suc (suc (suc zero))))) p few within =
-    same _ _ (agree_below_at (λ p. turned_place 5 (exchanged 5 p) == turned_place 6 p) (λ _. true) 4096 p refl within)
-crossed_more (suc (suc (suc (suc (suc (suc k)))))) p few within = absurd (omega (arith, few))
 
 -- the places that a stage asks for are in the block
 stays : (k n : ℕ) → Bool

@@ -11,13 +11,13 @@ use thiserror::Error;
 #[derive(Debug, Drop, Error)]
 pub enum StateFault {
     /// The text is no scene, and no listing (docs/SCENES.md, "Refusals"), or it is too long.
-    #[error("{0}")]
+    #[error(transparent)]
     Scene(SceneFault),
     /// The pixels have too few memory bits for the scene, or its products are too many.
-    #[error("{0}")]
+    #[error(transparent)]
     Job(JobFault),
     /// The text begins as a listing, and is none (docs/LISTINGS.md, "Refusals").
-    #[error("{0}")]
+    #[error(transparent)]
     Listing(ListFault),
     /// The clocks that are asked for lie past the last.
     #[error("past clock {clocks}, the last")]

@@ -3,7 +3,6 @@ ghost use Rattle.std.specs.Prelude.{◌≡◌, ◌≤◌, ℕ, All, true, false,
 ghost use Rattle.px_state.specs.Courses.{device_after};
 ghost use Rattle.px_playing.specs.PassesText.{passes_listing};
 ghost use Rattle.px_macro.specs.Macros.{IsLawful};
-ghost use Rattle.px_text.specs.declared.text.TheConstants.{MAX_TEXT_BYTES};
 ghost use Rattle.px_text.specs.Text.{worded};
 ghost use Rattle.px_scene.specs.Reading.{scene_of};
 ghost use Rattle.px_state.specs.Operations.{HasOperations, IsOperationOf};
@@ -56,21 +55,16 @@ pub fn write_state<A: Operating>(
     ensures refused { IfErr result (λ fault. FaultLeaves fault A.BITS (course_of text.now)
         (A.view array.old) (A.view array.new)) }
 {
-    if text.len() > MAX_TEXT_BYTES {
-        return Err(too_long());
-    }
     if is_listing(text) {
-        let listing = match read_course(alloc, text, A::BITS as u32) {
-            Ok(listing) => listing,
-            Err(fault) => return Err(fault),
-        };
-        state_of_listing(&listing, clock, words, array)
+        match read_course(alloc, text, A::BITS as u32) {
+            Ok(listing) => state_of_listing(&listing, clock, words, array),
+            Err(fault) => Err(fault),
+        }
     } else {
-        let scene = match read_drawing(alloc, text) {
-            Ok(scene) => scene,
-            Err(fault) => return Err(fault),
-        };
-        state_of_scene(alloc, &scene, clock, words, array)
+        match read_drawing(alloc, text) {
+            Ok(scene) => state_of_scene(alloc, &scene, clock, words, array),
+            Err(fault) => Err(fault),
+        }
     }
 }
 
@@ -96,21 +90,16 @@ pub fn write_micros(
     ensures kept { OnErr result (micros.new ≡ micros.old) }
     ensures length { length micros.new ≡ length micros.old }
 {
-    if text.len() > MAX_TEXT_BYTES {
-        return Err(too_long());
-    }
     if is_listing(text) {
-        let listing = match read_course(alloc, text, bits) {
-            Ok(listing) => listing,
-            Err(fault) => return Err(fault),
-        };
-        micros_of_listing(&listing, first, micros)
+        match read_course(alloc, text, bits) {
+            Ok(listing) => micros_of_listing(&listing, first, micros),
+            Err(fault) => Err(fault),
+        }
     } else {
-        let scene = match read_drawing(alloc, text) {
-            Ok(scene) => scene,
-            Err(fault) => return Err(fault),
-        };
-        micros_of_scene(alloc, &scene, bits, first, micros)
+        match read_drawing(alloc, text) {
+            Ok(scene) => micros_of_scene(alloc, &scene, bits, first, micros),
+            Err(fault) => Err(fault),
+        }
     }
 }
 
@@ -136,9 +125,6 @@ pub fn write_operations(
     ensures kept { OnErr result (list.new ≡ list.old) }
     ensures length { length list.new ≡ length list.old }
 {
-    if text.len() > MAX_TEXT_BYTES {
-        return Err(too_long());
-    }
     if is_listing(text) {
         listed_operations(alloc, text, bits, first, list)
     } else {
@@ -155,7 +141,6 @@ fn listed_operations(
     list: &mut [Operation],
 ) -> Result<Course, StateFault>
     requires bits { bits ≤ 256 }
-    requires short { length text.now ≤ MAX_TEXT_BYTES }
     requires flagged { is_listing text.now ≡ true }
     ensures ok { OnOk result (operations_refusal bits text.now first (length list.old) ≡ None) }
     ensures course { IfOk result (λ c. IsCourse (course_of text.now) c) }
@@ -180,7 +165,6 @@ fn drawn_operations(
     first: u64,
     list: &mut [Operation],
 ) -> Result<Course, StateFault>
-    requires short { length text.now ≤ MAX_TEXT_BYTES }
     requires flagged { is_listing text.now ≡ false }
     ensures ok { OnOk result (operations_refusal bits text.now first (length list.old) ≡ None) }
     ensures course { IfOk result (λ c. IsCourse (course_of text.now) c) }
@@ -200,7 +184,6 @@ fn drawn_operations(
 /// The listing that a text writes, whose first word says so.
 fn read_course(alloc: Global, text: &[u8], bits: u32) -> Result<Listing, StateFault>
     requires bits { bits ≤ 256 }
-    requires short { length text.now ≤ MAX_TEXT_BYTES }
     requires flagged { is_listing text.now ≡ true }
     ensures ok { OnOk result (input_refusal bits text.now ≡ None) }
     ensures course { IfOk result (λ listing. course_of text.now ≡ listing) }
@@ -209,12 +192,14 @@ fn read_course(alloc: Global, text: &[u8], bits: u32) -> Result<Listing, StateFa
     ensures small { IfErr result HasSmallCount }
     ensures keeps { IfErr result KeepsArray }
 {
+    if text.len() > MAX_TEXT_BYTES {
+        return Err(too_long());
+    }
     Ok(read_listing(alloc, text, bits)?)
 }
 
 /// The scene that a text writes, whose first word does not say otherwise.
 fn read_drawing(alloc: Global, text: &[u8]) -> Result<Scene, StateFault>
-    requires short { length text.now ≤ MAX_TEXT_BYTES }
     requires flagged { is_listing text.now ≡ false }
     ensures ok { IfOk result (λ scene. (bits : ℕ) → input_refusal bits text.now ≡ refusal_by_bits bits scene) }
     ensures scene { IfOk result (λ scene. scene ≡ scene_of (worded text.now)) }
@@ -223,6 +208,9 @@ fn read_drawing(alloc: Global, text: &[u8]) -> Result<Scene, StateFault>
     ensures small { IfErr result HasSmallCount }
     ensures keeps { IfErr result KeepsArray }
 {
+    if text.len() > MAX_TEXT_BYTES {
+        return Err(too_long());
+    }
     Ok(read_scene(alloc, text)?)
 }
 

@@ -1,4 +1,5 @@
-use Rattle.px_num.proofs.Basics.{◌≡◌, ap, sym, ◌∙◌, arith}
+use Rattle.std.proofs.lemmas.Grind.{rows}
+use Rattle.px_num.proofs.Basics.{◌≡◌, ap, sym, ◌∙◌, arith, common_steps}
 use Rattle.px_state.specs.Columns.{column_words}
 use Rattle.px_state.proofs.ColumnLemmas.{more_rows, turned_in}
 use Rattle.px_state.proofs.columns.take_rows.Goals as goal
@@ -13,3 +14,9 @@ loop-b-preserved g c =
     c.loop-b.invariant
     (turned_in s c.args.at _ _ c.block_of-block.result c.turned_block.result held c.turned_block.ensures)
     c.put_block.ensures.block c.put_block.ensures.others
+
+pub returns : goal.returns
+returns g c = grind (arith, common_steps)
+
+pub put_block-requires : goal.put_block-requires
+put_block-requires g c = grind (arith, common_steps, rows)

@@ -1,3 +1,4 @@
+use Rattle.px_num.proofs.Basics.{common_steps}
 use Rattle.px_num.proofs.Basics.{◌≡◌, ◌+◌, ◌-◌, ◌*◌, ◌<◌, get_or, ap, sym, ◌∙◌, arith, inl, inr, cases_lt}
 use Rattle.px_num.specs.Bits.{nat_bit}
 use Rattle.px_state.specs.Words.{state_bit}
@@ -30,3 +31,6 @@ loop-at-preserved g c =
       behind = λ j past. c.write_plane.ensures.others j (inr (omega (arith, end, past))) ∙ before.behind j past;
       same = c.write_plane.ensures.length ∙ before.same;
     }
+
+pub returns-clause-bit : goal.returns-clause-bit
+returns-clause-bit g c = grind (arith, common_steps)

@@ -1,4 +1,4 @@
-use Rattle.px_num.proofs.Basics.{◌≡◌, ◌-◌, ◌<◌, length, get_or, min, subst, ap, ◌∙◌, arith}
+use Rattle.px_num.proofs.Basics.{◌≡◌, ◌-◌, ◌<◌, length, get_or, min, subst, ap, ◌∙◌, arith, common_steps}
 use Rattle.px_asm.specs.Micros.{cycles}
 use Rattle.px_macro.specs.declared.operation.Macro.TheVariants as m
 use Rattle.px_listing.specs.Listings.{IsListing, ListingView}
@@ -67,3 +67,9 @@ loop-m-preserved g c =
         work = omega (arith, made, is, c.make_micros.ensures.worked.work, before.worked.work, before.low);
       };
     }
+
+pub returns-clause-device : goal.returns-clause-device
+returns-clause-device g c = grind (arith, common_steps)
+
+pub returns-clause-worked : goal.returns-clause-worked
+returns-clause-worked g c = grind (arith, common_steps)

@@ -1,34 +1,25 @@
-use Rattle.px_num.proofs.Basics.{◌≡◌, Some, refl, sym, ◌∙◌, arith, slice_get}
+use Rattle.px_num.proofs.Basics.{◌≡◌, Some, refl, sym, ◌∙◌, arith, slice_get, common_steps}
 use Rattle.px_sched.specs.Passes.{passes}
 use Rattle.px_sched.proofs.PassesLaws.{passes_are_few}
 use Rattle.px_sched.specs.Layouts.{layout_of, need_of}
 use Rattle.px_macro.proofs.MacroLemmas.{is_lawful_in_more}
-use Rattle.px_control.proofs.ProgramLemmas.{good_program}
 use Rattle.px_control.proofs.StepLemmas.{lawful_here}
 use Rattle.px_playing.specs.PassesText.{passes_listing}
 use Rattle.px_state.specs.Courses.{start_in_listing, total_of_listing}
 use Rattle.px_state.proofs.CourseLemmas.{begins, begins_all, start_within}
 use Rattle.px_state.proofs.PutLemmas.{put_next}
-use Rattle.px_state.proofs.SceneLemmas.{same_total}
+use Rattle.px_state.proofs.SceneLemmas.{can_run, same_total}
 use Rattle.px_state.proofs.micros.put_passes.Goals as goal
 
 pub overflow_add-end : goal.overflow_add-end
 overflow_add-end c =
-    let good = good_program c.args.scene.now (record {
-      lawful = c.laws_of_scenes.ensures.scene;
-      solids = c.laws_of_scenes.ensures.solids;
-      few = c.requires.few;
-    }) in
+    let good = can_run _ c.laws_of_scenes.ensures.scene c.laws_of_scenes.ensures.solids c.requires.few in
     omega (arith, c.requires.within, good.clocks, same_total c.args.scene.now)
 
 pub put_micros-start-requires-clause-lawful : goal.put_micros-start-requires-clause-lawful
 put_micros-start-requires-clause-lawful c =
     let scene = c.args.scene.now in
-    let good = good_program scene (record {
-      lawful = c.laws_of_scenes.ensures.scene;
-      solids = c.laws_of_scenes.ensures.solids;
-      few = c.requires.few;
-    }) in
+    let good = can_run _ c.laws_of_scenes.ensures.scene c.laws_of_scenes.ensures.solids c.requires.few in
     let here : slice_get (passes scene) c.loop-m.cursor.given ≡ Some c.in-Some.m = sym c.next_macro.ensures.operation
     ∙ c.in-Some.is in
     is_lawful_in_more c.in-Some.m (need_of (layout_of scene)) 256 (omega (arith, good.bits))
@@ -36,30 +27,18 @@ put_micros-start-requires-clause-lawful c =
 
 pub put_micros-start-requires-clause-grid : goal.put_micros-start-requires-clause-grid
 put_micros-start-requires-clause-grid c =
-    let good = good_program c.args.scene.now (record {
-      lawful = c.laws_of_scenes.ensures.scene;
-      solids = c.laws_of_scenes.ensures.solids;
-      few = c.requires.few;
-    }) in
+    let good = can_run _ c.laws_of_scenes.ensures.scene c.laws_of_scenes.ensures.solids c.requires.few in
     rw (c.grid-nx.ensures.columns, c.grid-nx.ensures.rows) good.grid
 
 pub put_micros-start-requires-clause-first : goal.put_micros-start-requires-clause-first
 put_micros-start-requires-clause-first c =
-    let good = good_program c.args.scene.now (record {
-      lawful = c.laws_of_scenes.ensures.scene;
-      solids = c.laws_of_scenes.ensures.solids;
-      few = c.requires.few;
-    }) in
+    let good = can_run _ c.laws_of_scenes.ensures.scene c.laws_of_scenes.ensures.solids c.requires.few in
     omega (arith, c.requires.within, good.clocks, same_total c.args.scene.now, c.loop-m.invariant.same)
 
 pub put_micros-start-requires-clause-start : goal.put_micros-start-requires-clause-start
 put_micros-start-requires-clause-start c =
     let scene = c.args.scene.now in
-    let good = good_program scene (record {
-      lawful = c.laws_of_scenes.ensures.scene;
-      solids = c.laws_of_scenes.ensures.solids;
-      few = c.requires.few;
-    }) in
+    let good = can_run _ c.laws_of_scenes.ensures.scene c.laws_of_scenes.ensures.solids c.requires.few in
     omega (
       arith,
       c.loop-m.invariant.start,
@@ -122,3 +101,6 @@ loop-m-init c =
       put = λ j within low. absurd (omega (arith, low));
       same = refl;
     }
+
+pub loop-m-smaller : goal.loop-m-smaller
+loop-m-smaller c = grind (arith, common_steps)

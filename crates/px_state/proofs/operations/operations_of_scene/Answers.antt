@@ -1,8 +1,7 @@
 use Rattle.px_num.proofs.Basics.{◌∙◌, arith}
-use Rattle.px_control.proofs.ProgramLemmas.{good_program}
 use Rattle.px_playing.specs.PassesText.{passes_listing}
 use Rattle.px_state.proofs.RefusalLemmas.{both_none, operation_same, second_refused}
-use Rattle.px_state.proofs.SceneLemmas.{same_total}
+use Rattle.px_state.proofs.SceneLemmas.{can_run, same_total}
 use Rattle.px_state.proofs.operations.operations_of_scene.Goals as goal
 
 pub returns-in-Err-clause-err : goal.returns-in-Err-clause-err
@@ -13,11 +12,7 @@ returns-in-Err-clause-err c =
 
 pub put_passes-requires-clause-good : goal.put_passes-requires-clause-good
 put_passes-requires-clause-good c =
-    good_program c.args.scene.now (record {
-      lawful = c.laws_of_scenes.ensures.scene;
-      solids = c.laws_of_scenes.ensures.solids;
-      few = c.in_ok-layout.ensures.few;
-    })
+    can_run _ c.laws_of_scenes.ensures.scene c.laws_of_scenes.ensures.solids c.in_ok-layout.ensures.few
 
 pub put_passes-requires-clause-within : goal.put_passes-requires-clause-within
 put_passes-requires-clause-within c = omega (arith, c.cost-operations.ensures.macros, c.in_default.ensures.within)

@@ -1,3 +1,4 @@
+use Rattle.std.proofs.lemmas.Grind.{moves}
 use Rattle.px_num.proofs.Basics.{◌≡◌, ◌+◌, ◌<◌, length, refl, sym, subst, ap, ◌∙◌, arith}
 use Rattle.px_asm.specs.Micros.{cycles}
 use Rattle.px_macro.proofs.MacroLemmas.{is_lawful_in_more}
@@ -111,3 +112,6 @@ returns-clause-operation c =
       c.requires.operation,
       before_more c.args.scene.now c.args.purpose.now.pass c.args.step c.requires.here,
     )
+
+pub loop-at-init : goal.loop-at-init
+loop-at-init c = grind (arith, moves)

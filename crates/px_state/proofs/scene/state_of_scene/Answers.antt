@@ -10,7 +10,7 @@ use Rattle.px_state.specs.Courses.{total_of_listing}
 use Rattle.px_state.specs.Words.{BeginsWithState, room_of}
 use Rattle.px_state.proofs.CourseLemmas.{columns_are, rows_are}
 use Rattle.px_state.proofs.RefusalLemmas.{both_none, course_same, second_refused}
-use Rattle.px_state.proofs.SceneLemmas.{device_is, same_total}
+use Rattle.px_state.proofs.SceneLemmas.{device_is, made_to, same_total}
 use Rattle.px_state.proofs.scene.state_of_scene.Goals as goal
 
 pub room_of-due-requires-clause-grid : goal.room_of-due-requires-clause-grid
@@ -43,15 +43,8 @@ write_words-requires-clause-is_open g c =
     let scene = c.args.scene.now in
     let job = c.in_ok-job.ensures.job in
     let scene_is = c.advance.ensures.scene ∙ job.0 in
-    let clock_is : c.advance.new.self.place.clock ≡ c.args.clock =
-    omega (
-      arith,
-      c.advance.ensures.clock,
-      c.advance.ensures.made,
-      job.1,
-      c.in_default.ensures.clock,
-      c.total_clocks-clocks.ensures.value,
-    ) in
+    let clock_is = made_to _ _ _ _ _ c.advance.ensures.clock c.advance.ensures.made job.1
+    (rw c.total_clocks-clocks.ensures.value at c.in_default.ensures.clock) in
     let at : IsAt bits scene c.args.clock (g.A.Array.view c.advance.new.array).device =
     rw (scene_is, clock_is) at c.advance.ensures.at in
     let columns = columns_are bits (passes_listing scene) c.args.clock _ (device_is bits scene c.args.clock _ at) in
@@ -64,15 +57,8 @@ write_words-requires-clause-room g c =
     let l = passes_listing scene in
     let job = c.in_ok-job.ensures.job in
     let scene_is = c.advance.ensures.scene ∙ job.0 in
-    let clock_is : c.advance.new.self.place.clock ≡ c.args.clock =
-    omega (
-      arith,
-      c.advance.ensures.clock,
-      c.advance.ensures.made,
-      job.1,
-      c.in_default.ensures.clock,
-      c.total_clocks-clocks.ensures.value,
-    ) in
+    let clock_is = made_to _ _ _ _ _ c.advance.ensures.clock c.advance.ensures.made job.1
+    (rw c.total_clocks-clocks.ensures.value at c.in_default.ensures.clock) in
     let at : IsAt bits scene c.args.clock (g.A.Array.view c.advance.new.array).device =
     rw (scene_is, clock_is) at c.advance.ensures.at in
     let device = device_is bits scene c.args.clock _ at in
@@ -100,15 +86,8 @@ returns-clause-state g c =
     let l = passes_listing scene in
     let job = c.in_ok-job.ensures.job in
     let scene_is = c.advance.ensures.scene ∙ job.0 in
-    let clock_is : c.advance.new.self.place.clock ≡ c.args.clock =
-    omega (
-      arith,
-      c.advance.ensures.clock,
-      c.advance.ensures.made,
-      job.1,
-      c.in_default.ensures.clock,
-      c.total_clocks-clocks.ensures.value,
-    ) in
+    let clock_is = made_to _ _ _ _ _ c.advance.ensures.clock c.advance.ensures.made job.1
+    (rw c.total_clocks-clocks.ensures.value at c.in_default.ensures.clock) in
     record {
       columns = c.grid-nx.ensures.columns;
       rows = c.grid-nx.ensures.rows;
@@ -127,15 +106,8 @@ returns-clause-words g c =
     let scene = c.args.scene.now in
     let job = c.in_ok-job.ensures.job in
     let scene_is = c.advance.ensures.scene ∙ job.0 in
-    let clock_is : c.advance.new.self.place.clock ≡ c.args.clock =
-    omega (
-      arith,
-      c.advance.ensures.clock,
-      c.advance.ensures.made,
-      job.1,
-      c.in_default.ensures.clock,
-      c.total_clocks-clocks.ensures.value,
-    ) in
+    let clock_is = made_to _ _ _ _ _ c.advance.ensures.clock c.advance.ensures.made job.1
+    (rw c.total_clocks-clocks.ensures.value at c.in_default.ensures.clock) in
     let at : IsAt bits scene c.args.clock (g.A.Array.view c.advance.new.array).device =
     rw (scene_is, clock_is) at c.advance.ensures.at in
     subst (λ (d : Device). BeginsWithState bits d.state c.args.words.now c.write_words.new.words)
@@ -148,15 +120,8 @@ returns-clause-array g c =
     let job = c.in_ok-job.ensures.job in
     let once = c.in_ok-job.ensures.once in
     let scene_is = c.advance.ensures.scene ∙ job.0 in
-    let clock_is : c.advance.new.self.place.clock ≡ c.args.clock =
-    omega (
-      arith,
-      c.advance.ensures.clock,
-      c.advance.ensures.made,
-      job.1,
-      c.in_default.ensures.clock,
-      c.total_clocks-clocks.ensures.value,
-    ) in
+    let clock_is = made_to _ _ _ _ _ c.advance.ensures.clock c.advance.ensures.made job.1
+    (rw c.total_clocks-clocks.ensures.value at c.in_default.ensures.clock) in
     let at : IsAt bits scene c.args.clock (g.A.Array.view c.advance.new.array).device =
     rw (scene_is, clock_is) at c.advance.ensures.at in
     let device = device_is bits scene c.args.clock _ at in

@@ -1,12 +1,14 @@
-use Rattle.px_num.proofs.Basics.{◌<◌, length, inr, arith}
-use Rattle.px_text.specs.declared.text.TheConstants.{MAX_TEXT_BYTES}
-use Rattle.px_state.specs.Refusals.{input_refusal, past_text_limit}
-use Rattle.px_state.proofs.RefusalLemmas.{first_refused}
-use Rattle.px_state.proofs.TextLemmas.{long_text}
+use Rattle.px_num.proofs.Basics.{arith, common_steps}
 use Rattle.px_state.proofs.whole.write_state.Goals as goal
 
-pub returns-then-text-gt-MAX_TEXT_BYTES-clause-err : goal.returns-then-text-gt-MAX_TEXT_BYTES-clause-err
-returns-then-text-gt-MAX_TEXT_BYTES-clause-err g c =
-    let long : MAX_TEXT_BYTES < length c.args.text.now = omega (arith, c.if-text-gt-MAX_TEXT_BYTES.true) in
-    rw c.too_long.ensures (first_refused past_text_limit (input_refusal g.A.Array.BITS c.args.text.now) _
-    (inr (long_text g.A.Array.BITS c.args.text.now long)))
+pub returns-in-Ok-read_drawing-clause-ok : goal.returns-in-Ok-read_drawing-clause-ok
+returns-in-Ok-read_drawing-clause-ok g c = grind (arith, common_steps)
+
+pub returns-in-Ok-read_drawing-clause-err : goal.returns-in-Ok-read_drawing-clause-err
+returns-in-Ok-read_drawing-clause-err g c = grind (arith, common_steps)
+
+pub returns-in-Ok-clause-ok : goal.returns-in-Ok-clause-ok
+returns-in-Ok-clause-ok g c = grind (arith, common_steps)
+
+pub returns-in-Ok-clause-err : goal.returns-in-Ok-clause-err
+returns-in-Ok-clause-err g c = grind (arith, common_steps)

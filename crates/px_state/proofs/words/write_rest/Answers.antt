@@ -1,3 +1,4 @@
+use Rattle.px_num.proofs.Basics.{common_steps}
 use Rattle.px_num.proofs.Basics.{◌≡◌, ◌≢◌, ℕ, ◌<◌, length, get_or, set, ap, ◌∙◌, arith, length-set, below_more}
 use Rattle.std.proofs.lemmas.List.{drop-set-lt, get_or-set_other, get_or-set_same}
 use Rattle.px_num.specs.Bits.{nat_bit}
@@ -30,3 +31,6 @@ loop-k-preserved g c =
       behind = drop-set-lt (room_of bits s.tree.nx s.tree.ny) words k c.word_of.result in_room ∙ before.behind;
       same = length-set words k c.word_of.result ∙ before.same;
     }
+
+pub returns-clause-words : goal.returns-clause-words
+returns-clause-words g c = grind (arith, common_steps)

@@ -1,4 +1,4 @@
-use Rattle.px_num.proofs.Basics.{◌∙◌, arith}
+use Rattle.px_num.proofs.Basics.{◌∙◌, arith, common_steps}
 use Rattle.px_state.specs.Words.{room_of}
 use Rattle.px_state.proofs.ClockedLemmas.{same_behind}
 use Rattle.px_state.proofs.ColumnLemmas.{memory_first}
@@ -25,3 +25,6 @@ returns-clause-words g c =
           c.write_memory.ensures.length
           (λ j past. c.write_memory.ensures.behind j (omega (arith, past, first)));
     }
+
+pub write_rest-requires-clause-written : goal.write_rest-requires-clause-written
+write_rest-requires-clause-written g c = grind (arith, common_steps)
