@@ -10,8 +10,6 @@ import ends
 import gate
 import program
 
-# The checksum of what passed last, beside what was built.
-PASSED = os.path.join(building.STORE, "checked")
 # What is installed here, by Debian.
 INSTALLED = "/var/lib/dpkg/status"
 # The settings that a check may hear of.
@@ -26,7 +24,7 @@ def git(*words):
     return done.stdout.strip() if done.returncode == 0 else None
 
 
-def built():
+def all_built():
     """All that was built here and may be checked."""
     yield from (path for _, path in program.builds(program.DEFAULT))
     yield from (os.path.join(ends.TOP, leaf) for leaf in (gate.ARCHIVE, gate.NEWER_ARCHIVE))
@@ -34,25 +32,32 @@ def built():
     yield gate.PASSED
 
 
-def key():
-    """One checksum of all that checks stand on: the files that git tracks, what was built, what is installed, Python with what it
-    has, and the settings. None where a file differs from the last commit, or where what is installed is not known."""
+def key(tried, built):
+    """One checksum of all that checks of a program stand on: the files that git tracks, what was built that they need, what is
+    installed, Python with what it has, and the settings. None where a file differs from the last commit, or where what is installed
+    is not known."""
     tree = git("rev-parse", "HEAD^{tree}")
     if not tree or git("status", "--porcelain") != "" or not os.path.isfile(INSTALLED):
         return None
-    files = {path: hashlib.sha256(ends.content(path)).hexdigest() for path in (INSTALLED, *built()) if os.path.isfile(path)}
+    files = {path: hashlib.sha256(ends.content(path)).hexdigest() for path in (INSTALLED, tried, *built) if os.path.isfile(path)}
     modules = sorted((each.name or "", each.version) for each in importlib.metadata.distributions())
     settings = sorted(pair for pair in os.environ.items() if pair[0].startswith(OWN))
-    return hashlib.sha256(repr((tree, files, sys.version, modules, settings)).encode()).hexdigest()
+    return hashlib.sha256(repr((tried, tree, files, sys.version, modules, settings)).encode()).hexdigest()
 
 
-def has_passed(found):
-    """Whether what has this key passed last."""
-    return found is not None and os.path.isfile(PASSED) and ends.content(PASSED).decode("ascii").strip() == found
+def place(part):
+    """Where the checksum of what passed last of a part stands, beside what was built."""
+    return os.path.join(building.STORE, "checked-" + part)
 
 
-def note(found):
-    """Notes that what has this key passed."""
+def has_passed(part, found):
+    """Whether what has this key passed last of a part."""
+    path = place(part)
+    return found is not None and os.path.isfile(path) and ends.content(path).decode("ascii").strip() == found
+
+
+def note(part, found):
+    """Notes that what has this key passed of a part."""
     os.makedirs(building.STORE, exist_ok=True)
-    with open(PASSED, "w", encoding="ascii") as file:
+    with open(place(part), "w", encoding="ascii") as file:
         file.write(found + "\n")
