@@ -33,7 +33,7 @@ value_at-less_one p x y = omega (arith, ints)
 pub value_at-plus : (p : Linear) (n x y : ℕ) → value_at (plus p n) x y ≡ value_at p x y +ℤ pos n
 value_at-plus p n x y = omega (arith, ints)
 
-times_within : (a : ℤ) (x m k : ℕ) → IsWithin m a → x ≤ k → IsWithin (m * k) (a *ℤ pos x)
+pub times_within : (a : ℤ) (x m k : ℕ) → IsWithin m a → x ≤ k → IsWithin (m * k) (a *ℤ pos x)
 times_within (pos n) x m k within below = grind (arith, mul-le-mul)
 times_within (negsuc n) x m k within below = grind (arith, mul-le-mul)
 

@@ -76,8 +76,7 @@ fn scaled(factor: i64, place: u32) -> i64
     requires factor { IsWithin (2 ^ 27) factor }
     requires place { place ≤ 4095 }
     ensures value { result ≡ factor *ℤ pos place }
-    ensures size { IsWithin (2 ^ 27 * 4095) result }
-    ensures on_grid { place ≤ 511 → IsWithin (2 ^ 27 * 511) result }
+    ensures size { (most : ℕ) → place ≤ most → IsWithin (2 ^ 27 * most) result }
 {
     factor * i64::from(place)
 }
