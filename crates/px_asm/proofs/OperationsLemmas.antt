@@ -1,11 +1,11 @@
 -- Operations one after another, of which some are made at once.
 use Rattle.px_num.proofs.Basics.{◌≡◌, ℕ, suc, ◌+◌, ◌*◌, ◌<◌, ◌≤◌, List, [], ◌∷◌, ◌++◌, length, drop, get_or, refl, sym}
-use Rattle.px_num.proofs.Basics.{ap, ◌∙◌, ◌||◌, arith, common_steps, All, between, drop-append-le, drop-cons}
+use Rattle.px_num.proofs.Basics.{ap, ◌∙◌, arith, common_steps, All, between, drop-append-le, drop-cons}
 use Rattle.px_num.proofs.Basics.{length-append}
 use Rattle.px_asm.proofs.Words.{after_clocks, AgreeIn, all_clocked, all_clocked-append, all_known, all_made}
-use Rattle.px_asm.proofs.Words.{all_micros, all_renewed, BecomeTheSameAgain, CanMake, cycles_on, Device, get_or-drop}
-use Rattle.px_asm.proofs.Words.{grid_after_clocks, HasGrid, IsGrid, IsLawful, IsOperated, IsOvertaken, Known, known_of}
-use Rattle.px_asm.proofs.Words.{length-drop, Macro, micros, micros_on, none_known, renewed, StayKnown, untouched}
+use Rattle.px_asm.proofs.Words.{all_renewed, BecomeTheSameAgain, CanMake, Device, get_or-drop}
+use Rattle.px_asm.proofs.Words.{grid_after_clocks, HasGrid, IsLawful, IsOperated, IsOvertaken, Known}
+use Rattle.px_asm.proofs.Words.{length-drop, Macro, micros, micros_on, renewed, StayKnown, untouched}
 use Rattle.std.proofs.lemmas.Slice.{between_to_end}
 use Rattle.px_asm.proofs.MakingLemmas.{count_of_them}
 use Rattle.px_macro.specs.declared.operation.Macro.TheVariants as m
@@ -18,15 +18,6 @@ stays_known op = refl
 pub all_stay : (ops : List Macro) → all_renewed ops all_known ≡ all_known
 all_stay [] = refl
 all_stay (op ∷ ops) = ap (all_renewed ops) (stays_known op) ∙ all_stay ops
-
--- what an operation begins anew is known behind its clocks, and all that was known
-pub known_more : (op : Macro) (k : Known) → renewed op k ≡ record {
-  tree = (renewed op none_known).tree || k.tree;
-  carry = (renewed op none_known).carry || k.carry;
-  latch = (renewed op none_known).latch || k.latch;
-}
-known_more m.All k = refl
-known_more op k = refl
 
 pub renewed_both : (xs ys : List Macro) (k : Known) → all_renewed (xs ++ ys) k ≡ all_renewed ys (all_renewed xs k)
 renewed_both [] ys k = refl

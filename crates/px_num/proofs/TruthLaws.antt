@@ -47,14 +47,6 @@ pub beq_true : (a : Bool) → beq a true ≡ a
 beq_true true = refl
 beq_true false = refl
 
-pub neither_left : (a b : Bool) → a || b ≡ false → a ≡ false
-neither_left false b e = refl
-neither_left true b e = e
-
-pub neither_right : (a b : Bool) → a || b ≡ false → b ≡ false
-neither_right false b e = e
-neither_right true b e = cc
-
 pub first_of_three : (a b c : Bool) → (a && b && c) ≡ true → a ≡ true
 first_of_three true b c h = refl
 first_of_three false b c h = h

@@ -1,4 +1,3 @@
 pub mod LimitLaws
 pub mod RunLaws
 pub mod StopLaws
-pub mod StopLemmas

@@ -8,8 +8,8 @@ use Rattle.px_scene.specs.Scenes.{SceneView}
 use Rattle.px_outcome.specs.declared.stop.SceneStop.{SceneStop}
 use Rattle.px_outcome.specs.Arrays.{Draws}
 use Rattle.px_outcome.specs.Outcomes.{Outcome}
-use Rattle.px_outcome.specs.Results.{HasCauses, Meets, Wrote, status_of}
-use Rattle.px_outcome.specs.Stops.{DoesWork, IsReadCause, StopsAt, read_stop, stopped}
+use Rattle.px_outcome.specs.Results.{Meets, Wrote, status_of}
+use Rattle.px_outcome.specs.Stops.{DoesWork, StopsAt, read_stop, stopped}
 use Rattle.px_io.specs.declared.reading.ReadError.TheVariants as read
 use Rattle.px_outcome.specs.declared.refusal.Refusal.TheVariants as r
 use Rattle.px_outcome.specs.declared.stop.SceneStop.TheVariants as halted
@@ -23,13 +23,6 @@ pub read_writes : (fault : ReadError) (bytes : List ℕ) (a b : SinkState) → T
     → Wrote (Err (read_stop fault)) bytes a b
 read_writes read.Failed bytes a b none = none
 read_writes (read.Memory _) bytes a b none = none
-
-pub read_causes : (fault : ReadError) (old new out : ℕ) → IsReadCause fault old new
-    → HasCauses (Err (read_stop fault)) old new out out
-read_causes read.Failed old new out rose =
-    record { read = λ e. rose; write = λ e. cc; input = λ other. absurd (other refl); out = λ e. refl }
-read_causes (read.Memory _) old new out same =
-    record { read = λ e. cc; write = λ e. cc; input = λ e. same; out = λ e. refl }
 
 -- and an array that is as before is what it leaves
 pub read_draws : (fault : ReadError) (bits : ℕ) (scene : SceneView) (array : ArrayView)

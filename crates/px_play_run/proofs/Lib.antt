@@ -1,2 +1,1 @@
-pub mod ListStopLemmas
 pub mod PlayLemmas

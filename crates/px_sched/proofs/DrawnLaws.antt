@@ -1,5 +1,5 @@
 -- The kept products of a scene have literals, and these are of solids of the scene.
-use Rattle.px_num.proofs.Basics.{◌≡◌, ℕ, ◌<◌, All, List, [], ◌∷◌, get_or, length, refl, sym, subst, arith, inl, inr}
+use Rattle.px_num.proofs.Basics.{◌≡◌, ◌<◌, All, List, [], ◌∷◌, get_or, length, refl, sym, subst, arith, inl, inr}
 use Rattle.px_num.proofs.Basics.{length-append, length-map, All-cons, All-nil}
 use Rattle.px_sched.proofs.Words.{HasKnownLiterals, HasPlain, HasSolidsBelow, IsLawfulScene, kept_of}
 use Rattle.px_sched.proofs.Words.{leaves_below, literals, Product, SceneView, sum_of_products}

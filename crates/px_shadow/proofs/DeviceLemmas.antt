@@ -1,6 +1,6 @@
 -- Operations that are carried out on an array, one after another.
 use Rattle.px_num.proofs.Basics.{nat_tests, common_steps, flat_map-append, drop-cons, drop, get_or, ◌≡◌, ◌<◌, ◌≤◌, ◌+◌}
-use Rattle.px_num.proofs.Basics.{◌-◌, ◌*◌, ◌∙◌, ℕ, List, [], ◌∷◌, ◌++◌, length, All, refl, ap, sym, arith}
+use Rattle.px_num.proofs.Basics.{◌*◌, ◌∙◌, ℕ, List, [], ◌∷◌, ◌++◌, length, All, refl, ap, sym, arith}
 use Rattle.px_num.proofs.Basics.{append_assoc, add-zero, length-append, flat_map, drop_all, All-cons, All-head}
 use Rattle.px_num.proofs.Basics.{All-nil, All-tail}
 use Rattle.px_shadow.proofs.Words.{after_clocks, all_clocked, all_clocked-append, all_micros, append-nil, CanCarryOut}

@@ -5,7 +5,7 @@ use Rattle.px_num.proofs.Basics.{append_assoc, append-nil, zero, suc, AllPass, A
 use Rattle.px_num.proofs.Basics.{before_first, list_all, bytes_eq, bytes_eq-Decides, nat_tests, list_all-append}
 use Rattle.px_show.proofs.Words.{are_known, AreDistinctNames, before_none, both, closes, expression_of, has_names}
 use Rattle.px_show.proofs.Words.{has_signs, HasLeavesBelow, is_among, is_blank, is_name, is_name_byte, is_no_comment}
-use Rattle.px_show.proofs.Words.{is_some_byte, IsLawfulTree, leaf_count, name, name_bytes, Named, named_by, Op}
+use Rattle.px_show.proofs.Words.{is_some_byte, IsLawfulTree, name, name_bytes, Named, named_by, Op}
 use Rattle.px_show.proofs.Words.{over_places, place_of, plain_byte, printed, show_fault, show_tree, sign, Token}
 use Rattle.px_show.proofs.Words.{tokens_in, tokens_of, Tree, Version, whole, Words, words_of, written}
 use Rattle.px_show.specs.Expressions.{leaf, join}

@@ -1,5 +1,5 @@
 -- The image of means over an array that stores the picture of the finer scene.
-use Rattle.std.proofs.Common.{ℕ, ◌≡◌, Option, None, Result, ap, subst, sym, ◌∙◌, refl}
+use Rattle.std.proofs.Common.{ℕ, ◌≡◌, Option, None, Result, ap, subst, sym, ◌∙◌}
 use Rattle.px_io.specs.Told.{SinkState}
 use Rattle.px_array.specs.Arrays.{State, pixel_of}
 use Rattle.px_scene.specs.Scenes.{SceneView}
@@ -11,12 +11,8 @@ use Rattle.px_refine.proofs.MeanLemmas.{means_refined}
 use Rattle.px_outcome.specs.declared.refusal.Refusal.{Refusal}
 use Rattle.px_outcome.specs.declared.stop.Stop.{Stop}
 use Rattle.px_outcome.specs.Outcomes.{done, drawable, unless_refused}
-use Rattle.px_outcome.specs.Refusals.{fault_refusal}
 use Rattle.px_work_run.specs.Refining.{fine_refusal, refined}
-use Rattle.px_outcome.specs.Stops.{DoesWork, StopsAt, stop_at}
-use Rattle.px_refine.specs.FineFaults.{IsRefusal, fine_fault}
-use Rattle.px_refine.specs.declared.fault.FineFault.{FineFault}
-use Rattle.px_refine.specs.declared.fault.FineFault.TheVariants as fine
+use Rattle.px_outcome.specs.Stops.{DoesWork}
 
 pub means_drawn : (s : ℕ) (scene fine : SceneView) (layout drawn : LayoutView) (state : State)
     → fine ≡ fine_scene s scene → layout ≡ drawn → ShowsThePicture fine drawn (λ x y. (pixel_of state x y).memory)
@@ -38,9 +34,3 @@ serves_refined result s t scene fine bits a b same none is serves =
     (subst (λ (r : Option Refusal). DoesWork result
     (unless_refused r (drawable bits (fine_scene s scene) (done (refined_image s scene)))) a b) (sym none)
     (subst (λ (f : SceneView). DoesWork result (drawable bits f (done (refined_image s scene))) a b) is serves))
-
--- the stop of a fault is what the finer scene is refused by
-pub fine_stops : (fault : FineFault) (s : ℕ) (scene : SceneView) → IsRefusal (fine_fault s scene) fault
-    → StopsAt (unless_refused (fine_refusal s scene)) (stop_at (fault_refusal fault))
-fine_stops (fine.Memory _) s scene is = tt
-fine_stops other s scene is = λ o. rw is refl
