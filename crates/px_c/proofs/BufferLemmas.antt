@@ -1,47 +1,66 @@
--- The pixels of a picture counted by rows.
-use Rattle.px_num.proofs.Basics.{ℕ, ◌≡◌, ◌+◌, ◌*◌, ◌/◌, ◌%◌, ◌<◌, ◌≤◌, List, get_or, arith, div-lt_iff_lt-mul}
-use Rattle.px_num.proofs.Basics.{mul-le-mul_right, div-mul-add, mod-mul-add, mod_below}
+-- The pixels of a picture, row by row.
+use Rattle.px_num.proofs.Basics.{ℕ, ◌≡◌, ◌+◌, ◌*◌, ◌<◌, ◌≤◌, ◌∙◌, List, get_or, arith, below_more}
+use Rattle.px_num.proofs.Basics.{mul-le-mul_right, refl}
+use Rattle.px_array.specs.Arrays.{Device}
+use Rattle.px_macro.specs.declared.field.Field.{Field}
 use Rattle.px_model.specs.declared.solid.Colour.{Colour}
-use Rattle.px_c.specs.Buffers.{HasColour, HoldsColours, HoldsNumbers}
-
--- the place of a pixel is below the number of all
-pub place_below : (x y width height : ℕ) → x < width → y < height → y * width + x < width * height
-place_below x y width height left above =
-    let rows : (y + 1) * width ≤ height * width = mul-le-mul_right width (omega arith) in
-    grind (arith, rows)
-
-pub holds_numbers : (width height : ℕ) (number : (x y : ℕ) → ℕ) (before now : List ℕ)
-    → ((i : ℕ) → i < width * height → get_or now i 0 ≡ number (i % width) (i / width))
-    → ((i : ℕ) → width * height ≤ i → get_or now i 0 ≡ get_or before i 0)
-    → HoldsNumbers width height number before now
-holds_numbers width height number before now each rest = record {
-  pixels = λ x y left above.
-      let is = each (y * width + x) (place_below x y width height left above) in
-      rw (mod-mul-add y width x left, div-mul-add y width x left) at is;
-  rest = rest;
-}
-
-pub holds_colours : (width height : ℕ) (colour : (x y : ℕ) → Colour) (before now : List ℕ)
-    → ((i : ℕ) → i < width * height → HasColour now (3 * i) (colour (i % width) (i / width)))
-    → ((i : ℕ) → 3 * (width * height) ≤ i → get_or now i 0 ≡ get_or before i 0)
-    → HoldsColours width height colour before now
-holds_colours width height colour before now each rest = record {
-  pixels = λ x y left above.
-      let is = each (y * width + x) (place_below x y width height left above) in
-      rw (mod-mul-add y width x left, div-mul-add y width x left) at is;
-  rest = rest;
-}
-
--- a pixel that is counted by rows is one of the picture
-pub column_below : (at width : ℕ) → 1 ≤ width → at % width < width
-column_below at width some = mod_below at width some
-
-pub row_below : (at width height : ℕ) → 1 ≤ width → at < width * height → at / width < height
-row_below at width height some within =
-    let turned : at < height * width = grind (arith, within) in
-    (div-lt_iff_lt-mul {k = width} {x = at} {y = height} some).1 turned
+use Rattle.px_model.specs.Scenes.{IsLawfulScene, SceneView}
+use Rattle.px_sched.specs.Layouts.{layout_of, need_of, number_part}
+use Rattle.px_control.specs.Program.{total}
+use Rattle.px_control.proofs.GridLaws.{covers_the_picture}
+use Rattle.px_deliver.specs.Drawn.{IsDrawn}
+use Rattle.px_frame.specs.Picture.{face_at}
+use Rattle.px_frame.specs.Strips.{HasNumbers, HoldsRow, strip_number}
+use Rattle.px_c.specs.Buffers.{HasColour}
 
 pub few_pixels : (width height : ℕ) → width ≤ 512 → height ≤ 512 → width * height ≤ 262144
 few_pixels width height narrow low =
     let wide : width * height ≤ 512 * height = mul-le-mul_right {m = width} {n = 512} height narrow in
     omega (arith, wide, low)
+
+-- a drawn array has numbers in a field for each row of the picture
+pub rows_stored : (bits : ℕ) (scene : SceneView) (device : Device) (field : Field) → IsLawfulScene scene
+    → IsDrawn bits scene device → field.at + field.len ≤ need_of (layout_of scene) → field.at ≤ 256 → field.len ≤ 24
+    → (y : ℕ) → y < scene.height → HasNumbers bits device field scene.width y
+rows_stored bits scene device field lawful drawn room low few y above =
+    let covers = covers_the_picture bits scene (total scene) device lawful drawn.at in
+    record {
+      is_open = covers.is_open;
+      columns = covers.columns;
+      wide = lawful.sizes.width_limit;
+      row = omega (arith, above, covers.rows);
+      room = omega (arith, room, drawn.at.enough);
+      low = low;
+      few = few;
+    }
+
+-- the place of a pixel is before those of a row further down
+pub place_above : (x row y width : ℕ) → x < width → row < y → row * width + x < y * width
+place_above x row y width left above =
+    let rows : (row + 1) * width ≤ y * width = mul-le-mul_right width (omega arith) in
+    grind (arith, rows)
+
+-- what the pixels of some rows have, and those of the next one
+pub rows_more : (P : (x y : ℕ) → Type 0) (width y : ℕ) → ((x row : ℕ) → x < width → row < y → P x row)
+    → ((x : ℕ) → x < width → P x y) → (x row : ℕ) → x < width → row < y + 1 → P x row
+rows_more P width y before next x row left =
+    below_more (λ at. P x at) y (λ at. before x at left) (next x left) row
+
+-- a colour stays where the bytes before a place do
+pub colour_kept : (before now : List ℕ) (at end : ℕ) (colour : Colour)
+    → ((i : ℕ) → i < end → get_or now i 0 ≡ get_or before i 0) → at + 2 < end → HasColour before at colour
+    → HasColour now at colour
+colour_kept before now at end colour same within has = record {
+  red = same at (omega arith) ∙ has.red;
+  green = same (at + 1) (omega arith) ∙ has.green;
+  blue = same (at + 2) (omega arith) ∙ has.blue;
+}
+
+-- the face that a pixel shows, where a strip has the numbers of its row
+pub face_in_strip : (bits : ℕ) (scene : SceneView) (device : Device) (strip : List ℕ) (x y : ℕ) → IsLawfulScene scene
+    → IsDrawn bits scene device
+    → HoldsRow strip (number_part (layout_of scene) (layout_of scene).key_b) device.state scene.width y
+    → x < scene.width → y < scene.height → strip_number strip x y ≡ face_at scene x y
+face_in_strip bits scene device strip x y lawful drawn held left above =
+    let covers = covers_the_picture bits scene (total scene) device lawful drawn.at in
+    held.each x y left refl (omega (arith, above, covers.rows)) ∙ (drawn.picture x y left above).face
