@@ -158,7 +158,6 @@ fn turn<S: Asks<O>, O: Sink, A: Operating>(
     Ok(count)
 }
 
-#[tactic(auto, using(crate::proofs::FeedingLemmas::broke_more, crate::proofs::FeedingLemmas::fed_all, crate::proofs::TurningLemmas::counted, crate::proofs::TurningLemmas::nothing_counts))]
 /// Has the lines answered that a read ends; no byte is the end of the input, and none counts past `limit - 1`.
 fn answer_piece<O: Sink, A: Operating>(
     session: &mut Session<'_>,

@@ -1,0 +1,14 @@
+use Rattle.px_num.proofs.Basics.{arith, common_steps}
+use Rattle.px_rows.proofs.row.Row.add.Goals as goal
+
+pub returns-clause-bits : goal.returns-clause-bits
+returns-clause-bits c = grind (arith, common_steps)
+
+pub returns-clause-carry : goal.returns-clause-carry
+returns-clause-carry c = grind (arith, common_steps)
+
+pub returns-clause-words : goal.returns-clause-words
+returns-clause-words c = grind (arith, common_steps)
+
+pub returns-clause-carry_words : goal.returns-clause-carry_words
+returns-clause-carry_words c = grind (arith, common_steps)
