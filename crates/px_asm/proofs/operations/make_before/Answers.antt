@@ -1,4 +1,3 @@
-use Rattle.px_num.proofs.Basics.{arith, common_steps}
 use Rattle.px_asm.proofs.OperationsLemmas.{can_go_on}
 use Rattle.px_macro.specs.declared.operation.Macro.TheVariants as m
 use Rattle.px_asm.proofs.operations.make_before.Goals as goal
@@ -9,9 +8,3 @@ make_one-requires g c = record {
       (g.A.Array.view c.args.array.now).device (g.A.Array.view c.loop-i.array).device c.requires.can c.loop-i-test.true
       c.loop-i.invariant.pixels c.loop-i.invariant.few;
 }
-
-pub loop-i-preserved : goal.loop-i-preserved
-loop-i-preserved g c = grind (arith, common_steps)
-
-pub returns-clause-device : goal.returns-clause-device
-returns-clause-device g c = grind (arith, common_steps)

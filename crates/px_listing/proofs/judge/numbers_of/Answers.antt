@@ -1,4 +1,4 @@
-use Rattle.px_num.proofs.Basics.{◌∙◌, sym, arith, subst, to_z, of_z, w64, ◌^◌, All, ints, common_steps}
+use Rattle.px_num.proofs.Basics.{◌∙◌, sym, arith, subst, to_z, of_z, w64, ◌^◌, All, ints}
 use Rattle.px_listing.proofs.Words.{IsWithin, now_of}
 use Rattle.px_listing.proofs.WordLemmas.{are_small, read_more, read_whole}
 use Rattle.px_listing.proofs.judge.numbers_of.Goals as goal
@@ -15,12 +15,3 @@ returns-clause-small c =
     read_whole c.args.words.now _ c.loop-word.word-index c.loop-word.invariant (omega (arith, c.loop-word-test.false))
     in
     subst (All (IsWithin (10 ^ 18))) (sym whole.1) (are_small (now_of c.args.words.now))
-
-pub push-requires : goal.push-requires
-push-requires c = grind (arith, common_steps)
-
-pub returns-clause-each : goal.returns-clause-each
-returns-clause-each c = grind (arith, common_steps)
-
-pub returns-clause-value : goal.returns-clause-value
-returns-clause-value c = grind (arith, common_steps)

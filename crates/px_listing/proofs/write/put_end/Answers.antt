@@ -1,4 +1,4 @@
-use Rattle.px_num.proofs.Basics.{◌∙◌, [], sym, arith, common_steps}
+use Rattle.px_num.proofs.Basics.{◌∙◌, [], sym}
 use Rattle.std.proofs.lemmas.List.{append-nil}
 use Rattle.px_listing.specs.Listings.{end_line}
 use Rattle.px_listing.proofs.PieceLaws.{err_cut}
@@ -9,6 +9,3 @@ returns-clause-err g c =
     let line = c.as_str.ensures.value ∙ c.line_of.ensures.text in
     err_cut _ _ _ _ _ _ _ [] [] end_line (append-nil end_line) (rw line at c.in_ok-put.ensures.ok)
     (rw (sym (append-nil c.put.new.piece.bytes)) at c.flush.ensures.err)
-
-pub returns-clause-ok : goal.returns-clause-ok
-returns-clause-ok g c = grind (arith, common_steps)

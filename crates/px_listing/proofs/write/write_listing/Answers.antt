@@ -1,5 +1,5 @@
 use Rattle.px_num.proofs.Basics.{arith, ◌<◌, ◌+◌, ◌++◌, [], ◌∙◌, ap, refl, append_assoc, length, take, drop, get_or}
-use Rattle.px_num.proofs.Basics.{common_steps, flat_map, take_all}
+use Rattle.px_num.proofs.Basics.{flat_map, take_all}
 use Rattle.px_listing.proofs.Words.{canonical_listing, end_line, listing_head, ListingView, macro_line, on_err}
 use Rattle.std.proofs.lemmas.List.{append-nil}
 use Rattle.px_listing.proofs.PieceLaws.{err_cut, ok_all, puts_both, puts_cut}
@@ -52,6 +52,3 @@ returns-clause-err g c =
     let text = flat_map macro_line l.macros in
     err_cut _ _ _ _ [] _ (first ++ text) end_line [] (canonical_listing l)
     (ap (λ bytes. (first ++ text) ++ bytes) (append-nil end_line)) put c.put_end.ensures.err
-
-pub returns-in_err-put_first_lines-clause-err : goal.returns-in_err-put_first_lines-clause-err
-returns-in_err-put_first_lines-clause-err g c = grind (arith, common_steps)

@@ -1,4 +1,4 @@
-use Rattle.px_num.proofs.Basics.{◌≡◌, ◌+◌, ◌^◌, ◌<◌, arith, common_steps}
+use Rattle.px_num.proofs.Basics.{◌≡◌, ◌+◌, ◌^◌, ◌<◌, arith}
 use Rattle.px_shadow.proofs.Words.{header, other_row, row_bytes, rows_broken, rows_grown, stored_number}
 use Rattle.px_io.proofs.ToldLaws.{on_err}
 use Rattle.px_shadow.proofs.MaskLemmas.{row_stored}
@@ -36,6 +36,3 @@ pub returns-clause-ok : goal.returns-clause-ok
 returns-clause-ok g c =
     let top : c.loop-y.y ≡ c.args.scene.now.height = omega (arith, c.height-y-end.ensures.value, c.loop-y-test.false) in
     rw (c.lights_field-field.ensures.field, top) at c.loop-y.invariant.front
-
-pub returns-in_err-write_whole-clause-err : goal.returns-in_err-write_whole-clause-err
-returns-in_err-write_whole-clause-err g c = grind (arith, common_steps)

@@ -1,4 +1,4 @@
-use Rattle.px_num.proofs.Basics.{◌<◌, true, [], ◌∷◌, ℕ, List, length, get_or, ap, subst, sym, arith, ◌∙◌, common_steps}
+use Rattle.px_num.proofs.Basics.{◌<◌, true, [], ◌∷◌, ℕ, List, length, get_or, ap, subst, sym, arith, ◌∙◌}
 use Rattle.px_shadow.proofs.Words.{CanCarryOut, CarriesOut, depths_of, end_of, light_bit, light_passes, Macro}
 use Rattle.px_shadow.proofs.Words.{solid_of, solid_passes, solids}
 use Rattle.px_shadow.proofs.DeviceLemmas.{all_left, can_first, each_first, each_next, left_next}
@@ -49,9 +49,3 @@ loop-solid-preserved g c =
     (ap (λ (qs : List ℕ). get_or qs i 0) (sym items)) c.loop-solid.invariant
     (subst (λ ms. CarriesOut ms (g.A.Array.view c.loop-solid.array)
     (g.A.Array.view c.one_solid.new.array)) same c.one_solid.ensures)
-
-pub background-requires-clause-can : goal.background-requires-clause-can
-background-requires-clause-can g c = grind (arith, common_steps)
-
-pub returns : goal.returns
-returns g c = grind (arith, common_steps)

@@ -1,4 +1,4 @@
-use Rattle.px_num.proofs.Basics.{◌≡◌, length, map, sym, ◌∙◌, None, length-map, arith, common_steps}
+use Rattle.px_num.proofs.Basics.{◌≡◌, length, map, sym, ◌∙◌, None, length-map}
 use Rattle.px_show.proofs.Words.{names_of, parts_of, token_of}
 use Rattle.px_show.proofs.ShowLaws.{small_steps}
 use Rattle.px_show.proofs.show.read_show.Goals as goal
@@ -13,15 +13,3 @@ lack_in-requires c =
     in let small = small_steps names read c.in_ok-stack.stack.steps.items c.in_ok-stack.ensures.order (sym fault ∙ none)
     in let memory = c.build.ensures.memory small.0 (c.steps.ensures ∙ small.1) small.2 small.3
     in rw c.in-Err.is at memory
-
-pub returns-in-Some-clause-bad : goal.returns-in-Some-clause-bad
-returns-in-Some-clause-bad c = grind (arith, common_steps)
-
-pub build-requires : goal.build-requires
-build-requires c = grind (arith, common_steps)
-
-pub returns-in-Ok-clause-good : goal.returns-in-Ok-clause-good
-returns-in-Ok-clause-good c = grind (arith, common_steps)
-
-pub returns-in-Ok-clause-tree : goal.returns-in-Ok-clause-tree
-returns-in-Ok-clause-tree c = grind (arith, common_steps)

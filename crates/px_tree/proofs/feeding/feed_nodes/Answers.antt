@@ -1,4 +1,3 @@
-use Rattle.px_num.proofs.Basics.{arith, common_steps}
 use Rattle.px_tree.proofs.FeedingLemmas.{all_fed}
 use Rattle.px_tree.proofs.feeding.feed_nodes.Goals as goal
 
@@ -6,6 +5,3 @@ pub returns : goal.returns
 returns c =
     let loop = c.loop-place.invariant in
     all_fed _ _ _ _ _ _ c.loop-place.place c.loop-place.auto.nodes c.loop-place-test.false loop.untouched loop.fed
-
-pub loop-place-preserved : goal.loop-place-preserved
-loop-place-preserved c = grind (arith, common_steps)

@@ -1,4 +1,4 @@
-use Rattle.px_num.proofs.Basics.{◌∙◌, ap, sym, arith, length, common_steps}
+use Rattle.px_num.proofs.Basics.{◌∙◌, ap, sym, arith, length}
 use Rattle.px_expr.proofs.Words.{join, joined, nesting, newest, placed}
 use Rattle.px_expr.proofs.PostorderLemmas.{placed_op}
 use Rattle.px_expr.proofs.WaitingLemmas.{counts, kept_joined, after_push, same_kept}
@@ -21,6 +21,3 @@ invariant_of-self-2 c =
     c.joined_nesting-nesting.result c.self.invariant
     (omega (arith, ap length c.self.view_is)) c.take_two.ensures.items (c.joined_nesting-nesting.ensures.nesting
     c.args.op ∙ sym (ap (λ trees. nesting (newest (joined join c.args.op trees))) c.self.view_is)) (omega arith))
-
-pub returns-clause-ok : goal.returns-clause-ok
-returns-clause-ok c = grind (arith, common_steps)

@@ -9,6 +9,3 @@ put-requires-clause-few c =
 
 pub invariant_of-self-2 : goal.invariant_of-self-2
 invariant_of-self-2 c = grind (arith, nat_tests, common_steps, same_kept, after_push, kept_leaf, few_leaves)
-
-pub returns-clause-ok : goal.returns-clause-ok
-returns-clause-ok c = grind (arith, common_steps)
