@@ -22,6 +22,8 @@ FIRST, SECOND = "x86-64-v2", "x86-64-v3"
 LIBRARY, PROGRAM = "px_c", "px_program"
 LINE = re.compile(r"(?m)^([a-z]\w*)( staticlib)?:(.*)$")
 PROVED = re.compile(r"(?m)^logic=proved .*\bstatements=trusted\b.*$")
+# The lines of what rattle says that tell nothing of what is not proved.
+TOLD_ANYWAY = re.compile(r": proved$|^(statements |logic|empty contracts:|by-macro:|rattle build:)")
 TARGET = "x86_64-unknown-linux-gnu"
 SYSTEM_PARTS = ("libos_c.a", "liblibc_c.a")
 MODULE = "module.bc"
@@ -116,9 +118,9 @@ def newer_of(path):
     return newer if os.path.isfile(newer) and os.path.getmtime(path) <= os.path.getmtime(newer) else None
 
 
-def run(words, folder, copy):
-    """Runs a command of the kit in a folder, and answers what it says. Where a copy is wanted, that is of the module which is
-    handed to clang meanwhile."""
+def ran(words, folder, copy=None):
+    """Runs a command of the kit in a folder: its status, what it says, and whether a copy was made, where one is wanted, of the module
+    which is handed to clang meanwhile."""
     kept = copy is None
     with tempfile.TemporaryFile() as notes:
         running = subprocess.Popen(words, cwd=folder, stdin=subprocess.DEVNULL, stdout=notes, stderr=notes, start_new_session=True)
@@ -132,7 +134,12 @@ def run(words, folder, copy):
                 os.killpg(running.pid, signal.SIGTERM)
                 running.wait()
         notes.seek(0)
-        said = notes.read().decode("utf-8", "replace")
+        return status, notes.read().decode("utf-8", "replace"), kept
+
+
+def run(words, folder, copy):
+    """What a command of the kit says, as `ran`; where it fails, or makes no copy, that is the tool's trouble."""
+    status, said, kept = ran(words, folder, copy)
     if status != 0:
         raise Bad("%s: %s" % (os.path.basename(words[0]), (said.strip() or "status %d" % status).split("\n")[-1][:200]))
     if not kept:
@@ -181,8 +188,19 @@ class Proved:
                 left += self.lines[name]
         return sorted(found)
 
-    def words(self, crate, cpu):
-        """What is said to `rattle` of a crate."""
+    def above(self, crate):
+        """The crates of this folder above one, by their names."""
+        return sorted(name for name in self.lines if crate in self.below(name))
+
+    def refuse_no_library(self, crate):
+        """Refuses what is no crate, or one that is not proved as a library."""
+        if crate not in self.lines:
+            raise Bad("crates.txt names no crate %s" % crate)
+        if crate in (LIBRARY, PROGRAM):
+            raise Bad("%s is no library for other crates; tools/dev/build proves it" % crate)
+
+    def words(self, crate):
+        """What is said to `rattle` of a crate, of whatever kind."""
         kept, every = in_kit("rlibs"), self.below(crate)
         yield from ("--crate-name", crate, os.path.join("src", "main.rt" if crate == PROGRAM else "lib.rt"))
         for name in ("std", *self.lines[crate]):
@@ -190,14 +208,31 @@ class Proved:
         for place in (kept, *(os.path.dirname(self.statements(name)) for name in every)):
             yield from ("-L", "dependency=" + place)
         yield from ("--antt-project", in_kit("rattle", "logic", "antt-project.json"), "--logic-built", in_kit("logic_built"))
-        yield from ("--links", crate + "=", "--empty-contracts", "--cpu", cpu, "--jobs", self.jobs, "--backend", "llvm")
-        yield from ("--toolchain", in_kit("toolchain"))
+        yield from ("--links", crate + "=", "--empty-contracts", "--jobs", self.jobs)
+
+    def prove(self, crate, to):
+        """Proves a library over the statements below it, as `rt ci` does, and writes what crates above may cite: the line of its
+        proof, or None; and what rattle says of what is not proved."""
+        words = [in_kit("bin", "rattle"), "build", *self.words(crate), "--statements", "-o", to]
+        status, said, _ = ran(words, self.folder(crate))
+        found = PROVED.search(said)
+        if status == 1:
+            return None, "\n".join(line for line in said.splitlines() if not TOLD_ANYWAY.search(line))
+        if status != 0 or found is None:
+            trouble = next((line for line in said.splitlines() if "error" in line), None)
+            raise Bad(trouble[:300] if trouble else "%s: no line of what rattle says tells that it is proved" % crate)
+        return found[0], ""
+
+    def compiling(self, crate, cpu):
+        """What is said besides where a crate is compiled."""
+        yield from ("--cpu", cpu, "--backend", "llvm", "--toolchain", in_kit("toolchain"))
         yield from ("--incremental", os.path.join(self.kept, crate)) if self.kept else ()
         yield from () if crate == PROGRAM else ("--crate-type", "staticlib")
 
     def compile(self, crate, cpu, to, copy=None):
         """Proves a crate over the statements below it, and compiles it to a file; the line of its proof."""
-        said = run([in_kit("bin", "rattle"), "build", *self.words(crate, cpu), "-o", to], self.folder(crate), copy)
+        words = [*self.words(crate), *self.compiling(crate, cpu)]
+        said = run([in_kit("bin", "rattle"), "build", *words, "-o", to], self.folder(crate), copy)
         found = PROVED.search(said)
         if found is None:
             raise Bad("%s: no line of what was built says that it is proved" % crate)
