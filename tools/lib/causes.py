@@ -3,6 +3,7 @@ stands in its map, what is written for a depth or a face, and what of the scene 
 (`mistaken`). A cause is told only where nearly all pixels that differ are as it says, and nearly all
 others too. What `conform` tells."""
 import collections
+import functools
 import math
 import random
 
@@ -33,9 +34,39 @@ class Sample:
         self.theirs, self.their_faces, self.turned = theirs, their_faces, turned
         self.width, self.height, self.far = scene.width, scene.height, scene.far()
         self.parts = 1 << scene.fraction_bits
-        self.known = {}
+        self.known, self.stands, self.numbers = {}, {}, {}
+        count = self.width * self.height
+        self.some = random.Random(count).sample(range(count), min(count, LOOKED_AT))
         places = [at for at, depth in enumerate(depths) if depth == self.far]
         self.background = random.Random(1).sample(places, min(len(places), LOOKED_AT))
+
+    @functools.cached_property
+    def order(self):
+        """All pixels, in an order by lot, the same each time."""
+        order = list(range(self.width * self.height))
+        random.Random(1).shuffle(order)
+        return order
+
+    def standing(self, place):
+        """Some pixels, the same each time, that stand in their map by a place: each with where it stands."""
+        if place not in self.stands:
+            found = [(at, place.index(self, at)) for at in self.some]
+            self.stands[place] = [(at, index) for at, index in found if index is not None]
+        return self.stands[place]
+
+    def behind(self, place):
+        """Their numbers where ours has the background, by a place: how often each stands there, of some pixels."""
+        if place not in self.numbers:
+            found = (place.index(self, at) for at in self.background)
+            self.numbers[place] = collections.Counter(self.theirs[index] for index in found if index is not None)
+        return self.numbers[place]
+
+    @functools.cached_property
+    def loose(self):
+        """Half of the steepest slope of the scene, in cells."""
+        planes = [face.plane for solid in self.scene.solids for face in solid.fronts + solid.backs]
+        slopes = [abs(a) + abs(b) for a, b, _ in planes]
+        return min(max(slopes, default=0) // (2 * self.parts), self.far // 8)
 
     def shown(self, mistake, at):
         """The depth and face of a pixel, as they are, or with a mistake."""
@@ -92,8 +123,10 @@ class Written:
         """Whether it fits for a depth that is up to `room` beside."""
         if self.fits(number, depth, far, parts):
             return True
+        if room <= 0:
+            return False
         ends = [self.value(max(0, min(far, depth + way * room)), far, parts) for way in (1, -1)]
-        return room > 0 and None not in ends and min(ends) - self.off <= number <= max(ends) + self.off
+        return None not in ends and min(ends) - self.off <= number <= max(ends) + self.off
 
 
 class InParts(Written):
@@ -224,9 +257,7 @@ class Backgrounds:
         for sample in samples:
             if sample.theirs is None:
                 continue
-            numbers = collections.Counter(
-                sample.theirs[index] for index in (place.index(sample, at) for at in sample.background)
-                if index is not None)
+            numbers = sample.behind(place)
             number = numbers.most_common(1)[0][0] if numbers else sample.far
             self.own[id(sample)] = number
             if numbers:
@@ -249,21 +280,13 @@ def spoken(number):
     return "%d" % number if number == int(number) and abs(number) < 1e15 else "%g" % number
 
 
-def pixels(sample):
-    """Some pixels of a sample, the same each time."""
-    count = sample.width * sample.height
-    return random.Random(count).sample(range(count), min(count, LOOKED_AT))
-
-
 def judged(samples, place, written, backgrounds):
     """The pixels by which causes are judged: of each scene some that differ, by place and what is
     written, and some that do not."""
     plain, out = Cause(place, written, NUMBERED[0], None, backgrounds), []
     for sample in samples:
         differ, alike = [], []
-        order = list(range(sample.width * sample.height))
-        random.Random(1).shuffle(order)
-        for at in order:
+        for at in sample.order:
             fits = plain.fits(sample, at)
             own = alike if fits or fits is None else differ
             if len(own) < OF_SCENE:
@@ -282,25 +305,15 @@ def loosely(samples, place, written):
     samples = samples[::max(1, len(samples) // OF_RUN)]
     backgrounds = Backgrounds(samples, place, written)
     for sample in samples:
-        off = loose(sample)
-        for at in pixels(sample):
-            index = place.index(sample, at)
-            if index is None:
-                continue
+        standing, behind = sample.standing(place), backgrounds.of(sample)
+        count += len(standing)
+        for at, index in standing:
             depth, number = sample.depths[at], sample.theirs[index]
-            count += 1
             if depth == sample.far:
-                right += number in backgrounds.of(sample)
+                right += number in behind
             else:
-                right += written.is_about(number, depth, sample.far, sample.parts, off)
+                right += written.is_about(number, depth, sample.far, sample.parts, sample.loose)
     return right / count if count else 0
-
-
-def loose(sample):
-    """Half of the steepest slope of the scene, in cells."""
-    planes = [face.plane for solid in sample.scene.solids for face in solid.fronts + solid.backs]
-    slopes = [abs(a) + abs(b) for a, b, _ in planes]
-    return min(max(slopes, default=0) // (2 * sample.parts), sample.far // 8)
 
 
 def score(cause, rows):
