@@ -2,14 +2,19 @@
 
 A library has its interface, its files of specs/ and proofs/, and a list of the modules that rattle makes. The facade among these says
 for which modules the names stand that a crate above may write: of a function its contract and its theorem, and neither its code nor
-its proof."""
+its proof. What is no function's is taken as seen, whether the facade leads there or not: a private type may stand in a public one."""
 import json
 import os
+import re
 
 import ends
 
 FACADE, STANDS_FOR = "facade", "StandsFor"
 MADE = os.path.join("lang", "antt", "made.json")
+# The kinds of modules that a function has, or what links it. One of another kind is seen in any case.
+OF_FUNCTIONS = frozenset((
+    "Carried", "Close", "Code", "Contract", "Given", "Key", "Kinds", "Layout", "LinkOfCrate", "LinkOfFunction", "LinkPassed", "Lts",
+    "MadeProof", "Met", "Mir", "Named", "Needs", "PairOfBody", "Parent", "Parts", "Read", "Statement", "Symbol"))
 # The folders whose files are seen as they stand, and of those of proofs/ the ones that are a function's own.
 FOLDERS = ("interface", "below", os.path.join("lang", "antt"))
 OWN = ("Answers.antt", "Invariants.antt", "Proof.antt")
@@ -27,17 +32,23 @@ def modules(library):
     return found
 
 
+def kind(lines):
+    """Of which kind a module is, by its lines."""
+    found = re.match(r'{"(\w+)"', lines[0]) if lines else None
+    return found and found[1]
+
+
 def stands_for(lines, crate):
     """The module of the crate that one stands for, by its lines; None where it is of another crate, or stands for none."""
-    stands = json.loads(lines[0]).get(STANDS_FOR) if lines and lines[0].startswith('{"%s"' % STANDS_FOR) else None
-    library, _, place = stands["source"].partition(".") if stands else ("", "", "")
+    source = json.loads(lines[0])[STANDS_FOR]["source"] if kind(lines) == STANDS_FOR else ""
+    library, _, place = source.partition(".")
     own = "Rattle-%s-" % crate
     return "/".join([library[len(own):], *filter(None, place.split("."))]) if library.startswith(own) else None
 
 
 def shown(made, crate):
-    """The names of the modules that crates above see: the facade, and all that its parts stand for."""
-    left, found = [name for name in made if name.split("/")[0] == FACADE], set()
+    """The names of the modules that crates above see: the facade, all that its parts stand for, and what is no function's."""
+    left, found = [name for name in made if name.split("/")[0] == FACADE or kind(made[name]) not in OF_FUNCTIONS], set()
     while left:
         name = left.pop()
         if name in made and name not in found:
