@@ -1,5 +1,5 @@
 // An angle bracket: a foot with two bolt holes, a rounded wall with a bore and two holes, and a rib.
-// tools/model --size 256 256 --view 62 0 32 --depth 12 6 gallery/angle_bracket.csg
+// ./pxplanes convert --size 256 256 --view 62 0 32 --depth 12 6 gallery/angle_bracket.csg
 $fn = 18;
 steel = [.46, .58, .70];
 module hole(x, y) translate([x, y, -1]) cylinder(h = 8, r = 3);

@@ -1,5 +1,5 @@
 // A castle: four towers with pointed roofs, walls between them, a gate, and a keep.
-// tools/model --size 256 256 --view 58 0 28 --depth 12 6 gallery/castle.csg
+// ./pxplanes convert --size 256 256 --view 58 0 28 --depth 12 6 gallery/castle.csg
 stone = [.76, .72, .65];
 module tower(x, y) translate([x, y, 0]) {
   color([.84, .80, .72]) cylinder(h = 20, r = 5, $fn = 8);

@@ -1,5 +1,5 @@
 // Two wheels whose teeth meet. A bar across a whole wheel makes two of its teeth; an axle stands in each bore.
-// tools/model --size 256 256 --view 32 0 0 --depth 12 6 gallery/gears.csg
+// ./pxplanes convert --size 256 256 --view 32 0 0 --depth 12 6 gallery/gears.csg
 module wheel(count, radius, bore, colour) {
   color(colour) difference() {
     union() {

@@ -1,5 +1,5 @@
 // A winding stair: sixteen wedges round a post, each higher than the one before by its own height.
-// tools/model --size 256 256 --eye 40,-62,54 --at 0,0,15 --fov 37 --depth 15 6 gallery/stairs.csg
+// ./pxplanes convert --size 256 256 --eye 40,-62,54 --at 0,0,15 --fov 37 --depth 15 6 gallery/stairs.csg
 steps = 16;
 half = 14;
 function hue(t) = [.5 + .42 * cos(t), .52 + .36 * cos(t - 125), .58 + .36 * cos(t - 235)];

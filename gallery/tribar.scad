@@ -1,5 +1,5 @@
 // The impossible triangle, which is there from one side: three bars at right angles, and the free end of one is cut along the view.
-// tools/model --size 256 256 --view 54.7356103 0 -45 --scale 35.3 --depth 12 6 gallery/tribar.csg
+// ./pxplanes convert --size 256 256 --view 54.7356103 0 -45 --scale 35.3 --depth 12 6 gallery/tribar.csg
 side = 6;
 color([.96, .73, .30]) {
   difference() {

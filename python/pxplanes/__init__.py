@@ -11,17 +11,18 @@ threads at once. docs/SCENES.md has the language, docs/MACHINE.md the machine.
 from .building import Expression, Scene, Solid
 from .calls import from_file
 from .commands import listing, play, refine, shadow, tidy, tile
-from .comparing import Comparison, compare
+from .compare.comparing import Comparison, compare
 from .errors import Limit, Malformed, NoClock, NoCommand, NoLibrary, NoMicro, NoModel, NoOperation, OverBudget, Refused
-from .explained import Explanation, Ray, Run, explain, ray
-from .machine import Micro, Pixel, State, clocked, micros, pixels, state
-from .operations import Operation, course
+from .explain.explained import Explanation, Ray, Run, explain, ray
+from .machine.states import Micro, Pixel, State, clocked, micros, pixels, state
+from .machine.operations import Operation, course
 from .pictures import Cost, Picture, check, colour, products, render, version
 from .running import run
+from .version_number import VERSION
 
 __all__ = ["Comparison", "Cost", "Explanation", "Expression", "Limit", "Malformed", "Micro", "NoClock", "NoCommand", "NoLibrary",
            "NoMicro", "NoModel", "NoOperation", "Operation", "OverBudget", "Picture", "Pixel", "Ray", "Refused", "Run", "Scene", "Solid",
            "State", "check", "clocked", "colour", "compare", "course", "explain", "from_file", "listing", "micros", "pixels", "play",
            "products", "ray", "refine", "render", "run", "shadow", "state", "tidy", "tile", "version"]
 
-__version__ = "1.0.0"
+__version__ = VERSION

@@ -14,10 +14,11 @@ from .apart import Progress
 from .arrays import Buffer, rows
 from .calls import Text, asked, content
 from .errors import Limit, Malformed, OverBudget
-from .machine import State, clocks_of, state
+from .machine.sessions import parted, words_of
+from .machine.states import State, clocks_of, state
 from .pictures import Picture, check, colour, products, render
 from .running import colours, maps_of, numbers, ran, run, work_of
-from .shared import module
+from .scene import limits, rays, scenes, texts
 
 MOST_LIGHTS, BITS_OF_SHADOWS = 8, 80
 FACTORS, WIDEST = (2, 4), 4096
@@ -31,7 +32,7 @@ def scene_of(text: Text) -> Any:
     except Limit as refusal:
         if refusal.kind != "products":
             raise
-    return module("scenes").read(content(text))
+    return scenes.read(content(text))
 
 
 def tidy(text: Text) -> str:
@@ -54,7 +55,7 @@ def tile(text: Text, width: int, height: int, clocks: Optional[int] = None, prog
         return tiled(text, width, height)
     scene = scene_of(text)
     count = -(-width // scene.width) * -(-height // scene.height)
-    if count > module("limits").MAX_TILES:
+    if count > limits.MAX_TILES:
         raise Limit(0, "tiles", count)
     tiles = list(tiles_of(scene, width, height))
     need_budget(sum(check(each.text).clocks for each in tiles), clocks)
@@ -83,7 +84,6 @@ class Tile(NamedTuple):
 
 def tiles_of(scene: Any, width: int, height: int) -> Iterator[Tile]:
     """The tiles of a wide picture, by rows. Raises `Limit` for the first that has a constant past its limit."""
-    texts = module("texts")
     for top in range(0, height, scene.height):
         for left in range(0, width, scene.width):
             own = texts.tile(scene, left, top, min(scene.width, width - left), min(scene.height, height - top))
@@ -102,7 +102,7 @@ def put(tile: Tile, picture: Picture, width: int, *wide: Buffer) -> None:
 
 def need_constants(scene: Any) -> None:
     """Refuses a scene with a constant past its limit, by the first such: solid by solid, fronts and backs by number, then sides."""
-    most = module("limits").MAX_CONSTANT
+    most = limits.MAX_CONSTANT
     for solid in scene.solids:
         for face in sorted(solid.fronts + solid.backs, key=lambda each: int(each.number)) + solid.sides:
             if abs(face.plane[2]) > most:
@@ -124,9 +124,9 @@ def refine(text: Text, factor: int, clocks: Optional[int] = None, progress: Opti
     if clocks is None and progress is None:
         return colours(*maps_of(ran(text, "refine %d" % factor, work=work_of(text, 2, factor ** 2)))[0])
     scene = scene_of(text)
-    finer = module("texts").finer(scene, operator.index(factor))
+    finer = texts.finer(scene, operator.index(factor))
     need_finer(finer)
-    rgb = colour(module("texts").text_of(finer), clocks, progress)
+    rgb = colour(texts.text_of(finer), clocks, progress)
     means = Buffer("B", 3 * scene.width * scene.height)
     memoryview(means.room or b"").cast("B")[:] = means_of(memoryview(rgb).cast("B"), scene.width, scene.height, factor)
     return means.shaped(scene.height, scene.width, 3)
@@ -134,7 +134,6 @@ def refine(text: Text, factor: int, clocks: Optional[int] = None, progress: Opti
 
 def need_finer(finer: Any) -> None:
     """Refuses what is no scene, in the order of docs/PICTURE.md, "Refinement"."""
-    limits = module("limits")
     if finer.fraction_bits > min(limits.MAX_FRACTION_BITS, limits.MAX_DEPTH_BITS - finer.depth_bits):
         raise Limit(0, "fraction", finer.fraction_bits)
     for side in (finer.width, finer.height):
@@ -163,9 +162,9 @@ def shadow(text: Text, clocks: Optional[int] = None, progress: Optional[Progress
     data = content(text)
     if clocks is None and progress is None:
         return numbers(*maps_of(ran(text, "shadow", work=work_of(scene_part(data), 2)))[0])
-    if len(data) > module("limits").MAX_TEXT_BYTES:
+    if len(data) > limits.MAX_TEXT_BYTES:
         asked("check", data)
-    front, behind = module("sessions").parted(data)
+    front, behind = parted(data)
     scene = scene_of(front)
     lights = lights_of(scene, behind, front.count(b"\n") + 1)
     need = scene.need() + len(lights)
@@ -187,7 +186,7 @@ def lights_of(scene: Any, lines: list[bytes], first: int) -> list[list[Any]]:
     named = {solid.name.encode("ascii"): solid for solid in scene.solids}
     found = []
     for number, line in enumerate(lines, first):
-        words = module("sessions").words_of(line.split(b"#")[0])
+        words = words_of(line.split(b"#")[0])
         if words:
             found.append([named[name] for name in names_of(words, named, number)])
             if len(found) > MOST_LIGHTS:
@@ -198,7 +197,7 @@ def lights_of(scene: Any, lines: list[bytes], first: int) -> list[list[Any]]:
 def names_of(words: list[bytes], named: dict[bytes, Any], number: int) -> list[bytes]:
     """The names in a light line."""
     cause = ("unexpected" if words[0] != b"light" else "word-count" if len(words) == 1 else
-             "bad-name" if not all(map(module("scenes").NAME.match, words[1:])) else
+             "bad-name" if not all(map(scenes.NAME.match, words[1:])) else
              "unknown-name" if not all(name in named for name in words[1:]) else "")
     if cause:
         raise Malformed(number, cause)
@@ -207,10 +206,10 @@ def names_of(words: list[bytes], named: dict[bytes, Any], number: int) -> list[b
 
 def depths_of(scene: Any, text: bytes, clocks: Optional[int], progress: Optional[Progress]) -> Any:
     """The rows of a scene's depths; of one that needs more memory than `render` has, by the rays of its pixels."""
-    if scene.need() <= module("scenes").BITS:
+    if scene.need() <= scenes.BITS:
         return rows(render(text, clocks, progress).depths)
     products(text)
-    depth = module("rays").depth
+    depth = rays.depth
     return [[depth(scene, x, y) for x in range(scene.width)] for y in range(scene.height)]
 
 
@@ -228,7 +227,7 @@ def lit_of(scene: Any, lights: list[list[Any]], depths: Any) -> array.array[int]
 
 def is_inside(solid: Any, value: int, x: int, y: int) -> bool:
     """Whether a cell before the far limit, which stands at this value, is inside a solid."""
-    at = module("rays").value
+    at = rays.value
     return (all(at(side.plane, x, y) >= 0 for side in solid.sides) and all(value >= at(face.plane, x, y) for face in solid.fronts)
             and all(value < at(face.plane, x, y) for face in solid.backs))
 
@@ -247,10 +246,10 @@ def play(text: Text) -> State:
 
 def need_listing(text: bytes) -> None:
     """Refuses a text that the library would take for a scene by its first word; one without words, or too long, is refused there."""
-    if len(text) > module("limits").MAX_TEXT_BYTES:
+    if len(text) > limits.MAX_TEXT_BYTES:
         return
     for number, line in enumerate(text.split(b"\n"), 1):
-        words = module("sessions").words_of(line.split(b"#")[0])
+        words = words_of(line.split(b"#")[0])
         if words:
             if words[0] != b"pxlist":
                 raise Malformed(number, "not-header")

@@ -110,4 +110,8 @@ class NoMicro(ValueError):
 
 
 class NoModel(ValueError):
-    """A model makes no scene; `str` of it says why, as tools/model does."""
+    """A model makes no scene; `str` of it says why, as pxplanes convert does."""
+
+
+class Trouble(Exception):
+    """What keeps a command or a call from an answer, in one line: a file that cannot be read, words that do not fit."""

@@ -3,6 +3,7 @@
 `rt ci` leaves in each library's folder what the crates above it may cite, its statements, and proves all crates over those. So
 does `rattle build`, by which this proves the library for C, or the program, once more over them, and compiles it. `rt lib` knows no
 such way: it proves every crate below anew."""
+import contextlib
 import hashlib
 import os
 import re
@@ -12,16 +13,18 @@ import subprocess
 import tempfile
 import time
 
-import ends
+from pxplanes import ends
 import gate
-import program
-from netpbm import Bad
+from pxplanes import program
+from pxplanes.errors import Trouble
 
 # Of the processors that Rattle compiles for: the one of the first build, and the one of the second.
 FIRST, SECOND = "x86-64-v2", "x86-64-v3"
 LIBRARY, PROGRAM = "px_c", "px_program"
 LINE = re.compile(r"(?m)^([a-z]\w*)( staticlib)?:(.*)$")
 PROVED = re.compile(r"(?m)^logic=proved .*\bstatements=trusted\b.*$")
+# The words of such a line with which `rt ci` refuses a crate.
+REFUSED = re.compile(r"\b(foreign|hides|partial|may-abort|may-serve|may-wait|bugs)\b")
 # The lines of what rattle says that tell nothing of what is not proved.
 TOLD_ANYWAY = re.compile(r": proved$|^(statements |logic|empty contracts:|by-macro:|rattle build:)")
 TARGET = "x86_64-unknown-linux-gnu"
@@ -34,6 +37,7 @@ KEPT = os.path.join(STORE, MODULE)
 KEEPS = "px-build-"
 # The module is compiled for some seconds.
 LOOKED_AFTER = 0.2
+RUNNING = set()
 
 
 def done(words, name, **more):
@@ -41,7 +45,7 @@ def done(words, name, **more):
     run = subprocess.run(words, capture_output=True, text=True, errors="replace", **more)
     if run.returncode != 0:
         lines = (run.stderr.strip() or run.stdout.strip()).split("\n")
-        raise Bad("%s: %s" % (name, lines[-1][:200] or "status %d" % run.returncode))
+        raise Trouble("%s: %s" % (name, lines[-1][:200] or "status %d" % run.returncode))
     return run.stdout
 
 
@@ -49,7 +53,7 @@ def kit():
     """The folder of the kit, by its command."""
     found = shutil.which("rt")
     if found is None:
-        raise Bad("there is no command rt; README.md says what is needed")
+        raise Trouble("there is no command rt; README.md says what is needed")
     return os.path.dirname(os.path.dirname(os.path.realpath(found)))
 
 
@@ -118,21 +122,46 @@ def newer_of(path):
     return newer if os.path.isfile(newer) and os.path.getmtime(path) <= os.path.getmtime(newer) else None
 
 
+def lines_of(top):
+    """The crates of a folder, each with the libraries that it names: by crates.txt."""
+    text = ends.content(os.path.join(top, "crates.txt")).decode("utf-8")
+    return {name: rest.split() for name, _, rest in LINE.findall(text)}
+
+
+@contextlib.contextmanager
+def started(words, **how):
+    """A command in a session of its own. If it still runs at the end of this, it is ended with all that it started."""
+    running = subprocess.Popen(words, stdin=subprocess.DEVNULL, start_new_session=True, **how)
+    RUNNING.add(running)
+    try:
+        yield running
+    finally:
+        RUNNING.discard(running)
+        end(running)
+
+
+def end(running):
+    if running.poll() is None:
+        with contextlib.suppress(ProcessLookupError):
+            os.killpg(running.pid, signal.SIGTERM)
+        running.wait()
+
+
+def end_all():
+    """Ends what was started and still runs, of whatever thread."""
+    for running in tuple(RUNNING):
+        end(running)
+
+
 def ran(words, folder, copy=None):
     """Runs a command of the kit in a folder: its status, what it says, and whether a copy was made, where one is wanted, of the module
     which is handed to clang meanwhile."""
     kept = copy is None
-    with tempfile.TemporaryFile() as notes:
-        running = subprocess.Popen(words, cwd=folder, stdin=subprocess.DEVNULL, stdout=notes, stderr=notes, start_new_session=True)
-        try:
-            while not kept and running.poll() is None:
-                time.sleep(LOOKED_AFTER)
-                kept = copied(handed(running.pid), copy)
-            status = running.wait()
-        finally:
-            if running.poll() is None:
-                os.killpg(running.pid, signal.SIGTERM)
-                running.wait()
+    with tempfile.TemporaryFile() as notes, started(words, cwd=folder, stdout=notes, stderr=notes) as running:
+        while not kept and running.poll() is None:
+            time.sleep(LOOKED_AFTER)
+            kept = copied(handed(running.pid), copy)
+        status = running.wait()
         notes.seek(0)
         return status, notes.read().decode("utf-8", "replace"), kept
 
@@ -141,9 +170,9 @@ def run(words, folder, copy):
     """What a command of the kit says, as `ran`; where it fails, or makes no copy, that is the tool's trouble."""
     status, said, kept = ran(words, folder, copy)
     if status != 0:
-        raise Bad("%s: %s" % (os.path.basename(words[0]), (said.strip() or "status %d" % status).split("\n")[-1][:200]))
+        raise Trouble("%s: %s" % (os.path.basename(words[0]), (said.strip() or "status %d" % status).split("\n")[-1][:200]))
     if not kept:
-        raise Bad("rattle handed no module to clang; this is another kit than web/README.md tells of")
+        raise Trouble("rattle handed no module to clang; this is another kit than web/README.md tells of")
     return said
 
 
@@ -165,8 +194,7 @@ class Proved:
 
     def __init__(self, top, jobs, kept=None, anew=False):
         self.top, self.jobs, self.kept, self.anew = os.path.abspath(top), str(jobs), kept, anew
-        text = ends.content(os.path.join(self.top, "crates.txt")).decode("utf-8")
-        self.lines = {name: rest.split() for name, _, rest in LINE.findall(text)}
+        self.lines = lines_of(self.top)
 
     def folder(self, crate):
         return os.path.join(self.top, "crates", crate)
@@ -175,7 +203,7 @@ class Proved:
         """The folder of what the crates above one may cite."""
         found = os.path.join(self.folder(crate), "out", "rlib", crate + ".rlib")
         if not os.path.isdir(found):
-            raise Bad("crates/%s is not proved in %s; rt ci proves all" % (crate, self.top))
+            raise Trouble("crates/%s is not proved in %s; rt ci proves all" % (crate, self.top))
         return found
 
     def below(self, crate):
@@ -192,13 +220,6 @@ class Proved:
         """The crates of this folder above one, by their names."""
         return sorted(name for name in self.lines if crate in self.below(name))
 
-    def refuse_no_library(self, crate):
-        """Refuses what is no crate, or one that is not proved as a library."""
-        if crate not in self.lines:
-            raise Bad("crates.txt names no crate %s" % crate)
-        if crate in (LIBRARY, PROGRAM):
-            raise Bad("%s is no library for other crates; tools/dev/build proves it" % crate)
-
     def words(self, crate):
         """What is said to `rattle` of a crate, of whatever kind."""
         kept, every = in_kit("rlibs"), self.below(crate)
@@ -211,17 +232,26 @@ class Proved:
         yield from ("--links", crate + "=", "--empty-contracts", "--jobs", self.jobs)
 
     def prove(self, crate, to):
-        """Proves a library over the statements below it, as `rt ci` does, and writes what crates above may cite: the line of its
-        proof, or None; and what rattle says of what is not proved."""
-        words = [in_kit("bin", "rattle"), "build", *self.words(crate), "--statements", "-o", to]
+        """Proves a crate over the statements below it, as `rt ci` does, and writes what crates above a library may cite: the line of
+        its proof, or None; and what rattle says of what is not proved."""
+        is_last = crate in (LIBRARY, PROGRAM)
+        words = [in_kit("bin", "rattle"), "check" if is_last else "build", *self.words(crate), *(() if is_last else ("--statements", "-o", to))]
         status, said, _ = ran(words, self.folder(crate))
         found = PROVED.search(said)
         if status == 1:
             return None, "\n".join(line for line in said.splitlines() if not TOLD_ANYWAY.search(line))
         if status != 0 or found is None:
             trouble = next((line for line in said.splitlines() if "error" in line), None)
-            raise Bad(trouble[:300] if trouble else "%s: no line of what rattle says tells that it is proved" % crate)
-        return found[0], ""
+            raise Trouble(trouble[:300] if trouble else "%s: no line of what rattle says tells that it is proved" % crate)
+        return self.accepted(crate, found[0]), ""
+
+    @staticmethod
+    def accepted(crate, line):
+        """The line of a proof, unless `rt ci` refuses a word of it."""
+        refused = REFUSED.search(line)
+        if refused:
+            raise Trouble("%s: its proof says %s, which rt ci refuses" % (crate, refused[0]))
+        return line
 
     def compiling(self, crate, cpu):
         """What is said besides where a crate is compiled."""
@@ -235,8 +265,8 @@ class Proved:
         said = run([in_kit("bin", "rattle"), "build", *words, "-o", to], self.folder(crate), copy)
         found = PROVED.search(said)
         if found is None:
-            raise Bad("%s: no line of what was built says that it is proved" % crate)
-        return found[0]
+            raise Trouble("%s: no line of what was built says that it is proved" % crate)
+        return self.accepted(crate, found[0])
 
     def once(self, made, make, *beside):
         """A file, the line of its proof, and whether it was kept of these very crates and this kit; else `make` makes it now, and
@@ -267,7 +297,7 @@ class Proved:
         """Builds the program for a processor, which may call nothing that the one of `rt ci` does not; as `once`."""
         first = os.path.join(self.folder(PROGRAM), "out", PROGRAM)
         if not os.path.isfile(first):
-            raise Bad("no program at %s; rt ci builds it" % first)
+            raise Trouble("no program at %s; rt ci builds it" % first)
 
         def make(place):
             part, whole = (os.path.join(place, leaf) for leaf in ("program.o", "program"))
@@ -275,7 +305,7 @@ class Proved:
             link(part, whole)
             more = sorted(calls_of(whole) - calls_of(first))
             if more:
-                raise Bad("the program for %s calls %s, which the other does not" % (cpu, ", ".join(more)))
+                raise Trouble("the program for %s calls %s, which the other does not" % (cpu, ", ".join(more)))
             return whole, line
 
         return self.once(of_cpu(first, cpu), make)

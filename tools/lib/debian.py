@@ -13,13 +13,13 @@ import tarfile
 import tempfile
 
 import building
-import ends
+from pxplanes.errors import Trouble
+from pxplanes import ends
+from pxplanes.cli import frame
 import gate
 import installing
 import manuals
-import netpbm
-import program
-import wheel
+from pxplanes import program
 
 # No package of Debian's own, which would begin at 1, and be newer.
 REVISION = "0upstream1"
@@ -48,11 +48,11 @@ def done(words, place, **more):
     """Runs a command in a folder; its trouble is the tool's."""
     package = dict(WANTED).get(words[0])
     if shutil.which(words[0]) is None:
-        raise netpbm.Bad("there is no command %s; Debian's %s has it" % (words[0], package))
+        raise Trouble("there is no command %s; Debian's %s has it" % (words[0], package))
     run = subprocess.run(words, cwd=place, capture_output=True, text=True, errors="replace", env=dict(os.environ, LC_ALL="C", **more))
     if run.returncode != 0:
         lines = run.stderr.strip().split("\n")
-        raise netpbm.Bad("%s: %s" % (words[0], lines[-1][:200] or "status %d" % run.returncode))
+        raise Trouble("%s: %s" % (words[0], lines[-1][:200] or "status %d" % run.returncode))
 
 
 @functools.lru_cache(maxsize=1)
@@ -135,7 +135,7 @@ def source(out, held):
     """Makes the source package of the files that git tracks, and of what is built where some is held; answers where its files are."""
     names = sorted(filter(None, installing.tracked() or ()))
     if not names:
-        raise netpbm.Bad("only files that git tracks are packed, and this is no repository")
+        raise Trouble("only files that git tracks are packed, and this is no repository")
     with tempfile.TemporaryDirectory(prefix="px-deb-") as place:
         top = tree(place, names)
         path = os.path.join(place, "pxplanes_%s.orig%%s.tar.xz" % installing.version())
@@ -175,7 +175,7 @@ def place_of(name):
         return None
     if folder == "python":
         return os.path.join(MODULES, rest)
-    if folder == "docs" or os.path.basename(name) == "README.md" and folder in ("README.md", "tools"):
+    if folder == "docs" or os.path.basename(name) == "README.md" and folder == "README.md":
         return os.path.join(DOCUMENTS, name)
     if folder == "examples":
         return os.path.join(EXAMPLES, name)
@@ -187,16 +187,17 @@ def links():
     for name, target in installing.links():
         if name.startswith("bin"):
             yield name, target
-    yield os.path.join(installing.TREE, wheel.MODULE), os.path.join(MODULES, "pxplanes")
+    yield os.path.join(installing.TREE, installing.MODULE), os.path.join(MODULES, "pxplanes")
     for name, target in BESIDE.items():
         yield os.path.join(DOCUMENTS, name), target
 
 
 def pages():
     """The manual: a name of each page, and its text."""
-    yield "pxplanes.1", ends.content(manuals.OWN).decode("utf-8")
-    for name in installing.tools():
-        yield "pxplanes-%s.1" % name, manuals.page(name, installing.version())
+    for page in installing.PAGES:
+        yield page, ends.content(os.path.join(ends.TOP, "man", page)).decode("utf-8")
+    for word in frame.WORDS:
+        yield "pxplanes-%s.1" % word, manuals.page(word, installing.version())
 
 
 def stage(usr, held):
@@ -205,10 +206,6 @@ def stage(usr, held):
         to = place_of(name)
         if to:
             installing.put(os.path.join(ends.TOP, name), os.path.join(usr, to))
-    module = {name: ends.content(os.path.join(ends.TOP, name)) for name in installing.known(installing.inside(wheel.MODULE))}
-    for name, content in wheel.of_tools(module).items():
-        with open(installing.made(os.path.join(usr, MODULES, name)), "wb") as file:
-            file.write(content)
     for place in (program.DEFAULT, program.NEWER):
         if os.path.basename(place) in held:
             installing.put(held[os.path.basename(place)], os.path.join(usr, installing.TREE, os.path.relpath(place, ends.TOP)))

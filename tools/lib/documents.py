@@ -6,11 +6,13 @@ import functools
 import math
 import os
 import re
+import subprocess
 
-import ends
-import limits
-import list_cures
-import micros
+from pxplanes import ends
+from pxplanes.cli import frame
+from pxplanes.scene import limits
+from pxplanes.explain import list_cures
+from pxplanes.machine import micros
 
 README, SCENES, MAN, WRAPPER = "README.md", "docs/SCENES.md", "man/pxplanes.1", "pxplanes"
 NO_DOCUMENTS = (".git", "out", "package", "pictures", "cases")
@@ -22,12 +24,12 @@ HEADING = re.compile(r"^#{1,6} (.+?) *$", re.M)
 NAMED = re.compile(r'\b(above|below|[\w/.]*?[A-Z_]+\.md)(?:\]\([^)]*\))?,? \(?((?:(?:, | and )?"[^"]+")+)')
 COMMENT = re.compile(r"\n *(?:///?!?|#|\*|%)? *")
 SPAN = re.compile(r"`([^`\n]+)`")
-PLACE = re.compile(r"(?:tools|docs|crates|cases|gallery|suite|man|rtl|web|python|include|examples|editors|page)/[\w./-]*\w")
-TOOL = re.compile(r"(?:^|[\s(])(?:\./|\S*/)?(tools/[\w/]+|pxplanes(?:-\w+)?)(?=\s|$)")
+PLACE = re.compile(r"(?:tools|docs|crates|cases|gallery|suite|man|rtl|python|include|examples|editors|page)/[\w./-]*\w")
+TOOL = re.compile(r"(?:^|[\s(])(?:\./|\S*/)?(tools/[\w/]+|rtl/rtl|page/build|pxplanes(?: (?:%s)\b)?)(?=\s|$)" % "|".join(frame.WORDS))
 OPTION = re.compile(r"(?<![\w-])(--[a-z][\w-]*)")
-COMMAND = re.compile(r"^ *(?:\$ |\./|\.ci/|tools/|sudo |rt |pip |openscad |cmake |PYTHONPATH=)", re.M)
+COMMAND = re.compile(r"^ *(?:\$ |\./|\.ci/|tools/|rtl/rtl |pxplanes [a-z]|sudo |rt |pip |openscad |cmake |PYTHONPATH=)", re.M)
 SOURCES = (("crates", (".rt", ".antt", ".edit")), ("tools", (".py", ".js", "")), ("include", (".h", ".hpp")), ("python", (".py",)),
-           ("rtl", (".v", ".vh")), ("rust", (".rs",)), ("web", (".c", ".mjs")))
+           ("rtl", (".v", ".vh", ".py", "")), ("rust", (".rs",)), ("page", (".c", ".mjs", ".js", ".py", "")))
 # The blocks of commands that no check runs, by their document and how they begin, each with the reason. All others are runs.
 NOT_RUN = {
     ("docs/INSTALL.md", "sudo apt install"): "it installs; the case debian_in_a_chroot installs those packages, and draws with them",
@@ -37,17 +39,18 @@ NOT_RUN = {
     ("docs/MODELLING.md", "openscad --preview"): "it wants a display",
     ("docs/LIBRARY.md", "./pxplanes --library"): "it proves; the case wrapper_library begins it, and package_of_* and python_* do the rest",
     ("rust/README.md", "tools/package"): "it writes into the checkout's package/; the case rust_crates does both",
-    ("docs/SCALE.md", "tools/wide gallery/house.scene 16384"): "it writes 1.6 GB; the case wide_beside_tile writes less",
-    ("docs/STUDIO.md", "tools/studio my.scene"): "it serves until it is ended; the cases studio_* do it",
+    ("docs/SCALE.md", "./pxplanes batch poster gallery/house.scene 16384"): "it writes 1.6 GB; the case wide_beside_tile writes less",
+    ("docs/STUDIO.md", "./pxplanes view --serve my.scene"): "it serves until it is ended; the cases studio_* do it",
 }
 # What a pixel's memory, an operation and a grid may be, by the places in the sources that say so.
-OF_SOURCES = (("BITS", "crates/px_program/src/main.rt", r"run_with::<_, _, _, (\d+)>\(alloc[^\n]*\n *\}\n\}"),
-              ("WIDE_BITS", "crates/px_program/src/main.rt", r"run_with::<_, _, _, (\d+)>"),
+OF_SOURCES = (("BITS", "crates/px_commands/src/command_words.rt", r"const PIXEL_BITS: usize = (\d+)"),
+              ("WIDE_BITS", "crates/px_commands/src/command_words.rt", r"const WIDE_PIXEL_BITS: usize = (\d+)"),
               ("LIGHTS", "crates/px_shadow/src/passes.rt", r"MAX_LIGHTS: usize = (\d+)"),
               ("FORM", "crates/px_macro/src/limits.rt", r"is_within\(form.a, 1 << (\d+)\)"),
               ("FORM_C", "crates/px_macro/src/limits.rt", r"is_within\(form.c, 1 << (\d+)\)"),
               ("FIELD", "crates/px_macro/src/limits.rt", r"field.len <= (\d+)"),
               ("GRID", "crates/px_listing/src/limit.rt", r"ListKind::Grid, 1, (\d+), nx\)"))
+RTL_WORDS = ("check", "prove", "marks", "draw", "whole", "bytes", "chip", "fpga")
 OF_LIGHTS = ("unexpected", "word-count", "bad-name", "unknown-name")
 OF_SCENES_ALONE = ("bad-name", "second-name", "bad-expression", "unknown-name", "missing-end")
 OWN_TROUBLE = "1"
@@ -168,11 +171,24 @@ def options_of(tool):
     """The options that the help of a tool names, and of the wrapper that of the manual too; None where there is no such tool."""
     if tool == "pxplanes":
         return set(OPTION.findall(content(WRAPPER))) | {"-" + each for each in re.findall(r"Fl (-[\w-]+)", content(MAN))}
-    path = tool.replace("pxplanes-", "tools/")
-    if not os.path.isfile(os.path.join(ends.TOP, path)):
+    if tool.startswith("pxplanes "):
+        return options_in(frame.parser_of(tool.split()[1]))
+    if tool == "rtl/rtl":
+        helps = [subprocess.run([os.path.join(ends.TOP, tool), *words, "--help"], capture_output=True, text=True).stdout
+                 for words in ([], *([word] for word in RTL_WORDS))]
+        return set().union(*map(OPTION.findall, helps))
+    if not os.path.isfile(os.path.join(ends.TOP, tool)):
         return None
-    text = content(path)
-    return set(OPTION.findall(text.split('"""')[1] if '"""' in text else text)) | {"--help"}
+    text = content(tool)
+    has_help = '"""' in text and "argparse" not in text
+    return set(OPTION.findall(text.split('"""')[1] if has_help else text)) | {"--help"}
+
+
+def options_in(parser):
+    """The options of a parser and of those below it."""
+    found = {option for action in parser._actions for option in action.option_strings}
+    below = [each for action in parser._actions if isinstance(action.choices, dict) for each in action.choices.values()]
+    return found.union(*map(options_in, below))
 
 
 def commands_in(leaf):
@@ -187,8 +203,11 @@ def wrong_options():
     """An option in a document that the help of its tool does not name; one by itself is that of some tool."""
     tools = ["tools/" + leaf for leaf in os.listdir(os.path.join(ends.TOP, "tools"))] + [
         "tools/dev/" + leaf for leaf in os.listdir(os.path.join(ends.TOP, "tools", "dev"))]
-    every = set(OF_OTHERS).union(*(options_of(tool) or () for tool in tools + ["pxplanes"]))
+    tools += ["pxplanes", "rtl/rtl", *("pxplanes " + word for word in frame.WORDS)]
+    every = set(OF_OTHERS).union(*(options_of(tool) or () for tool in tools))
     for leaf in names():
+        if leaf == "CHANGES.md":
+            continue
         for command in commands_in(leaf):
             named = TOOL.search(command)
             known = options_of(named.group(1)) if named else every if command.startswith("--") else None
@@ -227,7 +246,7 @@ def rows(leaf, heading):
 
 
 def usage():
-    return re.search(r'"(usage: .*)\\n"', content("crates/px_outcome/src/note.rt")).group(1)
+    return re.search(r'"(usage: .*)\\n"', content("crates/px_commands/src/note.rt")).group(1)
 
 
 def difference(what, has, due):
@@ -244,7 +263,7 @@ def wrong_commands():
     first = [SPAN.findall(row[0])[0].split()[0] for row in rows(SCENES, "Commands")]
     told = re.search(r"(?s)Use: pxplanes.*?\n\n(.*?)\n\n", content(WRAPPER)).group(1)
     manual = re.search(r"(?m)^\.Op Cm (.*)$", content(MAN)).group(1)
-    found = (("crates/px_command", re.findall(r'word == b"([a-z]+)"', content("crates/px_command/src/words.rt"))),
+    found = (("crates/px_commands", re.findall(r'word == b"([a-z]+)"', content("crates/px_commands/src/command_words.rt"))),
              (SCENES, first + ["sample"] * bool(re.search(r"(?m)^`sample N`", content(SCENES)))),
              (MAN, re.findall(r"(?m)^\.It Cm (\w+)", content(MAN))),
              (MAN + ", synopsis", [each.split()[0] for each in manual.split(" | ")]),
@@ -259,8 +278,8 @@ def wrong_commands():
 
 def wrong_statuses():
     """The statuses as the program's code, the table and the manual have them."""
-    codes = dict(re.findall(r"Status::(\w+)(?:\(_\))? => (\d+)", content("crates/px_outcome/src/status.rt")))
-    lines = re.findall(r'"((?:read|write) fault|out of memory)\\n"', content("crates/px_outcome/src/note.rt"))
+    codes = dict(re.findall(r"Status::(\w+)(?:\(_\))? => (\d+)", content("crates/px_commands/src/status.rt")))
+    lines = re.findall(r'"((?:read|write) fault|out of memory)\\n"', content("crates/px_commands/src/note.rt"))
     words = {name: re.sub(r"(?<=[a-z])(?=[A-Z])", " ", name).lower().replace("memory", "out of memory") for name in codes}
     due = {words[name]: code for name, code in codes.items()}
     table = rows(SCENES, "Refusals")
@@ -274,8 +293,8 @@ def wrong_statuses():
 
 
 def words_of(function):
-    """The words that a function of px_outcome gives."""
-    body = content("crates/px_outcome/src/words.rt").split("fn %s(" % function)[1].split("\n}")[0]
+    """The words that a function of px_commands gives."""
+    body = content("crates/px_commands/src/words.rt").split("fn %s(" % function)[1].split("\n}")[0]
     return re.findall(r'=> "([\w-]+)"', body)
 
 
@@ -349,7 +368,7 @@ def wrong_operations():
     """An operation of listings, or a line of the debugger, with another form in its table than the sources have."""
     lines = [span for row in rows("docs/LISTINGS.md", "Operations") for span in SPAN.findall(row[0])]
     yield from difference("docs/LISTINGS.md", lines, [list_cures.form_of(word) for word in list_cures.FORMS])
-    spoken = re.findall(r'word == b"([a-z]+)"', content("crates/px_debug_text/src/command.rt"))
+    spoken = re.findall(r'word == b"([a-z]+)"', content("crates/px_debug/src/command.rt"))
     told = [row[0].strip("`").split()[0] for row in rows("docs/DEBUGGER.md", "Lines") if "`" in row[0]]
     yield from difference("docs/DEBUGGER.md", told, spoken)
 
@@ -365,11 +384,9 @@ def wrong_lists():
 
 
 def wrong_times():
-    """The time of the first proof stands in README.md alone, and as the wrapper says it."""
-    told = re.search(r"\| (\d+ to \d+ minutes on 4 processors)\b", content(README))
-    said = re.search(r'(?m)^time_to_prove="about (.*)"$', content(WRAPPER)).group(1)
-    if told is None or told.group(1) != said:
-        yield "%s says %s, and %s %s" % (README, told and told.group(1), WRAPPER, said)
+    """The time of the first proof is in README.md alone."""
+    if re.search(r"\| about \d+ minutes on 4 processors", content(README)) is None:
+        yield "%s does not say how long the first proof takes" % README
     for leaf in names() + [MAN]:
         if leaf not in (README, "CHANGES.md") and re.search(r"\d+ to \d+ minutes", content(leaf)):
             yield "%s tells minutes, which %s does" % (leaf, README)

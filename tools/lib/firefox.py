@@ -1,4 +1,7 @@
-"""Drives a headless Firefox by its Marionette protocol, so far as the cases of the page look by it. It is no tool itself."""
+"""Drives a headless Firefox by its Marionette protocol, so far as the cases of the page look by it. It is no tool
+itself."""
+from __future__ import annotations
+
 import json
 import os
 import shutil
@@ -7,8 +10,9 @@ import socket
 import subprocess
 import tempfile
 import time
+from typing import Any
 
-from netpbm import Bad
+from pxplanes.errors import Trouble
 
 NAMES = ("firefox-esr", "firefox")
 SECONDS = 60
@@ -18,16 +22,16 @@ SCRIPT = "const done = arguments[arguments.length - 1]; (async () => (%s))().the
 class Firefox:
     """A browser with one page; its profile is thrown away at the end."""
 
-    def __init__(self):
-        name = next(filter(None, map(shutil.which, NAMES)), None)
+    def __init__(self) -> None:
+        name = next((str(found) for found in map(shutil.which, NAMES) if found), None)
         if name is None:
-            raise Bad("there is no firefox")
+            raise Trouble("there is no firefox")
         self.folder = tempfile.TemporaryDirectory(prefix="px-firefox-", ignore_cleanup_errors=True)
         with socket.create_server(("127.0.0.1", 0)) as free:
             port = free.getsockname()[1]
         with open(os.path.join(self.folder.name, "user.js"), "w") as file:
             file.write('user_pref("marionette.port", %d);\n' % port)
-        words = [name, "--headless", "--no-remote", "--marionette", "--profile", self.folder.name]
+        words: list[str] = [name, "--headless", "--no-remote", "--marionette", "--profile", self.folder.name]
         environment = dict(os.environ, HOME=self.folder.name, MOZ_HEADLESS="1")
         self.process = subprocess.Popen(words, stdin=subprocess.DEVNULL, stdout=subprocess.DEVNULL, stderr=subprocess.DEVNULL,
                                         env=environment, start_new_session=True)
@@ -37,16 +41,16 @@ class Firefox:
         self.call("WebDriver:NewSession")
         self.call("WebDriver:SetTimeouts", script=1000 * SECONDS)
 
-    def __enter__(self):
+    def __enter__(self) -> Firefox:
         return self
 
-    def __exit__(self, *error):
+    def __exit__(self, *error: object) -> None:
         self.plain.close()
         os.killpg(self.process.pid, signal.SIGTERM)
         self.process.wait()
         self.folder.cleanup()
 
-    def connected(self, port):
+    def connected(self, port: int) -> socket.socket:
         end = time.monotonic() + SECONDS
         while time.monotonic() < end and self.process.poll() is None:
             try:
@@ -55,9 +59,9 @@ class Firefox:
                 return plain
             except OSError:
                 time.sleep(0.1)
-        raise Bad("firefox does not answer")
+        raise Trouble("firefox does not answer")
 
-    def message(self):
+    def message(self) -> Any:
         """The next message: its length, a colon, and JSON."""
         while b":" not in self.rest:
             self.rest += self.received()
@@ -67,33 +71,33 @@ class Firefox:
         text, self.rest = self.rest[:int(length)], self.rest[int(length):]
         return json.loads(text)
 
-    def received(self):
+    def received(self) -> bytes:
         part = self.plain.recv(1 << 16)
         if not part:
-            raise Bad("the browser ended")
+            raise Trouble("the browser ended")
         return part
 
-    def call(self, method, **words):
+    def call(self, method: str, **words: Any) -> Any:
         """The result of a command."""
         self.number += 1
         text = json.dumps([0, self.number, method, words]).encode()
         self.plain.sendall(b"%d:%s" % (len(text), text))
         _, _, error, result = self.message()
         if error:
-            raise Bad("%s: %s" % (method, error.get("message")))
+            raise Trouble("%s: %s" % (method, error.get("message")))
         return result
 
-    def open(self, address):
+    def open(self, address: str) -> None:
         self.call("WebDriver:Navigate", url=address)
 
-    def run(self, script):
+    def run(self, script: str) -> Any:
         """The value of an expression in the page; a promise is awaited."""
         value = self.call("WebDriver:ExecuteAsyncScript", script=SCRIPT % script, args=[], sandbox=None)["value"]
         if len(value) > 1:
-            raise Bad("%s: %s" % (script[:80], value[1]))
+            raise Trouble("%s: %s" % (script[:80], value[1]))
         return value[0]
 
-    def until(self, script, seconds=SECONDS):
+    def until(self, script: str, seconds: float = SECONDS) -> Any:
         """Waits until an expression in the page is true, and gives its value."""
         end = time.monotonic() + seconds
         while time.monotonic() < end:
@@ -101,8 +105,8 @@ class Firefox:
             if value:
                 return value
             time.sleep(0.05)
-        raise Bad("in %d seconds it did not come: %s" % (seconds, script))
+        raise Trouble("in %d seconds it did not come: %s" % (seconds, script))
 
-    def faults(self):
+    def faults(self) -> list[str]:
         """Firefox tells this protocol of none."""
         return []

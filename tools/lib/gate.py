@@ -2,10 +2,10 @@
 import hashlib
 import os
 
-import ends
+from pxplanes.errors import Trouble
+from pxplanes import ends
 import installing
-import netpbm
-import program
+from pxplanes import program
 import web_page
 
 # What .ci/run passed last, beside what it built: the checksum of its crates, and a line for each file that packages are made of.
@@ -15,7 +15,7 @@ ARCHIVE = os.path.join("crates", "px_c", "out", "libpx_c.a")
 NEWER_ARCHIVE = os.path.join("crates", "px_c", "out", "libpx_c-x86-64-v3.a")
 LIBC = "liblibc_c.a"
 # They make the libraries, the packages and the page.
-MAKERS = (os.path.join("tools", "package"), "debian", "web", os.path.join("tools", "studio_page"))
+MAKERS = (os.path.join("tools", "package"), os.path.join("tools", "lib"), "pyproject.toml", "setup.py", "debian", os.path.join("page", "library"), os.path.join("page", "src"))
 
 
 def crates():
@@ -79,7 +79,7 @@ def noted():
 def need_passed():
     """Refuses crates that are not those of a gate that passed."""
     if noted()[0] != sum_crates():
-        raise netpbm.Bad("the gate has not passed these crates; .ci/run tries them")
+        raise Trouble("the gate has not passed these crates; .ci/run tries them")
 
 
 def differing(files):
@@ -92,12 +92,12 @@ def need_packed(files):
     """Refuses to pack anything else than what the gate passed."""
     need_passed()
     if installing.tracked() is None:
-        raise netpbm.Bad("only files that git tracks are packed, and this is no repository")
+        raise Trouble("only files that git tracks are packed, and this is no repository")
     files = dict(files)
     for name in differing(files.items()):
         path = files.get(name, name)
         shown = path if name in (ARCHIVE, NEWER_ARCHIVE, LIBC) and path != os.path.join(ends.TOP, name) else name
-        raise netpbm.Bad("%s is not what the gate passed; .ci/run tries it" % shown)
+        raise Trouble("%s is not what the gate passed; .ci/run tries it" % shown)
 
 
 def note_again(name, files):

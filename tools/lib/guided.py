@@ -9,9 +9,9 @@ import subprocess
 import tempfile
 
 import building
-import ends
+from pxplanes import ends
 from building import done, in_kit
-from netpbm import Bad
+from pxplanes.errors import Trouble
 
 FOLDER = os.path.join(ends.TOP, "tools", "fuzzing")
 CORPUS = os.path.join(FOLDER, "corpus")
@@ -42,7 +42,7 @@ def watched(place):
 def built(place):
     """The fuzzer, in a folder."""
     if shutil.which("clang") is None:
-        raise Bad("there is no clang; Debian's clang and libclang-rt-14-dev have what is wanted")
+        raise Trouble("there is no clang; Debian's clang and libclang-rt-14-dev have what is wanted")
     if not building.is_kept():
         building.Proved(ends.TOP, 2).make_library(building.FIRST)
     fuzzer = os.path.join(place, "fuzzer")

@@ -1,11 +1,11 @@
 """What an installation has, and where. It is no tool itself.
 
-    bin/pxplanes, bin/pxplanes-TOOL      the program by its wrapper, and each tool of users
+    bin/pxplanes, bin/pxplanes-rtl       the command with all its words, and that of the machine in Verilog
     lib/pxplanes/                        what they need, laid out as in the checkout
     lib/libpxplanes.*, lib/pkgconfig/, lib/cmake/    the library, as tools/package makes it
     include/pxplanes.h, pxplanes.hpp, pxplanes_scene.h
     lib/python3/dist-packages/pxplanes   the Python module
-    share/man/man1/, share/doc/pxplanes  the manual, with a page for each tool, and the documents
+    share/man/man1/, share/doc/pxplanes  the manual, with a page for each word, and the documents
 """
 import functools
 import os
@@ -13,19 +13,21 @@ import re
 import shutil
 import subprocess
 
-import ends
+from pxplanes.errors import Trouble
+from pxplanes import ends
+from pxplanes.cli import frame
 import manuals
-import netpbm
-import program
+from pxplanes import program
 
 TREE = os.path.join("lib", "pxplanes")
-FOLDERS = ("docs", "editors", "examples", "gallery", "man", "page", "python", "rtl", "suite", os.path.join("tools", "lib"))
-FILES = ("CHANGES.md", "README.md", "pxplanes", os.path.join("tools", "README.md"))
+MODULE = os.path.join("python", "pxplanes")
+FOLDERS = ("docs", "editors", "examples", "gallery", "man", os.path.join("page", "pxplanes.html"), MODULE, "rtl", "suite")
+FILES = ("CHANGES.md", "README.md", "pxplanes")
 # What the examples are built to.
 BUILT = ("draw",)
-# Of no use without the checkout.
-OF_CHECKOUTS = ("check", "install", "package")
 MANUALS = os.path.join("share", "man", "man1")
+# The manual pages that are written by hand.
+PAGES = ("pxplanes.1", "pxplanes-rtl.1")
 LISTED = os.path.join(TREE, "installed")
 
 
@@ -34,7 +36,7 @@ def version():
     with open(os.path.join(ends.TOP, "CHANGES.md"), encoding="utf-8") as file:
         found = re.search(r"(?m)^## (\d+(?:\.\d+)+)$", file.read())
     if found is None:
-        raise netpbm.Bad("CHANGES.md has no heading of a version")
+        raise Trouble("CHANGES.md has no heading of a version")
     return found.group(1)
 
 
@@ -44,7 +46,7 @@ def git(*words):
     words = ["git", "-C", ends.TOP, "-c", "safe.directory=" + ends.TOP, "-c", "core.fsmonitor=false", *words]
     run = subprocess.run(words, capture_output=True, env=dict(here, GIT_CEILING_DIRECTORIES=os.path.dirname(ends.TOP)))
     if run.returncode != 0:
-        raise netpbm.Bad("git: %s" % run.stderr.decode("utf-8", "replace").strip().split("\n")[-1])
+        raise Trouble("git: %s" % run.stderr.decode("utf-8", "replace").strip().split("\n")[-1])
     return os.fsdecode(run.stdout)
 
 
@@ -61,14 +63,6 @@ def known(names):
     return [name for name in names if tracked() is None or name in tracked()]
 
 
-def tools():
-    """The tools of users, by their names."""
-    folder = os.path.join(ends.TOP, "tools")
-    names = known(os.path.join("tools", leaf) for leaf in sorted(os.listdir(folder)) if leaf not in OF_CHECKOUTS)
-    paths = [os.path.join(ends.TOP, name) for name in names]
-    return [os.path.basename(path) for path in paths if os.path.isfile(path) and os.access(path, os.X_OK)]
-
-
 def inside(folder):
     """The files of a folder of the checkout, or a file itself, but for what Python leaves there."""
     if os.path.isfile(os.path.join(ends.TOP, folder)):
@@ -83,8 +77,6 @@ def inside(folder):
 def sources():
     """The files that are copied, each as it stands in the checkout."""
     yield from known(FILES)
-    for name in tools():
-        yield os.path.join("tools", name)
     for folder in FOLDERS:
         yield from known(inside(folder))
 
@@ -92,10 +84,10 @@ def sources():
 def links():
     """The links: where each stands, and what it leads to."""
     yield os.path.join("bin", "pxplanes"), os.path.join(TREE, "pxplanes")
-    for name in tools():
-        yield os.path.join("bin", "pxplanes-" + name), os.path.join(TREE, "tools", name)
+    yield os.path.join("bin", "pxplanes-rtl"), os.path.join(TREE, "rtl", "rtl")
     yield os.path.join("lib", "python3", "dist-packages", "pxplanes"), os.path.join(TREE, "python", "pxplanes")
-    yield os.path.join(MANUALS, "pxplanes.1"), os.path.join(TREE, "man", "pxplanes.1")
+    for page in PAGES:
+        yield os.path.join(MANUALS, page), os.path.join(TREE, "man", page)
     yield os.path.join("share", "doc", "pxplanes"), os.path.join(TREE, "docs")
 
 
@@ -131,10 +123,10 @@ def lay_out(prefix, built, library):
         if os.path.lexists(path):
             os.remove(path)
         os.symlink(os.path.relpath(target, os.path.dirname(name)), path)
-    for name in tools():
-        names.append(os.path.join(MANUALS, "pxplanes-%s.1" % name))
+    for word in frame.WORDS:
+        names.append(os.path.join(MANUALS, "pxplanes-%s.1" % word))
         with open(made(os.path.join(prefix, names[-1])), "w", encoding="utf-8") as file:
-            file.write(manuals.page(name, version()))
+            file.write(manuals.page(word, version()))
     return names
 
 

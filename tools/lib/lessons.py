@@ -1,9 +1,11 @@
-"""The exercises of docs/LESSON.md with their answers, and at which scene and clock the studio opens each. It is no tool itself."""
+"""The exercises of docs/LESSON.md with their answers, and at which scene and clock the studio opens each. It is no tool
+itself."""
 import os
 import re
+from typing import Any
 
-import ends
-import sessions
+from pxplanes import ends
+from pxplanes.machine import sessions
 
 LESSON, ANSWERS = (os.path.join(ends.TOP, "docs", leaf) for leaf in ("LESSON.md", "LESSON_ANSWERS.md"))
 QUESTION = re.compile(r"^\*\*Exercise (\d+)\.\*\* (.*?)(?=\n\n|\n*\Z)", re.M | re.S)
@@ -16,11 +18,11 @@ TRIANGLE = os.path.join("docs", "scenes", "triangle.scene")
 class Place:
     """Where an exercise begins: a text of the repository, a clock, what is shown of the array, and a pixel."""
 
-    def __init__(self, path, clock, view, pixel=(0, 0)):
+    def __init__(self, path: str, clock: int, view: str, pixel: tuple[int, int] = (0, 0)) -> None:
         self.path, self.clock, self.view, self.pixel = path, clock, view, pixel
 
 
-def case(name):
+def case(name: str) -> str:
     return os.path.join("cases", name, "stdin")
 
 
@@ -48,14 +50,14 @@ OWN = {"number": "", "part": "On this page alone", "question":
        "the edge itself, where the form is 0."}
 
 
-def shown(number, part, question, answer, place):
+def shown(number: int | str, part: str, question: str, answer: str, place: Place) -> dict[str, Any]:
     text = sessions.parted(ends.content(os.path.join(ends.TOP, place.path)))[0].decode("utf-8")
     name = os.path.basename(os.path.dirname(place.path)) if place.path.endswith("stdin") else os.path.basename(place.path)
     return {"number": number, "part": part, "question": question, "answer": answer, "name": name, "text": text,
             "clock": place.clock, "view": place.view, "pixel": place.pixel}
 
 
-def exercises():
+def exercises() -> list[dict[str, Any]]:
     """What the page shows of each exercise that has a place; its own one is the first."""
     lesson, answered = (ends.content(path).decode() for path in (LESSON, ANSWERS))
     answers = {int(number): re.sub(r"^   ", "", said, flags=re.M).strip() for number, said in ANSWER.findall(answered)}

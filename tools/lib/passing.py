@@ -6,9 +6,9 @@ import subprocess
 import sys
 
 import building
-import ends
+from pxplanes import ends
 import gate
-import program
+from pxplanes import program
 
 # What is installed here, by Debian.
 INSTALLED = "/var/lib/dpkg/status"

@@ -7,7 +7,7 @@ import json
 import os
 import re
 
-import ends
+from pxplanes import ends
 
 FACADE, STANDS_FOR = "facade", "StandsFor"
 MADE = os.path.join("lang", "antt", "made.json")

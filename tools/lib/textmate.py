@@ -6,7 +6,7 @@ import json
 import os
 import re
 
-from ends import TOP
+from pxplanes.ends import TOP
 
 FOLDER = os.path.join(TOP, "editors", "textmate", "syntaxes")
 

@@ -6,23 +6,19 @@ crate: they get those of the header, and the module is compiled again, to an arc
 what it says of its version tells so."""
 import os
 import re
-import shutil
-import signal
-import subprocess
 import tempfile
 import time
 
 import building
-import ends
+from pxplanes import ends
 import installing
+import making
 from building import done, in_kit
-from netpbm import Bad
+from pxplanes.errors import Trouble
 
 CRATE = "px_c"
-LINE = re.compile(r"(?m)^(\w+)(?: staticlib)?:(.*)$")
 # The module is compiled for some seconds; a look at all processes costs more than it seems.
 LOOKED_AFTER = 0.1
-PARTS = ("src", "specs", "proofs")
 # The module with checks is the one that is compiled so.
 CHECKED = b"-fsanitize=address"
 FLAGS = ("--target=x86_64-unknown-linux-gnu", "-fPIC", "-O1", "-ffunction-sections", "-fdata-sections")
@@ -71,31 +67,11 @@ def version():
     return installing.version() + "-unproved"
 
 
-def below():
-    """The crates of the library, its own among them, each with those that it names: by crates.txt."""
-    lines = {name: rest.split() for name, rest in LINE.findall(ends.content(os.path.join(ends.TOP, "crates.txt")).decode("utf-8"))}
-    found, due = {}, [CRATE]
-    while due:
-        name = due.pop()
-        if name in lines and name not in found:
-            found[name] = lines[name]
-            due += lines[name]
-    return found
-
-
 def lay_out(place):
     """Lays the crates out as a repository of a program, and answers where that crate is."""
-    crates = below()
-    for name in crates:
-        for part in PARTS:
-            whole = os.path.join(ends.TOP, "crates", name, part)
-            if os.path.isdir(whole):
-                shutil.copytree(whole, os.path.join(place, "crates", name, part))
-    with open(os.path.join(place, "crates.txt"), "w", encoding="utf-8") as file:
-        file.writelines("%s: %s\n" % (name, " ".join(named)) for name, named in crates.items())
-    shutil.copyfile(os.path.join(ends.TOP, "HANDLES"), os.path.join(place, "HANDLES"))
-    # It is the top of a repository.
-    os.mkdir(os.path.join(place, ".git"))
+    making.lay_out(place, making.with_below([CRATE]))
+    listed = os.path.join(place, "crates.txt")
+    ends.replaced(listed, ends.content(listed).replace(b" staticlib", b""))
     own = os.path.join(place, "crates", CRATE)
     become_program(own)
     return own
@@ -107,7 +83,7 @@ def become_program(own):
     text = ends.content(names).decode("utf-8")
     said = SAID % installing.version()
     if text.count(said) != 1:
-        raise Bad("crates/%s/%s does not say the version %s" % (CRATE, NAMES, installing.version()))
+        raise Trouble("crates/%s/%s does not say the version %s" % (CRATE, NAMES, installing.version()))
     with open(names, "w", encoding="utf-8") as file:
         file.write(text.replace(said, SAID % version()))
     with open(os.path.join(own, "src", "main.rt"), "w", encoding="utf-8") as file:
@@ -118,20 +94,14 @@ def become_program(own):
 def tried(own, copy):
     """Has `rt try` compile the program, and copies its module."""
     words = ["rt", "try", "--steps", "1000", "--seconds", "60"]
-    with tempfile.TemporaryFile() as notes:
-        running = subprocess.Popen(words, cwd=own, stdin=subprocess.DEVNULL, stdout=notes, stderr=notes, start_new_session=True)
-        try:
-            limit = time.monotonic() + SECONDS
-            while running.poll() is None and time.monotonic() < limit:
-                if building.copied(building.handed(running.pid, CHECKED), copy):
-                    return
-                time.sleep(LOOKED_AFTER)
-        finally:
-            if running.poll() is None:
-                os.killpg(running.pid, signal.SIGTERM)
-                running.wait()
+    with tempfile.TemporaryFile() as notes, building.started(words, cwd=own, stdout=notes, stderr=notes) as running:
+        limit = time.monotonic() + SECONDS
+        while running.poll() is None and time.monotonic() < limit:
+            if building.copied(building.handed(running.pid, CHECKED), copy):
+                return
+            time.sleep(LOOKED_AFTER)
         notes.seek(0)
-        raise Bad("rt try: %s" % notes.read().decode("utf-8", "replace").strip().split("\n")[0][:200])
+        raise Trouble("rt try: %s" % notes.read().decode("utf-8", "replace").strip().split("\n")[0][:200])
 
 
 def named(text):
@@ -139,7 +109,7 @@ def named(text):
     text = re.sub(r'(?m)^define (?!internal )', "define internal ", text)
     calls = sorted(set(re.findall(r'@"%s::\w+::(pxplanes_\w+)"' % CRATE, text)))
     if not calls:
-        raise Bad("rt try handed clang no call of the library; this is another kit than tools/lib/unproved.py tells of")
+        raise Trouble("rt try handed clang no call of the library; this is another kit than tools/lib/unproved.py tells of")
     for call in calls:
         text = re.sub(r'define internal ([^@\n]*)@"%s::\w+::%s"' % (CRATE, call), r"define \1@%s" % call, text)
         text = re.sub(r'@"%s::\w+::%s"' % (CRATE, call), "@" + call, text)

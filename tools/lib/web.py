@@ -1,19 +1,20 @@
-"""The library as a module of WebAssembly, of the very module that is compiled to the library for C. It is no tool itself.
+"""The library as a module of WebAssembly, made of the same module that is compiled to the library for C.
 
-tools/dev/build keeps that module, module.bc, which is handed to the kit's clang. Its text gets the layout and the
-features of wasm64, and the one instruction of x86 that it names becomes the same one of WebAssembly; then the kit's clang and lld
-compile and link it with web/heap.c and web/wide.c. web/README.md tells what that rests on."""
+tools/dev/build keeps that module, module.bc, which it passes to the kit's clang. Its text gets the layout and the features of wasm64,
+and its one instruction of x86 becomes the same one of WebAssembly. The kit's clang and lld compile and link it with page/library/heap.c
+and wide.c, and memory32.py gives it a 32-bit memory. page/library/README.md says what that rests on."""
 import os
 import re
 import tempfile
 
 import building
-import ends
+from pxplanes import ends
 import gate
+import memory32
 from building import done, in_kit
-from netpbm import Bad
+from pxplanes.errors import Trouble
 
-WEB = os.path.join(ends.TOP, "web")
+WEB = os.path.join(ends.TOP, "page", "library")
 TARGET = "wasm64-unknown-unknown"
 FLAGS = ["--target=" + TARGET, "-O3", "-msimd128", "-mbulk-memory", "-ffreestanding"]
 FEATURES = '"target-features"="+simd128,+bulk-memory,+sign-ext,+nontrapping-fptoint"'
@@ -25,7 +26,7 @@ HEAP_CALLS = ("px_malloc", "px_free")
 STACK, LARGEST = 1 << 20, 1 << 30
 
 
-def translated(text, layout):
+def translated(text: str, layout: str) -> str:
     """The text of a module as one for WebAssembly."""
     text = re.sub(r"(?m)^target datalayout.*$", layout, text)
     text = re.sub(r"(?m)^target triple.*$", 'target triple = "%s"' % TARGET, text)
@@ -35,15 +36,15 @@ def translated(text, layout):
         text = text.replace(own, same)
     other = sorted(set(re.findall(r"@(llvm\.x86\.[\w.]+)", text)))
     if other or " asm " in text:
-        raise Bad("the module names another instruction of x86: %s" % (", ".join(other) or "in assembly"))
+        raise Trouble("the module names another instruction of x86: %s" % (", ".join(other) or "in assembly"))
     foreign = set(re.findall(r"(?m)^declare [^@]*@([\w.]+)\(", text))
-    foreign = sorted(name for name in foreign - FOREIGN if not name.startswith("llvm."))
-    if foreign:
-        raise Bad("the module calls another foreign function: %s" % ", ".join(foreign))
+    others = sorted(name for name in foreign - FOREIGN if not name.startswith("llvm."))
+    if others:
+        raise Trouble("the module calls another foreign function: %s" % ", ".join(others))
     return text
 
 
-def compiled(module, out, place):
+def compiled(module: str, out: str, place: str) -> None:
     """Compiles a module, module.bc, and links it with the heap; `out` is the file that is made."""
     tools = in_kit("toolchain", "bin")
     clang = os.path.join(tools, "clang")
@@ -54,9 +55,11 @@ def compiled(module, out, place):
         file.write("int x;\n")
     done([clang, *FLAGS, "-S", "-emit-llvm", path("empty.c"), "-o", path("empty.ll")], "clang")
     with open(path("empty.ll")) as file:
-        layout = re.search(r"(?m)^target datalayout.*$", file.read()).group()
+        found = re.search(r"(?m)^target datalayout.*$", file.read())
+    if found is None:
+        raise Trouble("clang writes no layout of %s" % TARGET)
     with open(path("x86.ll")) as file:
-        text = translated(file.read(), layout)
+        text = translated(file.read(), found.group())
     with open(path("wasm.ll"), "w") as file:
         file.write(text)
     done([clang, *FLAGS, "-c", "-x", "ir", path("wasm.ll"), "-o", path("library.o")], "clang")
@@ -65,13 +68,14 @@ def compiled(module, out, place):
     os.symlink(os.path.join(tools, "ld.lld"), path("wasm-ld"))
     calls = sorted(set(re.findall(r"(?m)^define [^@]*@(pxplanes_\w+)\(", text)))
     if not calls:
-        raise Bad("the module has no call of the library")
+        raise Trouble("the module has no call of the library")
     exported = ["--export=" + name for name in (*calls, *HEAP_CALLS)]
     done([path("wasm-ld"), "-mwasm64", "--no-entry", "--strip-all", "--fatal-warnings", "--stack-first", "-z", "stack-size=%d" % STACK,
-          "--max-memory=%d" % LARGEST, *exported, path("library.o"), *(path(part + ".o") for part in PARTS), "-o", out], "wasm-ld")
+          "--max-memory=%d" % LARGEST, *exported, path("library.o"), *(path(part + ".o") for part in PARTS), "-o", path("wide.wasm")], "wasm-ld")
+    memory32.make(path("wide.wasm"), out, place)
 
 
-def make(out):
+def make(out: str) -> None:
     """Makes the module of WebAssembly of crates that the gate has passed."""
     gate.need_passed()
     with tempfile.TemporaryDirectory(prefix="px-web-") as place:

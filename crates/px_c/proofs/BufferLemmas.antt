@@ -8,7 +8,7 @@ use Rattle.px_model.specs.Scenes.{IsLawfulScene, SceneView}
 use Rattle.px_sched.specs.Layouts.{layout_of, need_of, number_part}
 use Rattle.px_control.specs.Program.{total}
 use Rattle.px_control.proofs.GridLaws.{covers_the_picture}
-use Rattle.px_deliver.specs.Drawn.{IsDrawn}
+use Rattle.px_frame.specs.Drawn.{IsDrawn}
 use Rattle.px_frame.specs.Picture.{face_at}
 use Rattle.px_frame.specs.Strips.{HasNumbers, HoldsRow, strip_number}
 use Rattle.px_c.specs.Buffers.{HasColour}

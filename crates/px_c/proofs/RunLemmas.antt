@@ -1,19 +1,19 @@
 -- What a command comes to, as an answer.
 use Rattle.px_num.proofs.Basics.{ℕ, ◌≡◌, ◌∙◌, inl, inr, List, [], length, Bool, true, false, Option, Some, None, Ok}
 use Rattle.px_num.proofs.Basics.{Err, refl, ap, sym, subst, if◌then◌else◌, ◌&&◌, not, nat_lt, Appends}
-use Rattle.px_command.specs.declared.command.Command.{Command}
-use Rattle.px_command.specs.declared.command.Command.TheVariants as c
+use Rattle.px_commands.specs.declared.command.Command.{Command}
+use Rattle.px_commands.specs.declared.command.Command.TheVariants as c
 use Rattle.px_prune.specs.Kept.{crowd_of}
 use Rattle.px_sched.specs.Layouts.{layout_of, need_of}
-use Rattle.px_debug_run.specs.Debugs.{admitted, all_sitting, answered, debugged, has_part, scene_part_of}
-use Rattle.px_debug_run.specs.Debugs.{scene_written, whole_sitting}
-use Rattle.px_outcome.specs.declared.refusal.Refusal.{Refusal}
-use Rattle.px_outcome.specs.declared.stop.Stop.{Stop}
-use Rattle.px_outcome.specs.declared.stop.Stop.TheVariants as s
-use Rattle.px_outcome.specs.Ends.{Ends, Input}
-use Rattle.px_outcome.specs.Outcomes.{Outcome, cut, done, output, refused, refused_past, unless_refused, usage}
-use Rattle.px_outcome.specs.Refusals.{is_long, short_of_bits, text_refusal, too_long}
-use Rattle.px_outcome.specs.Results.{Meets}
+use Rattle.px_draw.specs.Debugs.{admitted, all_sitting, answered, debugged, has_part, scene_part_of}
+use Rattle.px_draw.specs.Debugs.{scene_written, whole_sitting}
+use Rattle.px_commands.specs.declared.refusal.Refusal.{Refusal}
+use Rattle.px_commands.specs.declared.stop.Stop.{Stop}
+use Rattle.px_commands.specs.declared.stop.Stop.TheVariants as s
+use Rattle.px_commands.specs.Ends.{Ends, Input}
+use Rattle.px_commands.specs.Outcomes.{Outcome, cut, done, output, refused, refused_past, unless_refused, usage}
+use Rattle.px_commands.specs.Refusals.{is_long, short_of_bits, text_refusal, too_long}
+use Rattle.px_commands.specs.Results.{Meets}
 use Rattle.px_draw.specs.Runs.{Leaves, Performs, commanded}
 use Rattle.px_c.specs.declared.answer.Answer.{Answer}
 use Rattle.px_c.specs.Answers.{Answers}

@@ -12,7 +12,7 @@ use Rattle.px_sched.specs.Passes.{passes}
 use Rattle.px_control.specs.Program.{total}
 use Rattle.px_control.specs.declared.fault.JobFault.{JobFault}
 use Rattle.px_control.specs.declared.fault.JobFault.TheVariants as job
-use Rattle.px_deliver.specs.Refusals.{job_refusal, too_many_of}
+use Rattle.px_frame.specs.Refusals.{job_refusal, too_many_of}
 use Rattle.px_c.specs.declared.answer.Answer.{Answer}
 use Rattle.px_c.specs.declared.found.Found.{Found}
 use Rattle.px_c.specs.declared.status.TheConstants.{BITS, LIMIT, MALFORMED, MEMORY, NO_ROOM, OK}

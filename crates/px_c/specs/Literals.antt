@@ -4,7 +4,7 @@
 use Rattle.std.specs.Prelude.{ℕ, ℤ, ◌+◌, pos, neg_ℤ, List, [], ◌∷◌, ◌++◌, map}
 use Rattle.std.specs.List.{flat_map}
 use Rattle.px_normal.specs.declared.product.Product.{Product}
-use Rattle.px_sets.specs.Sets.{solids}
+use Rattle.px_normal.specs.Sets.{solids}
 
 -- a solid that cells are to lie inside
 abbrev pub plain_literal : ℕ → ℤ

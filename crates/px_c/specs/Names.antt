@@ -3,9 +3,9 @@ use Rattle.std.specs.Prelude.{◌≡◌, ℕ, ◌<◌, ◌≤◌, List, [], ◌�
 use Rattle.px_show.specs.declared.fault.Cause.TheVariants as c
 use Rattle.px_show.specs.declared.fault.LimitKind.TheVariants as k
 use Rattle.px_listing.specs.declared.limit.ListKind.TheVariants as l
-use Rattle.px_outcome.specs.declared.refusal.Kind.TheVariants as any
-use Rattle.px_outcome.specs.Notes.{kind_word}
-use Rattle.px_outcome.specs.Words.{cause_word, list_word, scene_word}
+use Rattle.px_commands.specs.declared.refusal.Kind.TheVariants as any
+use Rattle.px_commands.specs.Notes.{kind_word}
+use Rattle.px_commands.specs.Words.{cause_word, list_word, scene_word}
 
 -- the words of causes by their numbers, and no word at 0
 abbrev pub cause_names : List (List ℕ)

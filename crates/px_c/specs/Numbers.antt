@@ -6,8 +6,8 @@ use Rattle.px_show.specs.declared.fault.LimitKind.{LimitKind}
 use Rattle.px_show.specs.declared.fault.LimitKind.TheVariants as k
 use Rattle.px_listing.specs.declared.limit.ListKind.{ListKind}
 use Rattle.px_listing.specs.declared.limit.ListKind.TheVariants as l
-use Rattle.px_outcome.specs.declared.refusal.Kind.{Kind}
-use Rattle.px_outcome.specs.declared.refusal.Kind.TheVariants as any
+use Rattle.px_commands.specs.declared.refusal.Kind.{Kind}
+use Rattle.px_commands.specs.declared.refusal.Kind.TheVariants as any
 
 abbrev pub cause_number : Cause → ℕ
 cause_number c.NotHeader = 1

@@ -1,11 +1,11 @@
 -- What a run of the program's words answers. Clauses of public calls stand on it.
 use Rattle.std.specs.Prelude.{ℕ, List, length, nat_lt, if◌then◌else◌, Option}
 use Rattle.px_text.specs.Text.{words_in}
-use Rattle.px_command.specs.declared.command.Command.{Command}
-use Rattle.px_command.specs.Commands.{command_of, needs_wide_pixels}
-use Rattle.px_outcome.specs.declared.refusal.Refusal.{Refusal}
-use Rattle.px_outcome.specs.declared.refusal.Refusal.TheVariants as r
-use Rattle.px_outcome.specs.Outcomes.{Outcome, cut, done, refused, usage}
+use Rattle.px_commands.specs.declared.command.Command.{Command}
+use Rattle.px_commands.specs.Commands.{command_of, needs_wide_pixels}
+use Rattle.px_commands.specs.declared.refusal.Refusal.{Refusal}
+use Rattle.px_commands.specs.declared.refusal.Refusal.TheVariants as r
+use Rattle.px_commands.specs.Outcomes.{Outcome, cut, done, refused, usage}
 use Rattle.px_draw.specs.Runs.{commanded}
 use Rattle.px_c.specs.declared.answer.Answer.{Answer}
 use Rattle.px_c.specs.declared.status.TheConstants.{BITS, LIMIT, MALFORMED, NO_ROOM, OK, USAGE, WIDE_BITS}

@@ -2,8 +2,8 @@
 use Rattle.std.specs.Prelude.{⊤}
 use Rattle.px_num.specs.Want.{want}
 use Rattle.px_show.specs.declared.fault.TextFault.TheVariants as f
-use Rattle.px_outcome.specs.declared.stop.Stop.{Stop}
-use Rattle.px_outcome.specs.declared.stop.Stop.TheVariants as s
+use Rattle.px_commands.specs.declared.stop.Stop.{Stop}
+use Rattle.px_commands.specs.declared.stop.Stop.TheVariants as s
 use Rattle.px_c.specs.declared.answer.Answer.{Answer}
 use Rattle.px_c.specs.declared.status.TheConstants.{USAGE}
 use Rattle.px_c.specs.Answers as text

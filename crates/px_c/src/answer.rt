@@ -1,8 +1,7 @@
 //! What a call answers: its status, and what it found.
-ghost use Rattle.std.specs.Prelude.{◌≡◌, ◌≤◌, ◌^◌, ℕ};
+ghost use Rattle.std.specs.Prelude.{◌≡◌};
 ghost use Rattle.px_control.specs.declared.fault.JobFault.{JobFault};
 ghost use Rattle.px_c.specs.Answers.{refused_answer, text_fault_of};
-ghost use Rattle.px_state.specs.Refusals.{HasSmallCount};
 ghost use Rattle.px_c.specs.StateAnswers.{list_refused, state_refused};
 ghost use Rattle.px_c.specs.declared.status.TheConstants.{OK};
 
@@ -21,8 +20,8 @@ pub(crate) struct Answer {
 }
 
 impl Answer {
-    /// Writes down what was found, and gives the status.
-    pub(crate) fn give(self, found: &mut Found) -> u32
+    /// Writes down what was found, and returns the status.
+    pub(crate) fn report_to(self, found: &mut Found) -> u32
         ensures status { result ≡ self.status }
         ensures found { found.new ≡ self.found }
     {
@@ -62,7 +61,6 @@ pub(crate) fn refused(fault: SceneFault) -> Answer
 
 /// A refusal of the array, as one of the text.
 pub(crate) fn scene_fault(fault: JobFault) -> SceneFault
-    requires { (count : ℕ) → fault ≡ JobFault.Products count → count ≤ 2 ^ 21 }
     ensures { result ≡ text_fault_of fault }
 {
     match fault {
@@ -74,7 +72,7 @@ pub(crate) fn scene_fault(fault: JobFault) -> SceneFault
         JobFault::Products { count } => SceneFault::Limit {
             line: 0,
             kind: LimitKind::Products,
-            found: count as i64,
+            found: i64::from(count),
         },
         JobFault::Memory(lack) => SceneFault::Memory(lack),
     }
@@ -108,7 +106,6 @@ pub(crate) fn list_refused(fault: ListFault) -> Answer
 
 /// The answer where there is no state, or there are no micros or operations.
 pub(crate) fn state_refused(fault: StateFault) -> Answer
-    requires { HasSmallCount fault }
     ensures answer { result ≡ state_refused fault }
     ensures refused { result.status ≡ OK → ⊥ }
 {

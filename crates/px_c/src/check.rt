@@ -20,7 +20,7 @@ use std::alloc::Global;
 pub extern "C" fn pxplanes_check(alloc: Global, text: &[u8], found: &mut Found) -> u32
     ensures answer { TellsAnswer (check_answer text.now) result found.new }
 {
-    check(alloc, text).give(found)
+    check(alloc, text).report_to(found)
 }
 
 #[tactic(auto, using(crate::proofs::AnswerLemmas::refuses, crate::proofs::AnswerLemmas::accepts))]

@@ -26,7 +26,7 @@ pub extern "C" fn pxplanes_clocks(
     ensures kept { (result ≡ OK → ⊥) → words.new ≡ words.old }
     ensures length { length words.new ≡ length words.old }
 {
-    clocks_of(words, grid_width, grid_height, micros).give(found)
+    clocks_of(words, grid_width, grid_height, micros).report_to(found)
 }
 
 fn clocks_of(words: &mut [u64], grid_width: u32, grid_height: u32, micros: &[u64]) -> Answer
@@ -45,7 +45,7 @@ fn clocks_of(words: &mut [u64], grid_width: u32, grid_height: u32, micros: &[u64
     }
 }
 
-/// The same on a grid of `2^nx` by `2^ny` pixels.
+/// Makes clocks on words that hold a grid of `2^nx` by `2^ny` pixels.
 fn clocks_on(words: &mut [u64], nx: u32, ny: u32, micros: &[u64]) -> Answer
     requires grid { IsGrid nx ny }
     ensures answer { answer_on (length words.old) nx ny micros.now ≡ result }

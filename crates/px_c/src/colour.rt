@@ -33,7 +33,7 @@ pub extern "C" fn pxplanes_colour(
         rgb.old rgb.new }
     ensures kept { (result ≡ OK → ⊥) → rgb.new ≡ rgb.old }
 {
-    colour(alloc, text, rgb).give(found)
+    colour(alloc, text, rgb).report_to(found)
 }
 
 #[tactic(auto, using(crate::proofs::AnswerLemmas::refuses, crate::proofs::AnswerLemmas::accepts))]

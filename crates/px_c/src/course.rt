@@ -25,7 +25,7 @@ pub extern "C" fn pxplanes_course(
     ensures kept { (result ≡ OK → ⊥) → course.new ≡ course.old }
     ensures length { length course.new ≡ length course.old }
 {
-    course_of(alloc, text, first, course).give(found)
+    course_of(alloc, text, first, course).report_to(found)
 }
 
 #[tactic(auto, using(crate::proofs::StateLemmas::faulty, crate::proofs::StateLemmas::faultless))]

@@ -1,13 +1,13 @@
 //! The ends of a run in memory: a text that is lent, and an output that grows.
 ghost use Rattle.std.specs.Prelude.{◌≡◌, ◌<◌, Err, None, Some, [], length};
-ghost use Rattle.px_outcome.specs.Outcomes.{Outcome};
-ghost use Rattle.px_outcome.specs.Results.{HasCauses, Meets};
+ghost use Rattle.px_commands.specs.Outcomes.{Outcome};
+ghost use Rattle.px_commands.specs.Results.{HasCauses, Meets};
 ghost use Rattle.px_c.specs.RunStops.{IsCalm};
 
 use px_asked::Asks;
+use px_commands::Stop;
 use px_io::{Failed, Sink, Source};
 use px_num::Memory;
-use px_outcome::Stop;
 use std::alloc::Global;
 use std::marker::Model;
 

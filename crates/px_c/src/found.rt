@@ -5,8 +5,8 @@ ghost use Rattle.px_control.specs.Program.{total};
 ghost use Rattle.px_c.specs.Answers.{cost_found, nothing, scene_found};
 ghost use Rattle.px_c.specs.Numbers.{cause_number, kind_number, limit_number, list_number};
 
+use px_commands::Kind;
 use px_listing::ListKind;
-use px_outcome::Kind;
 use px_scene::{Cause, LimitKind, Scene};
 
 /// What a call found (include/pxplanes.h, `struct pxplanes_found`). What does not apply is 0.
@@ -65,7 +65,7 @@ pub(crate) fn scene_found(scene: &Scene) -> Found
     }
 }
 
-/// The same, with how many operations the passes of the scene have and how many clocks they take.
+/// The picture's size, its faces, how many operations the passes of the scene have, and how many clocks they take.
 pub(crate) fn cost_found(scene: &Scene, operations: u64, clocks: u64) -> Found
     requires operations { operations ≡ length (passes scene.now) }
     requires clocks { clocks ≡ total scene.now }

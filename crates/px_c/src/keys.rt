@@ -4,7 +4,7 @@ ghost use Rattle.px_array.specs.Arrays.{pixel_of};
 ghost use Rattle.px_macro.specs.Fields.{number_in};
 ghost use Rattle.px_model.specs.Scenes.{colour_in_scene, faces_of};
 ghost use Rattle.px_sched.specs.Layouts.{layout_of};
-ghost use Rattle.px_deliver.specs.Drawn.{IsDrawn};
+ghost use Rattle.px_frame.specs.Drawn.{IsDrawn};
 ghost use Rattle.px_frame.specs.Picture.{colour_at, depth_at, face_at};
 ghost use Rattle.px_frame.specs.Strips.{HasNumbers, strip_number};
 ghost use Rattle.px_c.specs.Answers.{pixels_of};

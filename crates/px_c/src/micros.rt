@@ -26,7 +26,7 @@ pub extern "C" fn pxplanes_micros(
     ensures kept { (result ≡ OK → ⊥) → micros.new ≡ micros.old }
     ensures length { length micros.new ≡ length micros.old }
 {
-    micros_of(alloc, text, first, micros).give(found)
+    micros_of(alloc, text, first, micros).report_to(found)
 }
 
 #[tactic(auto, using(crate::proofs::StateLemmas::faulty, crate::proofs::StateLemmas::faultless))]

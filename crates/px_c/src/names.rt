@@ -3,14 +3,14 @@ ghost use Rattle.std.specs.Prelude.{◌≡◌, codes};
 ghost use Rattle.px_show.specs.declared.fault.Cause.{Cause};
 ghost use Rattle.px_show.specs.declared.fault.LimitKind.{LimitKind};
 ghost use Rattle.px_listing.specs.declared.limit.ListKind.{ListKind};
-ghost use Rattle.px_outcome.specs.declared.refusal.Kind.{Kind};
-ghost use Rattle.px_outcome.specs.Notes.{kind_word};
-ghost use Rattle.px_outcome.specs.Words.{cause_word, list_word, scene_word};
+ghost use Rattle.px_commands.specs.declared.refusal.Kind.{Kind};
+ghost use Rattle.px_commands.specs.Notes.{kind_word};
+ghost use Rattle.px_commands.specs.Words.{cause_word, list_word, scene_word};
 ghost use Rattle.px_c.specs.Names.{IsWordWritten, cause_names, kind_names, word_of_number};
 ghost use Rattle.px_c.specs.Numbers.{cause_number, kind_number, limit_number, list_number};
 
+use px_commands::{cause_word, list_word, scene_word};
 use px_listing::ListKind;
-use px_outcome::{cause_word, list_word, scene_word};
 use px_scene::{Cause, LimitKind};
 
 /// Writes the word of a cause to the front of `name`, where it fits, and gives its length; 0 for a number that

@@ -34,7 +34,7 @@ pub extern "C" fn pxplanes_products(
         literals.old literals.new }
     ensures kept { (result ≡ OK → ⊥) → literals.new ≡ literals.old }
 {
-    products(alloc, text, literals).give(found)
+    products(alloc, text, literals).report_to(found)
 }
 
 #[tactic(auto, using(crate::proofs::AnswerLemmas::refuses, crate::proofs::AnswerLemmas::accepts))]

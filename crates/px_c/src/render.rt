@@ -3,7 +3,7 @@ ghost use Rattle.std.specs.Prelude.{◌≡◌, ◌<◌, ◌≤◌, IfErr, IfOk, 
 ghost use Rattle.px_scene.specs.Reading.{scene_of};
 ghost use Rattle.px_scene.specs.Text.{worded};
 ghost use Rattle.px_sched.specs.Layouts.{layout_of};
-ghost use Rattle.px_deliver.specs.Drawn.{IsDrawn};
+ghost use Rattle.px_frame.specs.Drawn.{IsDrawn};
 ghost use Rattle.px_frame.specs.Picture.{depth_at, face_at};
 ghost use Rattle.px_c.specs.Answers.{Answers, TellsAnswer, drawn_answer, pixels_of, render_answer};
 ghost use Rattle.px_c.specs.Buffers.{HoldsNumbers};
@@ -14,7 +14,7 @@ use crate::check::found_in;
 use crate::found::{Found, cost_found};
 use crate::keys::{pixels_of, write_keys};
 use crate::status::{BITS, NO_ROOM, OK};
-use px_deliver::{draw_job, open_job};
+use px_frame::{draw_job, open_job};
 use px_planes::PlaneArray;
 use px_scene::{Scene, read_scene};
 use px_sched::Layout;
@@ -42,7 +42,7 @@ pub extern "C" fn pxplanes_render(
         faces.old faces.new }
     ensures kept { (result ≡ OK → ⊥) → (depths.new ≡ depths.old) × (faces.new ≡ faces.old) }
 {
-    render(alloc, text, depths, faces).give(found)
+    render(alloc, text, depths, faces).report_to(found)
 }
 
 #[tactic(auto, using(crate::proofs::AnswerLemmas::refuses, crate::proofs::AnswerLemmas::accepts))]

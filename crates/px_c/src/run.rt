@@ -1,9 +1,9 @@
 //! `pxplanes_run`: what the program writes for its words, and why it does not.
 ghost use Rattle.std.specs.Prelude.{◌≡◌, ◌≤◌, Err, IfErr, IfOk, IfSome, length};
 ghost use Rattle.px_text.specs.Text.{words_in};
-ghost use Rattle.px_command.specs.Commands.{HasLawfulNumbers, command_of};
-ghost use Rattle.px_outcome.specs.Outcomes.{done, output};
-ghost use Rattle.px_outcome.specs.Results.{Meets};
+ghost use Rattle.px_commands.specs.Commands.{HasLawfulNumbers, command_of};
+ghost use Rattle.px_commands.specs.Outcomes.{done, output};
+ghost use Rattle.px_commands.specs.Results.{Meets};
 ghost use Rattle.px_draw.specs.Runs.{commanded};
 ghost use Rattle.px_c.specs.Answers.{Answers, TellsAnswer};
 ghost use Rattle.px_c.specs.Buffers.{HoldsBytes};
@@ -15,9 +15,8 @@ use crate::answer::{Answer, refused};
 use crate::ends::{Lent, Output};
 use crate::found::{Found, cause_number, limit_number, nothing};
 use crate::status::{BITS, LIMIT, MALFORMED, NO_ROOM, OK, USAGE, WIDE_BITS};
-use px_command::{Command, command_in};
+use px_commands::{Command, Refusal, Stop, command_in};
 use px_draw::perform;
-use px_outcome::{Refusal, Stop};
 use px_planes::PlaneArray;
 use px_scene::SceneFault;
 use std::alloc::Global;
@@ -38,10 +37,10 @@ pub extern "C" fn pxplanes_run(
     ensures output { result ≡ OK → HoldsBytes (output (run_outcome text.now words.now)) out.old out.new }
     ensures kept { (result ≡ OK → ⊥) → out.new ≡ out.old }
 {
-    run_command(alloc, text, command_in(words), out).give(found)
+    run_command(alloc, text, command_in(words), out).report_to(found)
 }
 
-/// The same by the command that the words name.
+/// Does what a command asks with a text, and writes its output to the front of `out`.
 #[tactic(auto, using(crate::proofs::RunLemmas::answers_done, crate::proofs::RunLemmas::answers_stop))]
 fn run_command(alloc: Global, text: &[u8], command: Option<Command>, out: &mut [u8]) -> Answer
     requires lawful { IfSome command HasLawfulNumbers }
@@ -68,7 +67,7 @@ fn output_of(alloc: Global, text: &[u8], command: Option<Command>) -> Result<Vec
     }
 }
 
-/// The same on a new array with N bits a pixel.
+/// What a command writes for a text, on a new array with N bits a pixel.
 #[tactic(auto, using(crate::proofs::RunLemmas::comes_not))]
 fn output_on<const N: usize>(
     alloc: Global,

@@ -66,7 +66,7 @@ pub extern "C" fn pxplanes_state(
 {
     let (answer, standing) = state_of(alloc, text, clock, words);
     *state = standing;
-    answer.give(found)
+    answer.report_to(found)
 }
 
 /// The machine after so many clocks of a text, and what is answered.

@@ -1,5 +1,7 @@
 //! How a call ends. The numbers are those of include/pxplanes.h, and of the program where it has them.
 
+use px_commands::{PIXEL_BITS, WIDE_PIXEL_BITS};
+
 /// What was asked is in the buffers.
 pub const OK: u32 = 0;
 
@@ -31,7 +33,7 @@ pub const NO_MICRO: u32 = 11;
 pub const NO_OPERATION: u32 = 12;
 
 /// The memory bits of a pixel of the array that draws, as of the program's own but for `shadow`.
-pub const BITS: usize = 72;
+pub const BITS: usize = PIXEL_BITS;
 
 /// Those of the array that finds shadows.
-pub const WIDE_BITS: usize = 80;
+pub const WIDE_BITS: usize = WIDE_PIXEL_BITS;

@@ -14,7 +14,7 @@ use Rattle.px_face.specs.Faces.{face_count, level}
 use Rattle.px_normal.proofs.NormalLemmas.{all_below}
 use Rattle.px_prune.specs.Bounding.{bounding_box}
 use Rattle.px_prune.proofs.StayingLemmas.{kept_below}
-use Rattle.px_sets.proofs.SolidsLaws.{solids_laws}
+use Rattle.px_normal.proofs.SolidsLaws.{solids_laws}
 use Rattle.px_control.proofs.CostLemmas.{blind, total_is}
 use Rattle.px_control.proofs.ProductLemmas.{literals_few, product_sum}
 use Rattle.px_normal.specs.declared.product.TheConstants.{MAX_PRODUCTS}

@@ -10,8 +10,8 @@ use Rattle.px_control.proofs.Words.{other_false, others, own_worth, Product, pro
 use Rattle.px_control.proofs.Words.{shares_worth, SolidView, Step, steps_sum, steps_with, sum_by-agree}
 use Rattle.std.proofs.lemmas.List.Filters.{sum_by-filter_both}
 use Rattle.std.proofs.lemmas.List.Sums.{sum_by-drop_more, sum_by_push}
-use Rattle.px_sets.specs.declared.set.SolidSet.{SolidSet}
-use Rattle.px_sets.specs.Sets.{below, has, solids}
+use Rattle.px_normal.specs.declared.set.SolidSet.{SolidSet}
+use Rattle.px_normal.specs.Sets.{below, has, solids}
 use Rattle.px_sched.proofs.MemberLaws.{In, any_in}
 use Rattle.px_sched.proofs.ProductLaws.{each_literal, in_solids, in_solids_of}
 

@@ -1,5 +1,5 @@
 //! What drawing a scene takes: the memory bits of a pixel, and the products that are drawn.
-ghost use Rattle.std.specs.Prelude.{◌≡◌, ◌^◌, ◌<◌, ◌≤◌, ℕ, nat_lt, Err, IfErr, IfOk, None, OnOk, Some, length};
+ghost use Rattle.std.specs.Prelude.{◌≡◌, ◌<◌, ◌≤◌, ℕ, nat_lt, Err, IfErr, IfOk, None, OnOk, Some, length};
 ghost use Rattle.px_num.specs.Want.{want};
 ghost use Rattle.px_prune.specs.Kept.{crowd_of, plan_of};
 ghost use Rattle.px_sched.specs.Layouts.{layout_of, need_of};
@@ -27,8 +27,7 @@ pub fn drawing_of(alloc: Global, scene: &Scene, bits: u32) -> Result<(Layout, Pl
         (bits < need_of (layout_of scene.now)) × (need ≡ need_of (layout_of scene.now)) }
     ensures lawful { OnOk result (crowd_of scene.now ≡ None) }
     ensures many { (count : ℕ) → result ≡ Err (JobFault.Products count) →
-        (need_of (layout_of scene.now) ≤ bits)
-        × (crowd_of scene.now ≡ Some count) × (count ≤ 2 ^ 21) }
+        (need_of (layout_of scene.now) ≤ bits) × (crowd_of scene.now ≡ Some count) }
     ensures memory { need_of (layout_of scene.now) ≤ bits → crowd_of scene.now ≡ None →
         IfErr result (λ fault. fault ≡ JobFault.Memory want) }
 {

@@ -15,8 +15,8 @@ pub enum JobFault {
     /// A list of live products that is wanted is too long (docs/SCENES.md, "Limits").
     #[error("{count} products")]
     Products {
-        /// How many it has, at most `2^21`.
-        count: u64,
+        /// How many it has.
+        count: u32,
     },
     /// Memory was wanted and not given.
     #[error("out of memory")]

@@ -77,8 +77,7 @@ impl<'s> Job<'s> {
             (A.BITS < need_of (layout_of scene.now)) × (need ≡ need_of (layout_of scene.now)) }
         ensures lawful { IfOk result (λ job. crowd_of scene.now ≡ None) }
         ensures many { (count : ℕ) → result ≡ Err (JobFault.Products count) →
-            (need_of (layout_of scene.now) ≤ A.BITS)
-            × (crowd_of scene.now ≡ Some count) × (count ≤ 2 ^ 21) }
+            (need_of (layout_of scene.now) ≤ A.BITS) × (crowd_of scene.now ≡ Some count) }
         ensures memory { need_of (layout_of scene.now) ≤ A.BITS → crowd_of scene.now ≡ None →
             IfErr result (λ fault. fault ≡ JobFault.Memory want) }
         ensures array { IfErr result (λ fault.

@@ -66,8 +66,7 @@ impl<'s> Program<'s> {
             (bits < need_of (layout_of scene.now)) × (need ≡ need_of (layout_of scene.now)) }
         ensures lawful { IfOk result (λ program. crowd_of scene.now ≡ None) }
         ensures many { (count : ℕ) → result ≡ Err (JobFault.Products count) →
-            (need_of (layout_of scene.now) ≤ bits)
-            × (crowd_of scene.now ≡ Some count) × (count ≤ 2 ^ 21) }
+            (need_of (layout_of scene.now) ≤ bits) × (crowd_of scene.now ≡ Some count) }
         ensures memory { need_of (layout_of scene.now) ≤ bits → crowd_of scene.now ≡ None →
             IfErr result (λ fault. fault ≡ JobFault.Memory want) }
     {

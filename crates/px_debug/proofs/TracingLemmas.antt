@@ -1,7 +1,7 @@
 -- The trace that a session shows, of the last broadcasts before its clock.
 use Rattle.px_num.proofs.Basics.{◌≡◌, ℕ, ◌-◌, ◌≤◌, length, length-drop, min, take, refl, arith}
 use Rattle.px_debug.proofs.Words.{Buffer, buffer, length-take, Micro, program, SceneView, total, trace_text}
-use Rattle.px_debug_text.specs.Lines.{trace_lines}
+use Rattle.px_debug.specs.Lines.{trace_lines}
 use Rattle.px_debug.specs.Marks.{last_before}
 
 -- the broadcasts before a clock are 32, or all of them

@@ -6,10 +6,10 @@ use Rattle.px_array.specs.Arrays.{State}
 use Rattle.px_model.specs.Scenes.{SceneView}
 use Rattle.px_sched.specs.Layouts.{layout_of}
 use Rattle.px_control.specs.Program.{array_after, micro_at_clock, operation_at, program, total}
-use Rattle.px_debug_text.specs.Lines.{field_line, is_node, is_pixel, now_line, pixel_line, trace_lines}
-use Rattle.px_debug_text.specs.Lines.{tree_line, unknown_line}
-use Rattle.px_debug_text.specs.declared.command.Command.{Command}
-use Rattle.px_debug_text.specs.declared.command.Command.TheVariants as c
+use Rattle.px_debug.specs.Lines.{field_line, is_node, is_pixel, now_line, pixel_line, trace_lines}
+use Rattle.px_debug.specs.Lines.{tree_line, unknown_line}
+use Rattle.px_debug.specs.declared.command.Command.{Command}
+use Rattle.px_debug.specs.declared.command.Command.TheVariants as c
 
 -- where the session stands: the operation and the micro of the next broadcast
 abbrev pub place_line : SceneView → (now : ℕ) → List ℕ

@@ -1,6 +1,7 @@
 pub use Rattle.px_control.specs.Program
-pub use Rattle.px_debug_text.specs.Commands
 pub mod Answers
+pub mod Commands
 pub mod Courses
+pub mod Lines
 pub mod Marks
 pub mod Moves

@@ -4,8 +4,8 @@ use Rattle.std.specs.Prelude.{IfSome, List, [], ◌∷◌, Some}
 use Rattle.px_array.specs.Slots.{ArrayView, slot_of}
 use Rattle.px_model.specs.Scenes.{SceneView}
 use Rattle.px_control.specs.Program.{IsAt, array_after, ends_after, total}
-use Rattle.px_debug_text.specs.declared.command.Command.{Command}
-use Rattle.px_debug_text.specs.declared.command.Command.TheVariants as c
+use Rattle.px_debug.specs.declared.command.Command.{Command}
+use Rattle.px_debug.specs.declared.command.Command.TheVariants as c
 use Rattle.px_debug.specs.declared.session.Going.{Going}
 use Rattle.px_debug.specs.declared.session.Going.TheVariants as g
 

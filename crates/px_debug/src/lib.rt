@@ -1,9 +1,17 @@
 //! A debugger: it steps through the broadcasts of a scene, forwards and back, and shows the machine.
 #![tactic(auto)]
 
+mod command;
 mod course;
+mod machine_text;
 mod moves;
 mod place_text;
 mod session;
+mod text;
+mod trace;
 
+pub use command::{Command, command_of};
+pub use machine_text::{field_answer, pixel_answer, tree_answer};
 pub use session::{Going, Session};
+pub use text::{Text, number_line, unknown_line};
+pub use trace::trace_text;

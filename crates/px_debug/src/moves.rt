@@ -5,9 +5,9 @@ ghost use Rattle.px_debug.specs.Courses.{IsOnCourse, IsSameCourse, IsTraced};
 ghost use Rattle.px_debug.specs.Moves.{after_ends, back_clocks, most_clocks, moved, quarter_of};
 ghost use Rattle.px_control.specs.Program.{ends_after};
 
+use crate::command::Command;
 use crate::course::Course;
 use px_asm::Operating;
-use px_debug_text::Command;
 
 impl<'s> Course<'s> {
     /// Goes where a command leads.

@@ -2,10 +2,10 @@
 ghost use Rattle.std.specs.Prelude.{◌≡◌, ◌<◌};
 ghost use Rattle.px_debug.specs.Answers.{place_line};
 
+use crate::text::Text;
 use arrayvec::ArrayString;
 use itoa::Buffer;
 use px_control::Job;
-use px_debug_text::Text;
 
 /// Where a job stands, in words.
 pub(crate) fn place_line(job: &Job<'_>) -> Text

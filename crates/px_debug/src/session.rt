@@ -5,19 +5,19 @@ ghost use Rattle.px_io.specs.Told.{TakesAll, TakesFront};
 ghost use Rattle.px_array.specs.Slots.{after_save, no_slots};
 ghost use Rattle.px_control.specs.Program.{IsAt};
 ghost use Rattle.px_debug.specs.Answers.{answer, answer_in};
-ghost use Rattle.px_debug_text.specs.Commands.{line_command};
+ghost use Rattle.px_debug.specs.Commands.{line_command};
 ghost use Rattle.px_debug.specs.Moves.{Fits, SessionView, going, most_clocks, moved};
 
+use crate::command::{Command, command_of};
 use crate::course::Course;
+use crate::machine_text::{field_answer, pixel_answer, tree_answer};
 use crate::place_text::place_line;
+use crate::text::{Text, number_line, unknown_line};
+use crate::trace::trace_text;
 use circular_buffer::HeapCircularBuffer;
 use px_array::Array;
 use px_asm::Operating;
 use px_control::{Job, law_of_grids, law_of_sizes};
-use px_debug_text::{
-    Command, Text, command_of, field_answer, number_line, pixel_answer, trace_text, tree_answer,
-    unknown_line,
-};
 use px_io::{Failed, Sink, write_whole};
 use px_num::Memory;
 use std::alloc::Global;

@@ -18,12 +18,12 @@ use Rattle.px_playing.proofs.PassesLemmas.{passes_read_back, show_the_picture}
 use Rattle.px_playing.specs.Played.{HasPlayed}
 use Rattle.px_listing.specs.Reading.{listing_refusal_of, ListFault}
 use Rattle.px_listing.specs.RoundTrip.{IsReadAsListing}
-use Rattle.px_outcome.specs.declared.refusal.Refusal.{Refusal}
+use Rattle.px_commands.specs.declared.refusal.Refusal.{Refusal}
 use Rattle.px_draw.specs.ListedScenes.{DoneShowsThePicture, IsListed, ListedPassesArePlayed, ListedPassesShowThePicture}
-use Rattle.px_play_run.specs.Listings.{list_refusal, list_refusal_by, listing_written}
-use Rattle.px_outcome.specs.Outcomes.{Outcome, done, refused, refused_past, unless_refused}
-use Rattle.px_outcome.specs.Refusals.{short_of_bits, too_long}
-use Rattle.px_outcome.proofs.LimitLaws.{at_most}
+use Rattle.px_draw.specs.Listings.{list_refusal, list_refusal_by, listing_written}
+use Rattle.px_commands.specs.Outcomes.{Outcome, done, refused, refused_past, unless_refused}
+use Rattle.px_commands.specs.Refusals.{short_of_bits, too_long}
+use Rattle.px_commands.proofs.LimitLaws.{at_most}
 use Rattle.px_show.specs.declared.fault.TextFault.TheVariants as f
 
 -- an outcome that is done passed the limits of a scene

@@ -2,12 +2,12 @@
 use Rattle.px_num.proofs.Basics.{arith, ℕ, ◌≡◌, ◌++◌, List, [], Some, None, append-nil, nat_tests, common_steps}
 use Rattle.px_num.specs.Want.{want}
 use Rattle.px_model.specs.Scenes.{SceneView}
-use Rattle.px_deliver.specs.PictureLaw.{TextsHavePictures}
-use Rattle.px_deliver.specs.Refusals.{job_refusal}
+use Rattle.px_frame.specs.PictureLaw.{TextsHavePictures}
+use Rattle.px_frame.specs.Refusals.{job_refusal}
 use Rattle.px_frame.specs.Picture.{depth_image, face_image}
 use Rattle.px_show.proofs.JudgedLaws.{not_memory}
 use Rattle.px_scene.specs.Reading.{refusal_of}
-use Rattle.px_outcome.specs.Outcomes.{Outcome, done, drawable}
+use Rattle.px_commands.specs.Outcomes.{Outcome, done, drawable}
 use Rattle.px_draw.specs.RenderLaw.{AcceptedIsRendered, RenderedIsAccepted}
 use Rattle.px_show.specs.declared.fault.TextFault.TheVariants as s
 

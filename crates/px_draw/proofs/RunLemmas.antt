@@ -2,21 +2,21 @@
 use Rattle.px_num.proofs.Basics.{arith, ℕ, ◌≡◌, List, [], Option, Some, None, Ok, Err, refl, subst, Result, sym}
 use Rattle.px_io.proofs.ToldLaws.{consumes_none, stays}
 use Rattle.px_io.specs.Told.{SinkState}
-use Rattle.px_command.specs.declared.command.Command.{Command}
-use Rattle.px_outcome.specs.declared.stop.Stop.{Stop}
-use Rattle.px_outcome.specs.declared.status.Status.{Status}
-use Rattle.px_command.specs.Commands.{command_of}
-use Rattle.px_outcome.specs.Ends.{Ends, with_notes}
-use Rattle.px_outcome.specs.Notes.{IsTold, note_of}
-use Rattle.px_outcome.specs.Results.{HasCauses, status_of, status_in}
+use Rattle.px_commands.specs.declared.command.Command.{Command}
+use Rattle.px_commands.specs.declared.stop.Stop.{Stop}
+use Rattle.px_commands.specs.declared.status.Status.{Status}
+use Rattle.px_commands.specs.Commands.{command_of}
+use Rattle.px_commands.specs.Ends.{Ends, with_notes}
+use Rattle.px_commands.specs.Notes.{IsTold, note_of}
+use Rattle.px_commands.specs.Results.{HasCauses, status_of, status_in}
 use Rattle.px_draw.specs.Runs.{IsRunOf, Leaves, Performs, commanded}
-use Rattle.px_outcome.proofs.RunLaws.{performs_over, still}
-use Rattle.px_outcome.specs.Arrays.{Draws}
+use Rattle.px_commands.proofs.RunLaws.{performs_over, still}
+use Rattle.px_commands.specs.Arrays.{Draws}
 use Rattle.px_sample.specs.Samples.{sample_scene, sampled}
-use Rattle.px_outcome.specs.Stops.{DoesWork}
-use Rattle.px_outcome.specs.declared.stop.Stop.TheVariants as s
-use Rattle.px_outcome.specs.declared.status.Status.TheVariants as status
-use Rattle.px_command.specs.declared.command.Command.TheVariants as c
+use Rattle.px_commands.specs.Stops.{DoesWork}
+use Rattle.px_commands.specs.declared.stop.Stop.TheVariants as s
+use Rattle.px_commands.specs.declared.status.Status.TheVariants as status
+use Rattle.px_commands.specs.declared.command.Command.TheVariants as c
 
 -- a run that did its work tells nothing
 pub run_done : (words : List (List ℕ)) (bits : ℕ) (u : Unit {0}) (before after : Ends) (notes : SinkState)

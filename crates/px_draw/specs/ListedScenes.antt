@@ -8,9 +8,9 @@ use Rattle.px_playing.specs.Memories.{played_text}
 use Rattle.px_playing.specs.PassesText.{passes_listing}
 use Rattle.px_sched.specs.Layouts.{layout_of}
 use Rattle.px_sched.specs.PassesLaw.{ShowsThePicture}
-use Rattle.px_play_run.specs.Listings.{IsPlayed, listing_written, played_out}
-use Rattle.px_work_run.specs.Works.{listed}
-use Rattle.px_outcome.specs.Outcomes.{done}
+use Rattle.px_draw.specs.Listings.{IsPlayed, listing_written, played_out}
+use Rattle.px_draw.specs.Works.{listed}
+use Rattle.px_commands.specs.Outcomes.{done}
 
 -- a text that `list` answers for a scene, as every scene that is read is one, on an array with pixels of so many bits
 pub record IsListed (bits : ℕ) (scene : SceneView) (text : List ℕ) : Type 0 where

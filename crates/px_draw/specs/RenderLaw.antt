@@ -2,9 +2,9 @@
 use Rattle.std.specs.Prelude.{ℕ, ◌≡◌, List, [], ◌∷◌, None, codes}
 use Rattle.px_scene.specs.Text.{worded}
 use Rattle.px_scene.specs.Reading.{refusal_of, scene_of}
-use Rattle.px_deliver.specs.PictureLaw.{AreMapsOf}
-use Rattle.px_deliver.specs.Refusals.{job_refusal}
-use Rattle.px_outcome.specs.Outcomes.{done}
+use Rattle.px_frame.specs.PictureLaw.{AreMapsOf}
+use Rattle.px_frame.specs.Refusals.{job_refusal}
+use Rattle.px_commands.specs.Outcomes.{done}
 use Rattle.px_draw.specs.Runs.{outcome}
 
 -- it writes nothing for any other text

@@ -1,24 +1,24 @@
 -- What a run answers, writes and leaves. Clauses of public calls stand on it.
 use Rattle.std.specs.Prelude.{ℕ, ◌≡◌, ◌≢◌, List, Option, Some, None, Result, Err}
 use Rattle.px_io.specs.Told.{ConsumesAtMost}
-use Rattle.px_command.specs.declared.command.Command.{Command}
-use Rattle.px_command.specs.declared.command.Command.TheVariants as c
-use Rattle.px_command.specs.Commands.{command_of}
-use Rattle.px_outcome.specs.declared.refusal.TheConstants.{READ_LIMIT}
-use Rattle.px_outcome.specs.declared.stop.Stop.{Stop}
-use Rattle.px_outcome.specs.declared.stop.Stop.TheVariants as s
-use Rattle.px_outcome.specs.declared.status.Status.{Status}
-use Rattle.px_outcome.specs.Arrays.{Draws}
-use Rattle.px_outcome.specs.Ends.{AllEnds, Ends, Input, IsUntouched}
-use Rattle.px_outcome.specs.Inputs.{PerformsOver, TookText, WritesAndLeaves}
-use Rattle.px_outcome.specs.Notes.{IsNoted}
-use Rattle.px_outcome.specs.Outcomes.{Outcome, usage}
-use Rattle.px_outcome.specs.Results.{HasCauses, status_in}
-use Rattle.px_work_run.specs.Works.{LeavesWork, worked_out}
-use Rattle.px_debug_run.specs.Debugs.{LeavesSession, debugged}
+use Rattle.px_commands.specs.declared.command.Command.{Command}
+use Rattle.px_commands.specs.declared.command.Command.TheVariants as c
+use Rattle.px_commands.specs.Commands.{command_of}
+use Rattle.px_commands.specs.declared.refusal.TheConstants.{READ_LIMIT}
+use Rattle.px_commands.specs.declared.stop.Stop.{Stop}
+use Rattle.px_commands.specs.declared.stop.Stop.TheVariants as s
+use Rattle.px_commands.specs.declared.status.Status.{Status}
+use Rattle.px_commands.specs.Arrays.{Draws}
+use Rattle.px_commands.specs.Ends.{AllEnds, Ends, Input, IsUntouched}
+use Rattle.px_commands.specs.Inputs.{PerformsOver, TookText, WritesAndLeaves}
+use Rattle.px_commands.specs.Notes.{IsNoted}
+use Rattle.px_commands.specs.Outcomes.{Outcome, usage}
+use Rattle.px_commands.specs.Results.{HasCauses, status_in}
+use Rattle.px_draw.specs.Works.{LeavesWork, worked_out}
+use Rattle.px_draw.specs.Debugs.{LeavesSession, debugged}
 use Rattle.px_shadow.specs.Shadows.{LeavesShadows, shadowed}
 use Rattle.px_sample.specs.Samples.{sample_scene, sampled}
-use Rattle.px_play_run.specs.Listings.{LeavesPlayed, played_out}
+use Rattle.px_draw.specs.Listings.{LeavesPlayed, played_out}
 
 -- what a command answers, where these are the bytes of its input
 abbrev pub commanded : Option Command → (bytes : List ℕ) → (bits : ℕ) → Outcome

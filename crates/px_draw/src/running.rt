@@ -1,24 +1,23 @@
 //! The program as a function of its words, its input and its outputs.
 ghost use Rattle.std.specs.Prelude.{◌≡◌, ◌↔◌, ◌≤◌, Err, IfSome, map, string_bytes, None, Some};
-ghost use Rattle.px_outcome.specs.declared.stop.Stop.{Stop};
-ghost use Rattle.px_outcome.specs.declared.status.Status.{Status};
-ghost use Rattle.px_command.specs.Commands.{HasLawfulNumbers, command_of};
-ghost use Rattle.px_command.specs.declared.command.Command.{Command};
-ghost use Rattle.px_debug_run.specs.Askings.{AnswersInTime};
-ghost use Rattle.px_outcome.specs.Ends.{ends, with_notes};
-ghost use Rattle.px_outcome.specs.Results.{HasCauses, status_in};
+ghost use Rattle.px_commands.specs.declared.stop.Stop.{Stop};
+ghost use Rattle.px_commands.specs.declared.status.Status.{Status};
+ghost use Rattle.px_commands.specs.Commands.{HasLawfulNumbers, command_of};
+ghost use Rattle.px_commands.specs.declared.command.Command.{Command};
+ghost use Rattle.px_draw.specs.Askings.{AnswersInTime};
+ghost use Rattle.px_commands.specs.Ends.{ends, with_notes};
+ghost use Rattle.px_commands.specs.Results.{HasCauses, status_in};
 ghost use Rattle.px_draw.specs.Runs.{IsRunOf, Performs, Took};
 
+use crate::debug::debug_input;
+use crate::make::make_of_input;
+use crate::play::play_input;
 use px_asked::Asks;
 use px_asm::Operating;
-use px_command::{Command, command_of};
-use px_debug_run::debug_input;
+use px_commands::{Command, Status, Stop, command_of, line_of, tell};
 use px_io::Sink;
-use px_outcome::{Status, Stop, line_of, tell};
-use px_play_run::play_input;
 use px_sample::draw_sample;
 use px_shadow::shadow_input;
-use px_work_run::make_of_input;
 use std::alloc::Global;
 
 /// Does what the words ask with the scene that the input writes (docs/SCENES.md).

@@ -1,7 +1,7 @@
 -- Why a text has no picture. Clauses of public calls stand on it.
 use Rattle.std.specs.Prelude.{ℕ, List, Option, Some, None}
 use Rattle.px_control.specs.declared.fault.JobFault.{JobFault}
-use Rattle.px_deliver.specs.Refusals.{job_refusal}
+use Rattle.px_frame.specs.Refusals.{job_refusal}
 use Rattle.px_show.specs.Judged.{SceneFault}
 use Rattle.px_scene.specs.Reading.{refusal_of, scene_of}
 use Rattle.px_scene.specs.Text.{worded}

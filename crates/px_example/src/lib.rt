@@ -10,7 +10,7 @@ ghost use Rattle.px_scene.specs.Reading.{refusal_of, scene_of};
 ghost use Rattle.px_scene.specs.Text.{worded};
 
 use px_control::JobFault;
-use px_deliver::{deliver, open_job};
+use px_frame::{deliver, open_job};
 use px_io::MemSink;
 use px_planes::PlaneArray;
 use px_scene::{Scene, SceneFault, read_scene};

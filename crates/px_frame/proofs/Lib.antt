@@ -1,5 +1,12 @@
+pub mod DrawnImageLemmas
 pub mod FaceLemmas
+pub mod FinerLemmas
 pub mod ImageLemmas
+pub mod MeanLemmas
+pub mod MeanSumLaws
+pub mod PictureLemmas
+pub mod RefusalLemmas
 pub mod RowLaws
+pub mod ScaleLemmas
 pub mod StripLemmas
 pub mod Words

@@ -1,9 +1,15 @@
+pub mod BitsLaws
+pub mod BoxLaws
 pub mod BuildingLemmas
+pub mod CountingLemmas
 pub mod CrossedLemmas
 pub mod CrowdLemmas
+pub mod EndLemmas
 pub mod KeptLemmas
 pub mod LengthLaws
 pub mod LiveLemmas
+pub mod MeetsLaws
 pub mod NormalLemmas
 pub mod ShorterLemmas
+pub mod SolidsLaws
 pub mod Words

@@ -7,11 +7,11 @@ use Rattle.px_normal.proofs.Words.{Combination, combination_of, combined_forms, 
 use Rattle.px_normal.proofs.Words.{has-joined, has_some_cell, holds, is_void, live, not_both, not_false, Op, or_left}
 use Rattle.px_normal.proofs.Words.{or_right, Product, Sense, sets_joined, shows, solids, SolidSet, sum_in, sum_when}
 use Rattle.std.proofs.lemmas.Map.Views.{any-filter_same}
-use Rattle.px_sets.specs.Boxes.{lies_in, has_cell, common_part, everything, narrowed, is_in_box}
+use Rattle.px_normal.specs.Boxes.{lies_in, has_cell, common_part, everything, narrowed, is_in_box}
 use Rattle.px_normal.specs.Live.{is_live}
 use Rattle.px_normal.specs.LiveLaw.{IsPlaceInBoxes, ShowTheSame}
-use Rattle.px_sets.proofs.BoxLaws.{in_everything, in_narrowed}
-use Rattle.px_sets.proofs.MeetsLaws.{no_void}
+use Rattle.px_normal.proofs.BoxLaws.{in_everything, in_narrowed}
+use Rattle.px_normal.proofs.MeetsLaws.{no_void}
 
 and_mono : {a b c d : Bool} → (a ≡ true → c ≡ true) → (b ≡ true → d ≡ true) → a && b ≡ true → c && d ≡ true
 and_mono {a = a} {b = b} first second e = rw (first (and_left a b e), second (and_right a b e)) refl

@@ -22,8 +22,8 @@ pub use Rattle.px_normal.specs.declared.product.TheConstants.{MAX_PRODUCTS}
 pub use Rattle.px_normal.specs.declared.step.Step.{Step}
 pub use Rattle.px_normal.specs.declared.step.Wanted.{Wanted}
 pub use Rattle.px_num.proofs.TruthLaws.{and_left, and_right, not_both, not_false, or_cases, or_left, or_right, or_true}
-pub use Rattle.px_sets.proofs.BitsLaws.{has-empty, has-joined, has-one}
-pub use Rattle.px_sets.proofs.SolidsLaws.{all-each, all-empty, all-joined, all-one, any-empty, any-joined, any-one}
-pub use Rattle.px_sets.specs.Sets.{empty, has, IsBelow, one, sets_joined, solids}
-pub use Rattle.px_sets.specs.declared.cell_box.CellBox.{CellBox}
-pub use Rattle.px_sets.specs.declared.set.SolidSet.{SolidSet}
+pub use Rattle.px_normal.proofs.BitsLaws.{has-empty, has-joined, has-one}
+pub use Rattle.px_normal.proofs.SolidsLaws.{all-each, all-empty, all-joined, all-one, any-empty, any-joined, any-one}
+pub use Rattle.px_normal.specs.Sets.{empty, has, IsBelow, one, sets_joined, solids}
+pub use Rattle.px_normal.specs.declared.cell_box.CellBox.{CellBox}
+pub use Rattle.px_normal.specs.declared.set.SolidSet.{SolidSet}

@@ -5,7 +5,7 @@ use Rattle.px_expr.specs.Shapes.{node_shape, joined}
 use Rattle.px_expr.specs.declared.node.Node.{Node}
 use Rattle.px_expr.specs.declared.node.Shape.{Shape}
 use Rattle.px_expr.specs.declared.node.Shape.TheVariants as p
-use Rattle.px_sets.specs.declared.cell_box.CellBox.{CellBox}
+use Rattle.px_normal.specs.declared.cell_box.CellBox.{CellBox}
 use Rattle.px_normal.specs.declared.product.Product.{Product}
 use Rattle.px_normal.specs.declared.step.Step.{Step}
 use Rattle.px_normal.specs.declared.step.Step.TheVariants as s

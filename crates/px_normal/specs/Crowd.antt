@@ -9,7 +9,7 @@ use Rattle.px_expr.specs.declared.node.Sense.{Sense}
 use Rattle.px_expr.specs.declared.node.Sense.TheVariants.{Plain, Complement}
 use Rattle.px_expr.specs.declared.node.Combination.{Combination}
 use Rattle.px_expr.specs.declared.node.Combination.TheVariants.{Both, Either, EitherWay}
-use Rattle.px_sets.specs.declared.cell_box.CellBox.{CellBox}
+use Rattle.px_normal.specs.declared.cell_box.CellBox.{CellBox}
 use Rattle.px_normal.specs.declared.product.Product.{Product}
 use Rattle.px_normal.specs.declared.step.Wanted.{Wanted}
 use Rattle.px_normal.specs.declared.product.TheConstants.{MAX_PRODUCTS}

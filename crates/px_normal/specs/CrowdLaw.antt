@@ -3,7 +3,7 @@
 use Rattle.std.specs.Prelude.{ℕ, ◌≡◌, ◌≢◌, ◌≤◌, ⊤, All, length, Option, None}
 use Rattle.px_expr.specs.Tree.{Tree, leaf, join}
 use Rattle.px_expr.specs.declared.node.Op.TheVariants as o
-use Rattle.px_sets.specs.declared.cell_box.CellBox.{CellBox}
+use Rattle.px_normal.specs.declared.cell_box.CellBox.{CellBox}
 use Rattle.px_normal.specs.declared.product.TheConstants.{MAX_PRODUCTS}
 use Rattle.px_normal.specs.Forms.{sum_of_products}
 use Rattle.px_normal.specs.Crowd.{crowd, of_root, wanted_lists}

@@ -8,7 +8,7 @@ use Rattle.px_expr.specs.declared.node.Sense.TheVariants.{Plain, Complement}
 use Rattle.px_expr.specs.declared.node.Combination.{Combination}
 use Rattle.px_expr.specs.declared.node.Combination.TheVariants.{Both, Either, EitherWay}
 use Rattle.px_normal.specs.declared.product.Product.{Product}
-use Rattle.px_sets.specs.Sets.{empty, one, sets_joined, solids, IsBelow}
+use Rattle.px_normal.specs.Sets.{empty, one, sets_joined, solids, IsBelow}
 
 -- the cells inside one solid
 abbrev pub plain_one : ℕ → Product

@@ -2,10 +2,10 @@
 use Rattle.std.specs.Prelude.{ℕ, Bool, false, ◌&&◌, not, List, Option, Some, None, filter, fold, slice_index_or}
 use Rattle.std.specs.List.{list_any}
 use Rattle.px_expr.specs.Tree.{Tree}
-use Rattle.px_sets.specs.declared.cell_box.CellBox.{CellBox}
+use Rattle.px_normal.specs.declared.cell_box.CellBox.{CellBox}
 use Rattle.px_normal.specs.declared.product.Product.{Product}
-use Rattle.px_sets.specs.Sets.{has, solids}
-use Rattle.px_sets.specs.Boxes.{everything, has_cell, narrowed}
+use Rattle.px_normal.specs.Sets.{has, solids}
+use Rattle.px_normal.specs.Boxes.{everything, has_cell, narrowed}
 use Rattle.px_normal.specs.Forms.{Forms, forms}
 
 -- the boxes of solids by their list

@@ -4,9 +4,9 @@
 use Rattle.std.specs.Prelude.{ℕ, ◌≡◌, ◌<◌, ◌^◌, true, List, Option, filter}
 use Rattle.px_expr.specs.Cells.{Cell}
 use Rattle.px_expr.specs.declared.node.Op.{Op}
-use Rattle.px_sets.specs.declared.cell_box.CellBox.{CellBox}
+use Rattle.px_normal.specs.declared.cell_box.CellBox.{CellBox}
 use Rattle.px_normal.specs.declared.product.Product.{Product}
-use Rattle.px_sets.specs.Boxes.{is_in_box}
+use Rattle.px_normal.specs.Boxes.{is_in_box}
 use Rattle.px_normal.specs.Forms.{Forms, combined_forms}
 use Rattle.px_normal.specs.NormalLaw.{some_holds, some_shows}
 use Rattle.px_normal.specs.Live.{is_live, live}

@@ -4,7 +4,7 @@ use Rattle.std.specs.Prelude.{ℕ, ◌≡◌, Bool, ◌&&◌, ◌||◌, not, Lis
 use Rattle.std.specs.List.{list_all, list_any}
 use Rattle.px_expr.specs.Cells.{Cell, has_face}
 use Rattle.px_normal.specs.declared.product.Product.{Product}
-use Rattle.px_sets.specs.Sets.{solids}
+use Rattle.px_normal.specs.Sets.{solids}
 use Rattle.px_normal.specs.Forms.{Forms}
 
 -- the cell is inside every plain solid and inside no barred one

@@ -5,9 +5,9 @@ use thiserror::Error;
 /// Why an expression is not made into products (docs/SCENES.md, "Limits").
 #[derive(Debug, Drop, Error)]
 pub enum NormalFault {
-    /// A wanted list of live products has more than `MAX_PRODUCTS`; the count is at most `2^21`.
+    /// A wanted list of live products has more than `MAX_PRODUCTS`.
     #[error("{count} products, of at most 1024")]
-    TooMany { count: u64 },
+    TooMany { count: u32 },
     #[error("out of memory")]
     Memory(Memory),
 }

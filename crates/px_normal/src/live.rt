@@ -1,14 +1,14 @@
 //! The products that can have a cell.
 ghost use Rattle.std.specs.Prelude.{◌≡◌, ◌≤◌, ◌*◌, ◌∷◌, ◌++◌, [], ℕ, Option, None, filter, map, length, slice_index_or, All, OnOk, IfOk};
-ghost use Rattle.px_sets.specs.declared.cell_box.CellBox.{CellBox as AnyBox};
-ghost use Rattle.px_sets.specs.Sets.{solids};
+ghost use Rattle.px_normal.specs.declared.cell_box.CellBox.{CellBox as AnyBox};
+ghost use Rattle.px_normal.specs.Sets.{solids};
 ghost use Rattle.px_normal.specs.Forms.{both, crossed};
 ghost use Rattle.px_normal.specs.Live.{boxes_in, box_of_all, has_some_cell, is_live, is_void};
 ghost use Rattle.px_normal.specs.Boxed.{IsBoxed, products_in};
 
+use crate::cell_box::{CellBox, EVERYTHING, narrowed};
 use crate::{MAX_PRODUCTS, Product};
 use px_num::Memory;
-use px_sets::{CellBox, EVERYTHING, narrowed};
 use std::alloc::Global;
 
 impl Product {

@@ -1,8 +1,8 @@
 //! The normal form of an expression.
-ghost use Rattle.std.specs.Prelude.{◌≡◌, ◌<◌, ◌≤◌, ◌^◌, ℕ, All, Option, Some, None, length, IfOk};
+ghost use Rattle.std.specs.Prelude.{◌≡◌, ◌≤◌, ℕ, All, Option, Some, None, length, IfOk};
 ghost use Rattle.px_expr.specs.Tree.{Tree, HasLeavesBelow};
 ghost use Rattle.px_expr.specs.Cells.{Cell, cell};
-ghost use Rattle.px_sets.specs.declared.cell_box.CellBox.{CellBox as AnyBox};
+ghost use Rattle.px_normal.specs.declared.cell_box.CellBox.{CellBox as AnyBox};
 ghost use Rattle.px_normal.specs.Forms.{forms, sum_of_products, HasPlain, HasSolidsBelow};
 ghost use Rattle.px_normal.specs.NormalLaw.{IsNormalForm};
 ghost use Rattle.px_normal.specs.Live.{boxes_in, live_products};
@@ -10,11 +10,11 @@ ghost use Rattle.px_normal.specs.LiveLaw.{LiveLaw};
 ghost use Rattle.px_normal.specs.Crowd.{crowd};
 ghost use Rattle.px_normal.specs.CrowdLaw.{CrowdLaw};
 
+use crate::cell_box::CellBox;
 use crate::step::steps;
 use crate::sums::{Sums, build};
 use crate::{MAX_PRODUCTS, NormalFault, Product, Products};
 use px_expr::Expr;
-use px_sets::CellBox;
 use std::alloc::Global;
 
 /// The live products of an expression, by the boxes of its solids, repeats included
@@ -32,7 +32,6 @@ pub fn normalise(
         products ≡ live_products (boxes_in boxes.now) expr.now) }
     ensures short { IfOk result (λ products. length products ≤ MAX_PRODUCTS) }
     ensures few { IfOk result (λ products. crowd (boxes_in boxes.now) expr.now ≡ None) }
-    ensures small { (count : ℕ) → result ≡ Err (NormalFault.TooMany count) → count ≤ 2 ^ 21 }
     ensures many { (count : ℕ) → result ≡ Err (NormalFault.TooMany count) →
         crowd (boxes_in boxes.now) expr.now ≡ Some count }
     ensures law { (solid_at : ℕ → Cell) →
@@ -57,7 +56,6 @@ fn products_of(
         products.items ≡ live_products (boxes_in boxes.now) expr.now) }
     ensures short { IfOk result (λ products. length products.items ≤ MAX_PRODUCTS) }
     ensures few { IfOk result (λ products. crowd (boxes_in boxes.now) expr.now ≡ None) }
-    ensures small { (count : ℕ) → result ≡ Err (NormalFault.TooMany count) → count ≤ 2 ^ 21 }
     ensures many { (count : ℕ) → result ≡ Err (NormalFault.TooMany count) →
         crowd (boxes_in boxes.now) expr.now ≡ Some count }
 {

@@ -2,7 +2,7 @@
 ghost use Rattle.std.specs.Prelude.{◌≡◌};
 ghost use Rattle.px_normal.specs.Forms.{both, plain_one, barred_one};
 
-use px_sets::SolidSet;
+use crate::set::SolidSet;
 use std::marker::Model;
 
 /// A list of products that is kept has at most so many (docs/SCENES.md, "Limits").

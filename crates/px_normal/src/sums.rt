@@ -1,17 +1,17 @@
 //! The live products of a node and of its complement.
-ghost use Rattle.std.specs.Prelude.{◌≡◌, ◌<◌, ◌≤◌, ◌^◌, ◌∷◌, ◌++◌, [], ℕ, Some, None, filter, length, reverse, vec_len, OnOk, OnErr, IfOk};
+ghost use Rattle.std.specs.Prelude.{◌≡◌, ◌<◌, ◌≤◌, ◌∷◌, ◌++◌, [], ℕ, Some, None, filter, length, reverse, vec_len, OnOk, OnErr, IfOk};
 ghost use Rattle.px_expr.specs.Tree.{leaf};
 ghost use Rattle.px_normal.specs.Forms.{forms, combined_forms, sum_in, sum_when};
 ghost use Rattle.px_normal.specs.Live.{boxes_in, is_live};
 ghost use Rattle.px_normal.specs.Crowd.{both_lists, first_past_limit, wanted_forms, where_wanted};
 ghost use Rattle.px_normal.specs.Building.{built, newest_lists, CanBuild};
 
+use crate::cell_box::CellBox;
 use crate::live::{count_crossed, count_live, is_live, push_crossed, push_live};
 use crate::step::{Step, Wanted};
 use crate::{MAX_PRODUCTS, NormalFault, Product};
 use px_expr::{Combination, Op, Sense};
 use px_num::Memory;
-use px_sets::CellBox;
 use std::alloc::Global;
 use std::marker::Model;
 
@@ -48,7 +48,6 @@ pub(crate) fn build(
     ensures lists { OnOk result
         (reverse stack.new.items ≡ built (boxes_in boxes.now) (reverse stack.old.items) step) }
     ensures few { OnOk result (first_past_limit (newest_lists (reverse stack.new.items)) ≡ None) }
-    ensures small { (count : ℕ) → result ≡ Err (NormalFault.TooMany count) → count ≤ 2 ^ 21 }
     ensures many { (count : ℕ) → result ≡ Err (NormalFault.TooMany count) → first_past_limit
         (newest_lists (built (boxes_in boxes.now) (reverse stack.old.items) step)) ≡ Some count }
 {
@@ -75,7 +74,6 @@ fn sums_of(
     ensures lists { IfOk result (λ sums. sums ∷ reverse stack.new.items
         ≡ built (boxes_in boxes.now) (reverse stack.old.items) step) }
     ensures few { IfOk result (λ sums. first_past_limit (both_lists sums) ≡ None) }
-    ensures small { (count : ℕ) → result ≡ Err (NormalFault.TooMany count) → count ≤ 2 ^ 21 }
     ensures many { (count : ℕ) → result ≡ Err (NormalFault.TooMany count) → first_past_limit
         (newest_lists (built (boxes_in boxes.now) (reverse stack.old.items) step)) ≡ Some count }
 {
@@ -156,7 +154,6 @@ impl Sums {
         ensures lists { IfOk result (λ sums.
             sums ≡ wanted_forms (boxes_in boxes.now) wanted (combined_forms op left.now right.now)) }
         ensures few { IfOk result (λ sums. first_past_limit (both_lists sums) ≡ None) }
-        ensures small { (count : ℕ) → result ≡ Err (NormalFault.TooMany count) → count ≤ 2 ^ 21 }
         ensures many { (count : ℕ) → result ≡ Err (NormalFault.TooMany count) →
             first_past_limit (both_lists
             (wanted_forms (boxes_in boxes.now) wanted (combined_forms op left.now right.now)))
@@ -201,7 +198,6 @@ fn list_of(
     ensures list { IfOk result (λ list. list.items ≡ where_wanted wanted
         (filter (is_live (boxes_in boxes.now)) (sum_when combination left.now right.now))) }
     ensures few { IfOk result (λ list. length list.items ≤ MAX_PRODUCTS) }
-    ensures small { (count : ℕ) → result ≡ Err (NormalFault.TooMany count) → count ≤ 2 ^ 21 }
     ensures many { (count : ℕ) → result ≡ Err (NormalFault.TooMany count) → first_past_limit
         (where_wanted wanted
         (filter (is_live (boxes_in boxes.now)) (sum_when combination left.now right.now))
@@ -226,7 +222,6 @@ fn count_of(
 ) -> Result<u32, Memory>
     ensures count { IfOk result (λ count. count ≡ length
         (filter (is_live (boxes_in boxes.now)) (sum_when combination left.now right.now))) }
-    ensures most { IfOk result (λ count. count ≤ 2 ^ 21) }
 {
     match combination {
         Combination::Both(first, second) => {
@@ -281,15 +276,12 @@ fn push_all(
 
 /// Whether a list can have so many products.
 fn check_limit(count: u32) -> Result<(), NormalFault>
-    requires { count ≤ 2 ^ 21 }
     ensures ok { OnOk result (count ≤ MAX_PRODUCTS) }
     ensures err { OnErr result (MAX_PRODUCTS < count) }
     ensures many { MAX_PRODUCTS < count → result ≡ Err (NormalFault.TooMany count) }
 {
     if count > MAX_PRODUCTS {
-        return Err(NormalFault::TooMany {
-            count: u64::from(count),
-        });
+        return Err(NormalFault::TooMany { count });
     }
     Ok(())
 }

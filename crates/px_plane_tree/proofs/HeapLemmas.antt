@@ -2,7 +2,7 @@
 use Rattle.px_num.proofs.Basics.{◌≡◌, ℕ, ◌+◌, ◌-◌, ◌*◌, ◌/◌, ◌%◌, ◌<◌, ◌≤◌, Bool, true, false, cond, ◌&&◌, eqb, nat_lt}
 use Rattle.px_num.proofs.Basics.{List, get_or, refl, sym, ap, subst, ◌∙◌, arith, inl, inr, bit_and, bit_or, cases_lt}
 use Rattle.px_num.proofs.Basics.{agree_below_at}
-use Rattle.px_plane_tree.proofs.Words.{bit-and, bit-or, IsDoubled, IsFed, IsFedFirst, IsFedTwo, IsFedWord, IsPart}
+use Rattle.px_plane_tree.proofs.Words.{and_at, or_at, IsDoubled, IsFed, IsFedFirst, IsFedTwo, IsFedWord, IsPart}
 use Rattle.px_plane_tree.proofs.Words.{IsSameBut, nat_bit, next_node, parent_bit, rows}
 
 pub moved : (line parent : ℕ → Bool) (w a b c x y z : ℕ) → a ≡ x → b ≡ y → c ≡ z → IsFedWord line parent w a b c
@@ -114,11 +114,11 @@ one_is_low i h = agree_below_at (λ k. eqb k 1) (λ k. nat_lt k 2 && eqb k 1) 64
 
 pub rooted_on : (word i : ℕ) → i < 64 → nat_bit (bit_or (bit_and word 0xffff_ffff_ffff_fffc) 2) i
     ≡ cond (nat_lt i 2) (true && eqb i 1) (nat_bit word i)
-rooted_on word i h = grind (arith, bit-or, bit_and, bit-and, from_two, bit_one, one_is_low, cond)
+rooted_on word i h = grind (arith, or_at, bit_and, and_at, from_two, bit_one, one_is_low, cond)
 
 pub rooted_off : (word i : ℕ) → i < 64 → nat_bit (bit_and word 0xffff_ffff_ffff_fffc) i
     ≡ cond (nat_lt i 2) (false && eqb i 1) (nat_bit word i)
-rooted_off word i h = grind (arith, bit-and, from_two, cond)
+rooted_off word i h = grind (arith, and_at, from_two, cond)
 
 pub first_law : (lines : List ℕ) (c : Bool) (outputs carries first second part part2 o k new_outputs
     new_carries : List ℕ) (root : ℕ)

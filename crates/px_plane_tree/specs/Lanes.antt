@@ -39,18 +39,9 @@ pub record IsStored (at : ℕ) (words old new : List ℕ) : Type 0 where
 pub record IsOdd (words : List ℕ) : Type 0 where
   pub each : (i j : ℕ) → i < 2 → j < 64 → j % 2 ≡ 0 → nat_bit (slice_index words i) j ≡ false
 
--- the new outputs and carries of nodes whose parents' outputs are `both` and whose line is the same
-pub record IsNext (line : Bool) (both old outputs carries : List ℕ) : Type 0 where
+-- the new outputs and carries of nodes whose parents' outputs are `both`, where an odd node's line is that of its place
+pub record IsNext (line : ℕ → ℕ → Bool) (both old outputs carries : List ℕ) : Type 0 where
   pub output : (i j : ℕ) → i < 2 → j < 64 → nat_bit (slice_index outputs i) j
-      ≡ (next_node (eqb (j % 2) 1) (nat_bit (slice_index both i) j) line (nat_bit (slice_index old i) j)).output
+      ≡ (next_node (eqb (j % 2) 1) (nat_bit (slice_index both i) j) (line i j) (nat_bit (slice_index old i) j)).output
   pub carry : (i j : ℕ) → i < 2 → j < 64 → nat_bit (slice_index carries i) j
-      ≡ (next_node (eqb (j % 2) 1) (nat_bit (slice_index both i) j) line (nat_bit (slice_index old i) j)).carry
-
--- the same where `lines` has each odd node's line, and its even bits are 0
-pub record IsNextBy (lines both old outputs carries : List ℕ) : Type 0 where
-  pub output : (i j : ℕ) → i < 2 → j < 64 → nat_bit (slice_index outputs i) j
-      ≡ (next_node (eqb (j % 2) 1) (nat_bit (slice_index both i) j) (nat_bit (slice_index lines i) j)
-      (nat_bit (slice_index old i) j)).output
-  pub carry : (i j : ℕ) → i < 2 → j < 64 → nat_bit (slice_index carries i) j
-      ≡ (next_node (eqb (j % 2) 1) (nat_bit (slice_index both i) j) (nat_bit (slice_index lines i) j)
-      (nat_bit (slice_index old i) j)).carry
+      ≡ (next_node (eqb (j % 2) 1) (nat_bit (slice_index both i) j) (line i j) (nat_bit (slice_index old i) j)).carry

@@ -2,25 +2,13 @@
 ghost use Rattle.std.specs.Prelude.{◌≡◌, ℕ, ◌<◌, ◌≤◌, ◌+◌, ◌*◌, ◌%◌, length, slice_index, nat_lt};
 ghost use Rattle.std.specs.Prelude.{eqb, cond, ◌&&◌};
 ghost use Rattle.px_num.specs.Bits.{nat_bit};
-ghost use Rattle.px_plane_tree.specs.Lanes.{IsOdd, IsNext};
+ghost use Rattle.px_plane_tree.specs.Lanes.{IsOdd};
 ghost use Rattle.px_plane_tree.specs.Heap.{HasOdd, IsFed, IsFedTwo, IsFedFirst, rows};
 
 use crate::doubling::doubled_pair;
-use crate::next::{next_by, next_with, next_without};
+use crate::next::{next_by, next_of};
 use crate::pairs::{load, store};
 use std::simd::prelude::*;
-
-#[inline(always)]
-pub fn next_of(both: u64x2, old: u64x2, line: bool) -> (u64x2, u64x2)
-    requires { IsOdd old }
-    ensures { IsNext line both old result.0 result.1 }
-{
-    if line {
-        next_with(both, old)
-    } else {
-        next_without(both, old)
-    }
-}
 
 /// Two words, of which `both` has the parents' outputs.
 #[inline(always)]

@@ -3,7 +3,7 @@ ghost use Rattle.std.specs.Prelude.{◌≡◌, ℕ, ◌<◌, ◌≤◌, ◌+◌,
 ghost use Rattle.px_plane_tree.specs.Heap.{HasOdd, IsAtRest, IsFedTwo, rows};
 
 use crate::doubling::doubled_pair;
-use crate::feed::next_of;
+use crate::next::next_of;
 use crate::pairs::load;
 use std::simd::prelude::*;
 
@@ -27,7 +27,7 @@ pub fn is_at_rest(outputs: &[u64], carries: &[u64], from: usize, to: usize, line
     true
 }
 
-/// The same of the children of words `h` and `h + 1`.
+/// Whether a feed leaves the children of words `h` and `h + 1` as they are.
 #[inline(always)]
 fn is_pair_at_rest(outputs: &[u64], carries: &[u64], h: usize, line: bool) -> bool
     requires from { 2 ≤ h }
@@ -41,7 +41,7 @@ fn is_pair_at_rest(outputs: &[u64], carries: &[u64], h: usize, line: bool) -> bo
         && are_two_at_rest(outputs, carries, 2 * h + 2, second, line)
 }
 
-/// The same of two words, of which `both` has the parents' outputs.
+/// Whether a feed leaves two words as they are, of which `both` has the parents' outputs.
 #[inline(always)]
 fn are_two_at_rest(outputs: &[u64], carries: &[u64], at: usize, both: u64x2, line: bool) -> bool
     requires outputs { at + 2 ≤ length outputs.now }

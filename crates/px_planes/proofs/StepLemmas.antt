@@ -2,7 +2,7 @@
 use Rattle.px_num.proofs.Basics.{◌≡◌, ℕ, zero, suc, ℤ, false, ◌+ℤ◌, ◌+◌, ◌*◌, ◌/◌, ◌%◌, ◌^◌, ◌<◌, ◌≤◌, List, get_or}
 use Rattle.px_num.proofs.Basics.{arith}
 use Rattle.px_planes.proofs.Words.{bit_of, carry_from, Linear, nat_bit, offset, row_bit, sum_bit, value_at, value_in}
-use Rattle.px_lanes.proofs.BlockLaws.{value_behind}
+use Rattle.px_rows.proofs.ValueBlockLaws.{value_behind}
 
 stepped_bit : (a carry : List ℕ) (step : ℤ) (t n : ℕ) (v : ℕ → ℕ → ℤ)
     → ((i : ℕ) → i < 512 → nat_bit (get_or a (i / 64) 0) (i % 64) ≡ bit_of (v 0 i) t)

@@ -2,7 +2,7 @@
 pub use Rattle.px_array.specs.Arrays.{Device, no_pixel, registers_of}
 pub use Rattle.px_array.specs.Clocks.{acted}
 pub use Rattle.px_asm.specs.Microprograms.{bits_of}
-pub use Rattle.px_lanes.specs.Lanes.{AreBlockValues, HasCarries, HasValue, offset}
+pub use Rattle.px_rows.specs.Lanes.{AreBlockValues, HasCarries, HasValue, offset}
 pub use Rattle.px_macro.specs.Fields.{number_in}
 pub use Rattle.px_macro.specs.Macros.{after_macro, with_field}
 pub use Rattle.px_macro.specs.declared.operation.Macro.{Macro}
@@ -22,7 +22,7 @@ pub use Rattle.px_pixel.specs.declared.act.Act.TheVariants.{StoreConst, StoreLat
 pub use Rattle.px_planes.specs.Operations.{IsDone, IsLike, IsWordDone, IsWorked, IsWorkedIn, stored_bits}
 pub use Rattle.px_planes.specs.Pixels.{acted_at, HasPixels, HasWords, IsActed, IsZero, pixel_in, pixels_in}
 pub use Rattle.px_planes.specs.declared.planes.Planes.{Planes}
-pub use Rattle.px_rows.proofs.BitLaws.{bit-and, bit_of_zero}
+pub use Rattle.px_rows.proofs.BitLaws.{and_at, bit_of_zero}
 pub use Rattle.px_rows.specs.Rows.{row_bit, words_for}
 pub use Rattle.px_rows.specs.Sums.{value_in, value_on}
 pub use Rattle.px_tree.specs.Nodes.{leaf_output, TreeState}

@@ -2,7 +2,7 @@
 use Rattle.px_num.proofs.Basics.{◌≡◌, ◌≢◌, ℕ, zero, suc, ◌+◌, ◌*◌, ◌/◌, ◌<◌, ◌%◌, ◌≤◌, Bool, false, cond, List, []}
 use Rattle.px_num.proofs.Basics.{length, length-set, get_or, get_or-set_other, get_or-set_same, set, refl, sym, ap}
 use Rattle.px_num.proofs.Basics.{◌∙◌, arith, bit_and, with_item}
-use Rattle.px_planes.proofs.Words.{bit-and, bit_at, HasWords, IsLike, IsWorked, IsWorkedIn, kept, nat_bit, pixel_in}
+use Rattle.px_planes.proofs.Words.{and_at, bit_at, HasWords, IsLike, IsWorked, IsWorkedIn, kept, nat_bit, pixel_in}
 use Rattle.px_planes.proofs.Words.{PixelState, Planes, row_bit, stored, stored_bits}
 use Rattle.px_asm.proofs.WrittenLemmas.{other_bit}
 use Rattle.px_planes.proofs.StoredLemmas.{stored_row, words_stored}
@@ -60,7 +60,7 @@ put_law old at w value word words place inside bits =
 pub keep_law : (old : Planes) (w mask : ℕ) → HasWords (length old.enable) old → w < length old.enable
     → IsWorked w (length old.enable) (λ p x. kept (nat_bit mask (p % 64)) x) old
     (record old { enable = set old.enable w (bit_and (get_or old.enable w 0) mask) })
-keep_law old w mask words inside = grind (arith, bit_and, bit_set, bit-and, bit_beside, length-set)
+keep_law old w mask words inside = grind (arith, bit_and, bit_set, and_at, bit_beside, length-set)
 
 pub like_then : (n : ℕ) (a b c : Planes) → IsLike n a b → IsLike n b c → IsLike n a c
 like_then n a b c first second = grind arith

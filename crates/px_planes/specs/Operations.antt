@@ -2,7 +2,7 @@
 use Rattle.std.specs.Prelude.{◌≡◌, ◌≢◌, ℕ, zero, suc, ◌+◌, ◌*◌, ◌/◌, ◌%◌, ◌^◌, ◌<◌, ◌≤◌, ◌⊎◌, ⊤, ◌≤ℤ◌, Bool}
 use Rattle.std.specs.Prelude.{false, not, ◌==◌, max, count_by, List, length}
 use Rattle.px_num.specs.Forms.{IsWithin}
-use Rattle.px_lanes.specs.Lanes.{HasValue, offset}
+use Rattle.px_rows.specs.Lanes.{HasValue, offset}
 use Rattle.px_macro.specs.declared.operation.Macro.TheVariants as m
 use Rattle.px_num.specs.Bits.{nat_bit}
 use Rattle.px_num.specs.declared.linear.Linear.{Linear}

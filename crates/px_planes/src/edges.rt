@@ -1,6 +1,6 @@
 //! `KeepSign`, made at once: most words lie on one side of an edge whole.
 ghost use Rattle.std.specs.Prelude.{◌≡◌, ◌<◌, ◌≤◌, ◌+◌, ◌*◌, ◌/◌, ◌%◌, ◌^◌, ◌+ℤ◌, ℕ, length};
-ghost use Rattle.px_lanes.specs.Lanes.{offset};
+ghost use Rattle.px_rows.specs.Lanes.{offset};
 ghost use Rattle.px_macro.specs.declared.operation.Macro.TheVariants.{KeepSign};
 ghost use Rattle.px_num.specs.Forms.{IsInTreeRange, IsWithin, value_at};
 ghost use Rattle.px_planes.specs.Operations.{IsDone, IsEdge, IsReach, IsWordDone};
@@ -9,8 +9,8 @@ ghost use Rattle.px_planes.specs.Pixels.{HasWords};
 use crate::planes::Planes;
 use crate::reach::Reach;
 use crate::word_acts::keep_word;
-use px_lanes::{base_of, signs, span, turned};
 use px_num::Linear;
+use px_rows::{base_of, signs, span, turned};
 
 /// The least and the greatest by which the values of a form differ from the one at the first pixel of a word.
 #[derive(Clone, Copy)]

@@ -17,6 +17,5 @@ mod word_operations;
 
 pub use law::law_of_arrays;
 pub use plane_grid::{PlaneArray, PlaneGrid};
-pub use px_lanes::full_word;
 pub use px_plane_tree::PlaneTree;
-pub use px_rows::{add_row, choose_row, keep_row, majority_row};
+pub use px_rows::{add_row, choose_row, full_word, keep_row, majority_row};

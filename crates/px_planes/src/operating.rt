@@ -12,8 +12,8 @@ use crate::reach::{Reach, is_crowd, narrowed, whole};
 use crate::row_operations::{enable_every, keep_bit, set_bit, toggle};
 use crate::strips::{STRIP, add_in_strips};
 use crate::word_operations::{add_linear, copy, keep_at_most, keep_less, load_const, load_linear};
-use px_lanes::offsets;
 use px_macro::Macro;
+use px_rows::offsets;
 
 /// Makes an operation in every pixel of a grid.
 pub(crate) fn operate_planes<const N: usize>(

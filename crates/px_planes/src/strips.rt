@@ -1,6 +1,6 @@
 //! `AddLinear`, made at once where most pixels are enabled: bit by bit, in a strip of words.
 ghost use Rattle.std.specs.Prelude.{◌≡◌, ℕ, ◌<◌, ◌≤◌, ◌+◌, ◌*◌, ◌/◌, ◌%◌, ◌^◌, length, slice_index};
-ghost use Rattle.px_lanes.specs.Lanes.{AreBlockValues};
+ghost use Rattle.px_rows.specs.Lanes.{AreBlockValues};
 ghost use Rattle.px_macro.specs.Macros.{IsField};
 ghost use Rattle.px_macro.specs.declared.operation.Macro.TheVariants.{AddLinear};
 ghost use Rattle.px_num.specs.Bits.{bit_at, majority, nat_bit, xor};
@@ -12,9 +12,9 @@ ghost use Rattle.px_rows.specs.Rows.{EachBit, row_bit};
 ghost use Rattle.px_rows.specs.Sums.{value_in, value_on};
 
 use crate::planes::Planes;
-use px_lanes::{block_step, block_values};
 use px_macro::{Field, laws_of_fields};
 use px_num::{Linear, bit_of};
+use px_rows::{block_step, block_values};
 
 /// The words of a strip: so few that what they carry stays at hand from bit to bit.
 pub(crate) const STRIP: usize = 512;
@@ -37,8 +37,8 @@ pub(crate) fn add_in_strips(planes: &mut Planes, form: &Linear, field: &Field, n
     }
 }
 
-/// The same in one strip. The values are those of the block that it begins with, and become those of
-/// the block behind it.
+/// `f = (f + v) mod 2^len` in one strip. The values are those of the block that it begins with, and become those of
+/// the block after it.
 fn add_to_strip(
     planes: &mut Planes,
     form: &Linear,

@@ -6,7 +6,7 @@ ghost use Rattle.px_planes.specs.Operations.{IsWorked, stored_bits};
 ghost use Rattle.px_planes.specs.Pixels.{HasWords, pixel_in};
 
 use crate::planes::Planes;
-use px_lanes::chosen_word;
+use px_rows::chosen_word;
 
 /// Stores the word's bits at a place of the memory, where the pixels are enabled.
 #[inline(always)]

@@ -1,6 +1,6 @@
 //! Operations, made at once in the 64 pixels of one word.
 ghost use Rattle.std.specs.Prelude.{◌≡◌, ℕ, ℤ, ◌<◌, ◌≤◌, ◌+◌, ◌*◌, ◌/◌, ◌%◌, ◌^◌, length, nat_le};
-ghost use Rattle.px_lanes.specs.Lanes.{HasValue, offset};
+ghost use Rattle.px_rows.specs.Lanes.{HasValue, offset};
 ghost use Rattle.px_macro.specs.Fields.{number_in};
 ghost use Rattle.px_macro.specs.Macros.{AreOfOneLength, IsField};
 ghost use Rattle.px_macro.specs.declared.operation.Macro.TheVariants.{
@@ -18,12 +18,12 @@ ghost use Rattle.px_planes.specs.Pixels.{HasWords, pixel_in};
 
 use crate::planes::Planes;
 use crate::word_acts::{keep_word, memory_word, put_word, read_words, store_words};
-use px_lanes::{
+use px_macro::{Field, laws_of_fields};
+use px_num::Linear;
+use px_rows::{
     Carries, added_bit, all_of, base_of, bit_of_all, constant_words, majority_word, turned,
     word_values,
 };
-use px_macro::{Field, laws_of_fields};
-use px_num::Linear;
 
 /// Where the values are at most the number in a field.
 #[inline(always)]

@@ -12,9 +12,10 @@ ghost use Rattle.px_draw.specs.Ends.{ends, with_notes};
 ghost use Rattle.px_draw.specs.PixelBits.{pixel_bits};
 ghost use Rattle.px_draw.specs.Runs.{IsRunOf};
 ghost use Rattle.px_draw.specs.Statuses.{code};
-ghost use Rattle.px_outcome.specs.declared.status.Status.{Status as AnyStatus};
+ghost use Rattle.px_commands.specs.declared.status.Status.{Status as AnyStatus};
 
 use px_asked::Asks;
+use px_commands::{PIXEL_BITS, WIDE_PIXEL_BITS};
 use px_draw::needs_wide_pixels;
 pub use px_draw::{Status, deliver, run};
 use px_io::{Sink, StdSink, StdSource};
@@ -75,13 +76,13 @@ fn run_on<S: Asks<O>, O: Sink, E: Sink>(
         array) (E.state notes.new)) }
 {
     if needs_wide_pixels(words) {
-        run_with::<_, _, _, 80>(alloc, words, input, out, notes)
+        run_with::<_, _, _, WIDE_PIXEL_BITS>(alloc, words, input, out, notes)
     } else {
-        run_with::<_, _, _, 72>(alloc, words, input, out, notes)
+        run_with::<_, _, _, PIXEL_BITS>(alloc, words, input, out, notes)
     }
 }
 
-/// The same, where they want pixels of N bits.
+/// Does what the words ask on a new array with N bits a pixel, as many as they need.
 fn run_with<S: Asks<O>, O: Sink, E: Sink, const N: usize>(
     alloc: Global,
     words: &[String],

@@ -4,7 +4,7 @@ use Rattle.px_num.proofs.Basics.{◌∷◌, refl, sym, ◌∙◌, subst, arith, 
 use Rattle.px_num.proofs.Basics.{filter, filter_map, cases_eq, All-cons, All-nil, filter-append, list_all-append}
 use Rattle.px_prune.proofs.Words.{and_right, any_last, below, box_of_all, CellBox, has, is_void, kept_products}
 use Rattle.px_prune.proofs.Words.{LawsOfSets, meets, Product, pruned, pruned_within, set_of, SolidSet, staying}
-use Rattle.px_sets.specs.Sets.{solids}
+use Rattle.px_normal.specs.Sets.{solids}
 use Rattle.px_normal.specs.Forms.{HasPlain, HasSolidsBelow}
 use Rattle.px_prune.proofs.WithinLemmas.{any-set_of, filtered_solids, is_solid}
 

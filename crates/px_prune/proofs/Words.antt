@@ -16,12 +16,12 @@ pub use Rattle.px_prune.specs.Bounding.{row_hull, rows_hull}
 pub use Rattle.px_prune.specs.Boxes.{hull, is_part, with_cells_behind}
 pub use Rattle.px_prune.specs.Kept.{kept_of, kept_products, meets, pruned, pruned_within, set_of, staying}
 pub use Rattle.px_prune.specs.declared.block.Block.{Block}
-pub use Rattle.px_sets.proofs.BoxLaws.{in_common_part, in_everything, in_narrowed}
-pub use Rattle.px_sets.proofs.SolidsLaws.{any_last, solids_laws}
-pub use Rattle.px_sets.specs.Boxes.{common_part, everything, has_cell, is_in_box, lies_in, narrowed}
-pub use Rattle.px_sets.specs.SetLaws.{LawsOfSets}
-pub use Rattle.px_sets.specs.Sets.{below, empty, has, one, sets_joined, solids}
-pub use Rattle.px_sets.specs.declared.cell_box.CellBox.{CellBox}
-pub use Rattle.px_sets.specs.declared.set.SolidSet.{SolidSet}
+pub use Rattle.px_normal.proofs.BoxLaws.{in_common_part, in_everything, in_narrowed}
+pub use Rattle.px_normal.proofs.SolidsLaws.{any_last, solids_laws}
+pub use Rattle.px_normal.specs.Boxes.{common_part, everything, has_cell, is_in_box, lies_in, narrowed}
+pub use Rattle.px_normal.specs.SetLaws.{LawsOfSets}
+pub use Rattle.px_normal.specs.Sets.{below, empty, has, one, sets_joined, solids}
+pub use Rattle.px_normal.specs.declared.cell_box.CellBox.{CellBox}
+pub use Rattle.px_normal.specs.declared.set.SolidSet.{SolidSet}
 pub use lib.IntN.{nat_abs, negsuc}
 pub use lib.Signed.{le_z, lt_z}

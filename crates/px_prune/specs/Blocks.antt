@@ -7,8 +7,8 @@ use Rattle.px_model.specs.Cells.{cell_of, depths}
 use Rattle.px_num.specs.declared.linear.Linear.{Linear}
 use Rattle.px_num.specs.Forms.{value_at}
 use Rattle.px_prune.specs.declared.block.Block.{Block}
-use Rattle.px_sets.specs.declared.cell_box.CellBox.{CellBox}
-use Rattle.px_sets.specs.Boxes.{is_in_box}
+use Rattle.px_normal.specs.declared.cell_box.CellBox.{CellBox}
+use Rattle.px_normal.specs.Boxes.{is_in_box}
 use Rattle.px_prune.specs.Bounding.{IsBoxOf}
 
 -- the pixel (x, y) is one of the block's

@@ -4,8 +4,8 @@ use Rattle.std.specs.Prelude.{ℕ, ◌≡◌, ◌↔◌, Bool, true, false, ◌&
 use Prim.Native.Nat.{zero, suc}
 use Rattle.px_model.specs.Scenes.{SceneView}
 use Rattle.px_model.specs.Cells.{leaf_cell, depths_of, far_of}
-use Rattle.px_sets.specs.declared.cell_box.CellBox.{CellBox}
-use Rattle.px_sets.specs.Boxes.{lies_in, is_in_box}
+use Rattle.px_normal.specs.declared.cell_box.CellBox.{CellBox}
+use Rattle.px_normal.specs.Boxes.{lies_in, is_in_box}
 use Rattle.px_prune.specs.Boxes.{is_part, hull}
 
 -- the box holds all the cells, and each box that does has it as a part;

@@ -1,6 +1,6 @@
 -- Boxes of cells, both ends included. Clauses of public calls stand on it.
 use Rattle.std.specs.Prelude.{◌+◌, Bool, true, ◌&&◌, nat_le, min, max, Option, Some, None}
-use Rattle.px_sets.specs.declared.cell_box.CellBox.{CellBox}
+use Rattle.px_normal.specs.declared.cell_box.CellBox.{CellBox}
 
 -- with the cells just behind its last ones
 abbrev pub with_cells_behind : CellBox → CellBox

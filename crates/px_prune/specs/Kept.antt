@@ -1,12 +1,12 @@
 -- The products that can show anything, by the bounding boxes of their solids. Clauses of public calls stand on it.
 use Rattle.std.specs.Prelude.{ℕ, Bool, false, ◌&&◌, not, List, Option, Some, None, if◌then◌else◌, filter, fold}
 use Rattle.std.specs.List.{filter_map}
-use Rattle.px_sets.specs.declared.set.SolidSet.{SolidSet}
+use Rattle.px_normal.specs.declared.set.SolidSet.{SolidSet}
 use Rattle.px_normal.specs.declared.product.Product.{Product}
-use Rattle.px_sets.specs.Sets.{empty, one, sets_joined, solids}
+use Rattle.px_normal.specs.Sets.{empty, one, sets_joined, solids}
 use Rattle.px_model.specs.Scenes.{SceneView}
-use Rattle.px_sets.specs.declared.cell_box.CellBox.{CellBox}
-use Rattle.px_sets.specs.Boxes.{common_part, has_cell}
+use Rattle.px_normal.specs.declared.cell_box.CellBox.{CellBox}
+use Rattle.px_normal.specs.Boxes.{common_part, has_cell}
 use Rattle.px_normal.specs.Live.{is_void, box_of_all}
 use Rattle.px_normal.specs.Crowd.{crowd}
 use Rattle.px_normal.specs.Forms.{sum_of_products}

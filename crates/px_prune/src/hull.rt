@@ -3,7 +3,7 @@ ghost use Rattle.std.specs.Prelude.{◌≡◌, Option, Some, None};
 ghost use Rattle.px_prune.specs.Boxes.{hull};
 ghost use Rattle.px_prune.specs.Covered.{is_covered};
 
-use px_sets::CellBox;
+use px_normal::CellBox;
 
 /// The least box that has both as parts.
 pub(crate) fn hull(a: Option<CellBox>, b: Option<CellBox>) -> Option<CellBox>

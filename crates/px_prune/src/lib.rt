@@ -8,5 +8,4 @@ mod plan;
 
 pub use bounds::{box_of, boxes_of};
 pub use plan::{Plan, laws_of_pruning, plan_of, prune};
-pub use px_normal::MAX_PRODUCTS;
-pub use px_sets::CellBox;
+pub use px_normal::{CellBox, MAX_PRODUCTS};

@@ -1,7 +1,7 @@
 //! The products that can show anything.
-ghost use Rattle.std.specs.Prelude.{◌≡◌, ◌≤◌, ◌^◌, ℕ, false, All, List, Option, Some, None, filter, IfOk, length};
+ghost use Rattle.std.specs.Prelude.{◌≡◌, ◌≤◌, ℕ, false, All, List, Option, Some, None, filter, IfOk, length};
 ghost use Rattle.px_normal.specs.Forms.{HasSolidsBelow};
-ghost use Rattle.px_sets.specs.Sets.{empty, solids};
+ghost use Rattle.px_normal.specs.Sets.{empty, solids};
 ghost use Rattle.px_prune.specs.Kept.{crowd_of, kept_of, kept_products, meets, plan_of, pruned, staying};
 ghost use Rattle.px_normal.specs.Live.{boxes_in, is_live, is_void};
 ghost use Rattle.px_prune.specs.Bounding.{bounding_box};
@@ -12,9 +12,8 @@ ghost use Rattle.px_model.specs.Scenes.{SceneView, IsLawfulScene};
 use crate::bounds::boxes_of;
 use crate::{CellBox, MAX_PRODUCTS};
 use px_model::Scene;
-use px_normal::{NormalFault, Product, Products, normalise};
+use px_normal::{NormalFault, Product, Products, SolidSet, normalise};
 use px_num::Memory;
-use px_sets::SolidSet;
 use std::alloc::Global;
 
 /// The products of a scene that can show anything.
@@ -48,7 +47,6 @@ pub fn plan_of(alloc: Global, scene: &Scene) -> Result<Plan, NormalFault>
     ensures kept { IfOk result (λ plan. plan.products.items ≡ plan_of scene.now) }
     ensures few { IfOk result (λ plan. length plan.products.items ≤ MAX_PRODUCTS) }
     ensures lawful { IfOk result (λ plan. crowd_of scene.now ≡ None) }
-    ensures small { (count : ℕ) → result ≡ Err (NormalFault.TooMany count) → count ≤ 2 ^ 21 }
     ensures many { (count : ℕ) → result ≡ Err (NormalFault.TooMany count) →
         crowd_of scene.now ≡ Some count }
 {

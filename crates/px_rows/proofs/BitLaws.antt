@@ -6,14 +6,14 @@ use Rattle.std.proofs.lemmas.Nat.{field_of}
 use Rattle.std.proofs.lemmas.Nat.Bits.{bit_at_xor}
 use Rattle.px_num.specs.Bits.{nat_bit, xor}
 
-pub bit-and : (a b i : ℕ) → nat_bit (bit_and a b) i ≡ (nat_bit a i && nat_bit b i)
-bit-and a b i = grind (arith, bit_at_and)
+pub and_at : (a b i : ℕ) → nat_bit (bit_and a b) i ≡ (nat_bit a i && nat_bit b i)
+and_at a b i = grind (arith, bit_at_and)
 
-pub bit-or : (a b i : ℕ) → nat_bit (bit_or a b) i ≡ (nat_bit a i || nat_bit b i)
-bit-or a b i = grind (arith, bit_at_or)
+pub or_at : (a b i : ℕ) → nat_bit (bit_or a b) i ≡ (nat_bit a i || nat_bit b i)
+or_at a b i = grind (arith, bit_at_or)
 
-pub bit-xor : (a b i : ℕ) → nat_bit (bit_xor a b) i ≡ xor (nat_bit a i) (nat_bit b i)
-bit-xor a b i = grind (arith, bit_at_xor)
+pub xor_at : (a b i : ℕ) → nat_bit (bit_xor a b) i ≡ xor (nat_bit a i) (nat_bit b i)
+xor_at a b i = grind (arith, bit_at_xor)
 
 pub bit_of_zero : (i : ℕ) → nat_bit 0 i ≡ false
 bit_of_zero i = ap (λ b. b == 1) (bit_at-zero i)

@@ -1,5 +1,9 @@
 pub mod BitLaws
 pub mod BlockLemmas
+pub mod LaneLemmas
+pub mod LaneWords
+pub mod OffsetLemmas
 pub mod PartLemmas
+pub mod SignLemmas
+pub mod ValueBlockLaws
 pub mod WordLemmas
-pub mod WriteLemmas

@@ -1,16 +1,6 @@
 -- Single words: the bits of what the calls on rows make of them. Only proofs and private functions stand on it.
-use Rattle.std.specs.Prelude.{◌≡◌, ℕ, ◌+◌, ◌<◌, ◌≤◌, ◌&&◌, cond, List, slice_index}
+use Rattle.std.specs.Prelude.{◌≡◌, ℕ, ◌+◌, ◌<◌, ◌≤◌, cond, List, slice_index}
 use Rattle.px_num.specs.Bits.{majority, nat_bit, xor}
-
-pub record IsKeptWord (result mask other turn : ℕ) : Type 0 where
-  pub each : (i : ℕ) → i < 64 → nat_bit result i ≡ (nat_bit mask i && xor (nat_bit other i) (nat_bit turn i))
-
-pub record IsChosen (result target value mask : ℕ) : Type 0 where
-  pub each : (i : ℕ) → i < 64 → nat_bit result i ≡ cond (nat_bit mask i) (nat_bit value i) (nat_bit target i)
-
-pub record IsMajority (result carry other value turn : ℕ) : Type 0 where
-  pub each : (i : ℕ) → i < 64 → nat_bit result i ≡ majority (nat_bit carry i) (nat_bit other i)
-      (xor (nat_bit value i) (nat_bit turn i))
 
 -- the sum of value, target and carry where the mask is 1, and else the target
 pub record IsAdded (result target carry value mask : ℕ) : Type 0 where

@@ -1,70 +1,12 @@
 //! What the calls on rows do to eight words at once, on the lanes of a vector.
 ghost use Rattle.std.specs.Prelude.{◌≡◌, ◌<◌, ◌≤◌, ◌+◌, ◌-◌, ℕ, length, slice_index};
-ghost use Rattle.px_rows.specs.Words.{IsAdded, IsCarried, IsChosen, IsKeptWord, IsMajority, IsSummed};
+ghost use Rattle.px_rows.specs.Words.{IsAdded, IsCarried, IsSummed};
 ghost use Rattle.px_rows.specs.Words.{IsBlock, IsWritten};
 
 use std::simd::prelude::*;
 
 /// The words of a block.
 pub const LANES: usize = 8;
-
-/// Keeps the mask's words from `at` on.
-#[inline(always)]
-pub fn keep_block(mask: &mut [u64], other: &[u64], turn: u64, at: usize)
-    requires mask { at + 8 ≤ length mask.old }
-    requires other { at + 8 ≤ length other.now }
-    ensures { IsWritten (λ k word. IsKeptWord word (slice_index mask.old k)
-        (slice_index other.now k) turn) at mask.old mask.new }
-{
-    let kept = kept_lanes(read(mask, at), read(other, at), turn);
-    write(mask, at, kept);
-}
-
-/// Chooses the target's words from `at` on.
-#[inline(always)]
-pub fn choose_block(target: &mut [u64], value: &[u64], mask: &[u64], at: usize)
-    requires target { at + 8 ≤ length target.old }
-    requires value { at + 8 ≤ length value.now }
-    requires mask { at + 8 ≤ length mask.now }
-    ensures { IsWritten (λ k word. IsChosen word (slice_index target.old k)
-        (slice_index value.now k) (slice_index mask.now k)) at target.old target.new }
-{
-    let chosen = chosen_lanes(read(target, at), read(value, at), read(mask, at));
-    write(target, at, chosen);
-}
-
-/// Outvotes the carry's words from `at` on.
-#[inline(always)]
-pub fn majority_block(carry: &mut [u64], value: &[u64], other: &[u64], turn: u64, at: usize)
-    requires carry { at + 8 ≤ length carry.old }
-    requires value { at + 8 ≤ length value.now }
-    requires other { at + 8 ≤ length other.now }
-    ensures { IsWritten (λ k word. IsMajority word (slice_index carry.old k)
-        (slice_index other.now k) (slice_index value.now k) turn) at carry.old carry.new }
-{
-    let majority = majority_lanes(read(carry, at), read(other, at), read(value, at), turn);
-    write(carry, at, majority);
-}
-
-/// Adds the target's words from `at` on.
-#[inline(always)]
-pub fn add_block(target: &mut [u64], carry: &mut [u64], value: &[u64], mask: &[u64], at: usize)
-    requires target { at + 8 ≤ length target.old }
-    requires carry { at + 8 ≤ length carry.old }
-    requires value { at + 8 ≤ length value.now }
-    requires mask { at + 8 ≤ length mask.now }
-    ensures added { IsWritten (λ k word. IsAdded word (slice_index target.old k)
-        (slice_index carry.old k) (slice_index value.now k)
-        (slice_index mask.now k)) at target.old target.new }
-    ensures carried { IsWritten (λ k word. IsCarried word (slice_index target.old k)
-        (slice_index carry.old k) (slice_index value.now k)) at carry.old carry.new }
-{
-    let old = read(target, at);
-    let held = read(carry, at);
-    let added = read(value, at);
-    write(target, at, added_lanes(old, held, added, read(mask, at)));
-    write(carry, at, carried_lanes(old, held, added));
-}
 
 /// Adds a value of eight words to the target's from `at` on.
 #[inline(always)]
@@ -106,32 +48,6 @@ fn summed_lanes(a: u64x8, b: u64x8, c: u64x8) -> u64x8
         IsSummed (slice_index result i) (slice_index a i) (slice_index b i) (slice_index c i) }
 {
     a ^ (b ^ c)
-}
-
-#[inline(always)]
-fn kept_lanes(mask: u64x8, other: u64x8, turn: u64) -> u64x8
-    ensures { (i : ℕ) → i < 8 →
-        IsKeptWord (slice_index result i) (slice_index mask i) (slice_index other i) turn }
-{
-    mask & (other ^ u64x8::splat(turn))
-}
-
-#[inline(always)]
-fn chosen_lanes(target: u64x8, value: u64x8, mask: u64x8) -> u64x8
-    ensures { (i : ℕ) → i < 8 →
-        IsChosen (slice_index result i) (slice_index target i) (slice_index value i)
-        (slice_index mask i) }
-{
-    target ^ ((target ^ value) & mask)
-}
-
-#[inline(always)]
-fn majority_lanes(carry: u64x8, other: u64x8, value: u64x8, turn: u64) -> u64x8
-    ensures { (i : ℕ) → i < 8 →
-        IsMajority (slice_index result i) (slice_index carry i) (slice_index other i)
-        (slice_index value i) turn }
-{
-    carry ^ ((carry ^ other) & (carry ^ (value ^ u64x8::splat(turn))))
 }
 
 #[inline(always)]

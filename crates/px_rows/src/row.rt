@@ -7,8 +7,7 @@ ghost use Rattle.px_rows.specs.Rows.{EachBit, row_bit};
 ghost use Rattle.px_rows.specs.Sums.{value_in, value_on};
 
 use crate::bits::{bit_of_row, zero_row};
-use crate::rows::{add_row, choose_row, keep_row, majority_row};
-use crate::strokes::{flip_row, paint_row};
+use crate::rows::{add_row, choose_row, flip_row, keep_row, majority_row, paint_row};
 use crate::sums::add_steps_part;
 use px_num::Memory;
 use std::alloc::Global;

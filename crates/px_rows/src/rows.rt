@@ -1,29 +1,38 @@
-//! The four calls on whole rows, for rows of any length.
-//!
-//! Each takes eight words at once on the lanes of a vector, and then the rest one by one.
-ghost use Rattle.std.specs.Prelude.{◌≡◌, ◌&&◌, cond, length};
+//! The calls on whole rows, for rows of any length.
+ghost use Rattle.std.specs.Prelude.{◌≡◌, ◌<◌, ◌&&◌, ℕ, cond, not, length, slice_index};
 ghost use Rattle.std.specs.Bool.{beq};
-ghost use Rattle.px_num.specs.Bits.{majority, xor};
+ghost use Rattle.px_num.specs.Bits.{majority, nat_bit, xor};
 ghost use Rattle.px_rows.specs.Rows.{EachBit, row_bit};
 
-use crate::blocks::{LANES, add_block, choose_block, keep_block, majority_block};
-use crate::words::{added_word, all_of, carried_word, chosen_word, kept_word, majority_word};
+use crate::words::{added_word, all_of, chosen_word, majority_word, xor_word};
+
+/// Each word becomes what `f` makes of its place and of itself.
+#[inline(always)]
+fn each_word<F: Fn(usize, u64) -> u64>(row: &mut [u64], f: F)
+    requires { (w x : ℕ) → w < length row.old → F.pre f w x }
+    ensures words { length row.new ≡ length row.old }
+    ensures each { (w : ℕ) → w < length row.old → F.post f w (slice_index row.old w) (slice_index row.new w) }
+{
+    for w in 0..row.len() {
+        row[w] = f(w, row[w]);
+    }
+}
 
 /// `mask = mask and (other == want)`, in every bit
+#[tactic(auto, using(crate::proofs::BitLaws::and_at, crate::proofs::BitLaws::xor_at))]
 pub fn keep_row(mask: &mut [u64], other: &[u64], want: bool)
     requires { length mask.old ≡ length other.now }
     ensures { EachBit mask.new (λ p. row_bit mask.old p && beq (row_bit other.now p) want) }
 {
     let turn = all_of(!want);
-    let mut at = 0;
-    while mask.len() - at >= LANES {
-        keep_block(mask, other, turn, at);
-        at += LANES;
-    }
-    while at < mask.len() {
-        mask[at] = kept_word(mask[at], other[at], turn);
-        at += 1;
-    }
+    each_word(
+        mask,
+        |w, m|
+            requires { w < length other.now }
+            ensures { (i : ℕ) → i < 64 → nat_bit result i ≡ (nat_bit m i
+                && xor (nat_bit (slice_index other.entry.now w) i) (nat_bit turn i)) }
+        { m & (other[w] ^ turn) },
+    );
 }
 
 /// `target = value`, in the bits where the mask is 1
@@ -33,15 +42,15 @@ pub fn choose_row(target: &mut [u64], value: &[u64], mask: &[u64])
     ensures { EachBit target.new (λ p. cond (row_bit mask.now p) (row_bit value.now p)
         (row_bit target.old p)) }
 {
-    let mut at = 0;
-    while target.len() - at >= LANES {
-        choose_block(target, value, mask, at);
-        at += LANES;
-    }
-    while at < target.len() {
-        target[at] = chosen_word(target[at], value[at], mask[at]);
-        at += 1;
-    }
+    each_word(
+        target,
+        |w, t|
+            requires value { w < length value.now }
+            requires mask { w < length mask.now }
+            ensures { (i : ℕ) → i < 64 → nat_bit result i ≡ cond (nat_bit (slice_index mask.entry.now w) i)
+                (nat_bit (slice_index value.entry.now w) i) (nat_bit t i) }
+        { chosen_word(t, value[w], mask[w]) },
+    );
 }
 
 /// `carry = majority(carry, other, value xor invert)`, in every bit
@@ -52,15 +61,15 @@ pub fn majority_row(carry: &mut [u64], value: &[u64], other: &[u64], invert: boo
         (row_bit value.now p) invert)) }
 {
     let turn = all_of(invert);
-    let mut at = 0;
-    while carry.len() - at >= LANES {
-        majority_block(carry, value, other, turn, at);
-        at += LANES;
-    }
-    while at < carry.len() {
-        carry[at] = majority_word(carry[at], other[at], value[at], turn);
-        at += 1;
-    }
+    each_word(
+        carry,
+        |w, k|
+            requires value { w < length value.now }
+            requires other { w < length other.now }
+            ensures { (i : ℕ) → i < 64 → nat_bit result i ≡ majority (nat_bit k i)
+                (nat_bit (slice_index other.entry.now w) i) (xor (nat_bit (slice_index value.entry.now w) i) (nat_bit turn i)) }
+        { majority_word(k, other[w], xor_word(value[w], turn)) },
+    );
 }
 
 /// `target = value xor target xor carry`, in the bits where the mask is 1, and
@@ -75,16 +84,43 @@ pub fn add_row(target: &mut [u64], carry: &mut [u64], value: &[u64], mask: &[u64
     ensures carry { EachBit carry.new (λ p. majority (row_bit value.now p)
         (row_bit target.old p) (row_bit carry.old p)) }
 {
-    let mut at = 0;
-    while target.len() - at >= LANES {
-        add_block(target, carry, value, mask, at);
-        at += LANES;
+    for w in 0..target.len() {
+        let t = target[w];
+        let k = carry[w];
+        target[w] = added_word(t, k, value[w], mask[w]);
+        carry[w] = majority_word(k, value[w], t);
     }
-    while at < target.len() {
-        let t = target[at];
-        let k = carry[at];
-        target[at] = added_word(t, k, value[at], mask[at]);
-        carry[at] = carried_word(t, k, value[at]);
-        at += 1;
-    }
+}
+
+/// The bits where the mask's are 1 become `v`.
+pub fn paint_row(target: &mut [u64], mask: &[u64], v: bool)
+    requires { length target.old ≡ length mask.now }
+    ensures { EachBit target.new (λ p. cond (row_bit mask.now p) v (row_bit target.old p)) }
+{
+    let value = all_of(v);
+    each_word(
+        target,
+        |w, t|
+            requires { w < length mask.now }
+            ensures { (i : ℕ) → i < 64 → nat_bit result i ≡ cond (nat_bit (slice_index mask.entry.now w) i)
+                (nat_bit value i) (nat_bit t i) }
+        { chosen_word(t, value, mask[w]) },
+    );
+}
+
+/// The bits where the mask's are 1 are turned over.
+#[tactic(auto, using(crate::proofs::BitLaws::xor_at))]
+pub fn flip_row(target: &mut [u64], mask: &[u64])
+    requires { length target.old ≡ length mask.now }
+    ensures { EachBit target.new (λ p. cond (row_bit mask.now p) (not (row_bit target.old p))
+        (row_bit target.old p)) }
+{
+    each_word(
+        target,
+        |w, t|
+            requires { w < length mask.now }
+            ensures { (i : ℕ) → i < 64 → nat_bit result i ≡ cond (nat_bit (slice_index mask.entry.now w) i)
+                (not (nat_bit t i)) (nat_bit t i) }
+        { t ^ mask[w] },
+    );
 }

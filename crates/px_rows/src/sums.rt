@@ -82,7 +82,7 @@ fn add_blocks(
     *value = lanes.to_array();
 }
 
-/// The same in the words of a row from `at` on, as many as the carries have.
+/// Adds such a value to the words of a row from `at` on, as many as the carries have (`add_steps_row`).
 pub fn add_steps_part(
     row: &mut [u64],
     at: usize,

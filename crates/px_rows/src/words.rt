@@ -1,8 +1,9 @@
-//! What the calls on rows do to one word.
+//! Words of 64 bits, of which each bit of the result is a term of the bits at its place.
+#![tactic(auto, using(crate::proofs::BitLaws::and_at, crate::proofs::BitLaws::xor_at))]
+
 ghost use Rattle.std.specs.Prelude.{◌≡◌, ◌<◌, ℕ, cond, not};
-ghost use Rattle.px_num.specs.Bits.{nat_bit};
+ghost use Rattle.px_num.specs.Bits.{majority, nat_bit, xor};
 ghost use Rattle.px_rows.specs.Rows.{HasAll};
-ghost use Rattle.px_rows.specs.Words.{IsAdded, IsCarried, IsChosen, IsKeptWord, IsMajority};
 
 /// A word of which every bit is `v`.
 #[inline(always)]
@@ -12,51 +13,46 @@ pub fn all_of(v: bool) -> u64
     if v { !0 } else { 0 }
 }
 
-/// The mask where the other bit is 1, or where it is 0 and `turn` is 1.
-#[inline(always)]
-pub fn kept_word(mask: u64, other: u64, turn: u64) -> u64
-    ensures { IsKeptWord result mask other turn }
-{
-    mask & (other ^ turn)
-}
-
 /// The value where the mask is 1, and else the target.
 #[inline(always)]
 pub fn chosen_word(target: u64, value: u64, mask: u64) -> u64
-    ensures { IsChosen result target value mask }
+    ensures { (i : ℕ) → i < 64 → nat_bit result i
+        ≡ cond (nat_bit mask i) (nat_bit value i) (nat_bit target i) }
 {
     target ^ ((target ^ value) & mask)
-}
-
-/// At least two of three, where the third is turned over if `turn` is 1.
-#[inline(always)]
-pub fn majority_word(carry: u64, other: u64, value: u64, turn: u64) -> u64
-    ensures { IsMajority result carry other value turn }
-{
-    carry ^ ((carry ^ other) & (carry ^ (value ^ turn)))
 }
 
 /// The sum of value, target and carry where the mask is 1, and else the target.
 #[inline(always)]
 pub fn added_word(target: u64, carry: u64, value: u64, mask: u64) -> u64
-    ensures { IsAdded result target carry value mask }
+    ensures { (i : ℕ) → i < 64 → nat_bit result i
+        ≡ cond (nat_bit mask i) (xor (nat_bit value i) (xor (nat_bit target i) (nat_bit carry i)))
+        (nat_bit target i) }
 {
     target ^ ((value ^ carry) & mask)
 }
 
-/// At least two of value, target and carry.
+/// At least two of three.
 #[inline(always)]
-pub fn carried_word(target: u64, carry: u64, value: u64) -> u64
-    ensures { IsCarried result target carry value }
+pub fn majority_word(a: u64, b: u64, c: u64) -> u64
+    ensures { (i : ℕ) → i < 64 → nat_bit result i ≡ majority (nat_bit a i) (nat_bit b i) (nat_bit c i) }
 {
-    carry ^ ((value ^ carry) & (carry ^ target))
+    a ^ ((a ^ b) & (a ^ c))
 }
 
-/// The target, turned over where the mask is 1.
+/// Every bit turned over.
 #[inline(always)]
-pub fn flipped_word(target: u64, mask: u64) -> u64
-    ensures { (i : ℕ) → i < 64 → nat_bit result i
-        ≡ cond (nat_bit mask i) (not (nat_bit target i)) (nat_bit target i) }
+#[tactic(auto, using(crate::proofs::WordLemmas::turned_at))]
+pub fn turned(word: u64) -> u64
+    ensures { (i : ℕ) → i < 64 → nat_bit result i ≡ not (nat_bit word i) }
 {
-    target ^ mask
+    word ^ !0
+}
+
+/// Exactly one of two.
+#[inline(always)]
+pub fn xor_word(a: u64, b: u64) -> u64
+    ensures { (i : ℕ) → i < 64 → nat_bit result i ≡ xor (nat_bit a i) (nat_bit b i) }
+{
+    a ^ b
 }

@@ -1,10 +1,10 @@
 //! The texts of errors. The program prints its own.
 use px_control::JobFault;
 use px_expr::ExprFault;
+use px_frame::FineFault;
 use px_listing::{ListFault, ListKind};
 use px_normal::NormalFault;
 use px_num::Memory;
-use px_refine::FineFault;
 use px_scene::{Cause, LimitKind, SceneFault};
 use px_sched::NeedBits;
 use px_shadow::LightFault;

@@ -6,16 +6,16 @@ use Rattle.px_scene.specs.Scenes.{SceneView}
 use Rattle.px_sample.specs.Sample.{sample_text}
 use Rattle.px_scene.specs.Text.{worded}
 use Rattle.px_scene.specs.Reading.{scene_of}
-use Rattle.px_refine.proofs.SumLaws.{sum_more}
+use Rattle.px_frame.proofs.MeanSumLaws.{sum_more}
 use Rattle.px_sample.specs.declared.drawing.Shown.{Shown}
-use Rattle.px_outcome.specs.declared.status.Status.{Status}
-use Rattle.px_outcome.specs.declared.stop.Stop.{Stop}
-use Rattle.px_outcome.specs.Arrays.{Draws}
+use Rattle.px_commands.specs.declared.status.Status.{Status}
+use Rattle.px_commands.specs.declared.stop.Stop.{Stop}
+use Rattle.px_commands.specs.Arrays.{Draws}
 use Rattle.px_sample.specs.Countings.{IsShownAtMost, shown_at, shown_within, shown_in_row, shown_together}
-use Rattle.px_outcome.specs.Refusals.{text_refusal}
+use Rattle.px_commands.specs.Refusals.{text_refusal}
 use Rattle.px_sample.specs.Samples.{measures_answer, one_at, row_sum, sample_scene, sampled, shown_depth_at}
 use Rattle.px_sample.specs.Samples.{text_measured}
-use Rattle.px_outcome.specs.Stops.{DoesWork}
+use Rattle.px_commands.specs.Stops.{DoesWork}
 
 -- what is done for the sample's text is done for the sample
 pub sample_serves : (result : Result (Unit {0}) Stop) (n bits : ℕ) (text : List ℕ) (a b : SinkState)

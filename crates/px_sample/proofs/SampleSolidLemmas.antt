@@ -17,7 +17,7 @@ use Rattle.px_show.specs.Printed.{AreDistinctNames}
 use Rattle.px_model.specs.declared.solid.Colour.{Colour}
 use Rattle.px_model.specs.declared.solid.Face.{Face}
 use Rattle.px_model.specs.Scenes.{IsColour, IsPlane, SolidView, names_of}
-use Rattle.px_canonical.specs.Canonical.{colour_words, words_of_plane}
+use Rattle.px_scene.specs.Canonical.{colour_words, words_of_plane}
 use Rattle.px_sample.specs.Sample.{block_name, form}
 use Rattle.px_sample.proofs.SampleTreeLemmas.{BeginsWithBlocks}
 use Rattle.px_scene.proofs.NameLaws.{names_push}

@@ -7,14 +7,14 @@ use Rattle.px_expr.specs.Tree.{HasLeavesBelow}
 use Rattle.px_text.specs.Text.{Words, is_name}
 use Rattle.px_model.specs.declared.solid.Colour.{Colour}
 use Rattle.px_model.specs.Scenes.{IsColour, IsPlane, names_of}
-use Rattle.px_canonical.specs.Canonical.{colour_words, words_of_plane, side_line, written_line}
+use Rattle.px_scene.specs.Canonical.{colour_words, words_of_plane, side_line, written_line}
 use Rattle.px_sample.specs.Sample.{block_faces, block_line, block_lines, block_name, block_rows, block_sides, cut_lines}
 use Rattle.px_sample.specs.Sample.{form_line, left_and_right, sample_start, sample_text, top_and_bottom, union_of}
 use Rattle.px_sample.specs.SampleLaw.{SamplesAreAccepted}
-use Rattle.px_canonical.proofs.WrittenLaws.{both_texts, one_line, parts_are, text_of_lines}
-use Rattle.px_canonical.proofs.LengthLaws.{colour_short, line_short, name_short, plane_short, tree_short}
-use Rattle.px_canonical.proofs.LengthLemmas.{begin_short}
-use Rattle.px_canonical.proofs.RoundLaws.{begin_are}
+use Rattle.px_scene.proofs.WrittenLaws.{both_texts, one_line, parts_are, text_of_lines}
+use Rattle.px_scene.proofs.LengthLaws.{colour_short, line_short, name_short, plane_short, tree_short}
+use Rattle.px_scene.proofs.LengthLemmas.{begin_short}
+use Rattle.px_scene.proofs.RoundLaws.{begin_are}
 use Rattle.px_sample.proofs.SampleSolidLemmas.{back_of, back_plane, block_named, block_planes, block_words, blue}
 use Rattle.px_sample.proofs.SampleSolidLemmas.{blue_is, bottom_side, cut_back, cut_back_plane, cut_planes, cut_side}
 use Rattle.px_sample.proofs.SampleSolidLemmas.{cut_words, front_of, front_plane, left_side, right_side, sample_names}
@@ -22,8 +22,8 @@ use Rattle.px_sample.proofs.SampleSolidLemmas.{sample_solids, top_side, yellow, 
 use Rattle.px_sample.proofs.SampleTreeLemmas.{sample_tree}
 use Rattle.px_sample.proofs.SampleWalkLemmas.{sample_draft, sample_first, sample_is, sample_middle, sample_show}
 use Rattle.px_sample.proofs.SampleWalkLemmas.{sample_shown, sample_walk, sample_words}
-use Rattle.px_canonical.proofs.WalkLaws.{read_by_walk}
-use Rattle.px_canonical.proofs.LengthLaws as short
+use Rattle.px_scene.proofs.WalkLaws.{read_by_walk}
+use Rattle.px_scene.proofs.LengthLaws as short
 use Rattle.px_show.specs.declared.scene_version.Version.TheVariants as v
 
 abbrev head_line : List ℕ → Colour → Words

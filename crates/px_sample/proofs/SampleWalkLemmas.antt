@@ -5,20 +5,20 @@ use Rattle.px_expr.specs.Tree.{HasLeavesBelow}
 use Rattle.px_text.specs.Text.{Words}
 use Rattle.px_show.specs.Printed.{named_by, printed}
 use Rattle.px_model.specs.Scenes.{SolidView, names_of}
-use Rattle.px_canonical.specs.Canonical.{colour_words, words_of_plane}
+use Rattle.px_scene.specs.Canonical.{colour_words, words_of_plane}
 use Rattle.px_scene.specs.Drafts.{DraftView, blank, fresh_solid, with_front}
 use Rattle.px_scene.specs.Lines.{uncoloured}
 use Rattle.px_sample.specs.Sample.{block_name, block_rows}
-use Rattle.px_canonical.proofs.RoundLaws.{back_walk, begin_walk, begin_words, end_walk, front_walk, open_solid, opened}
-use Rattle.px_canonical.proofs.RoundLaws.{plane_written, show_walk, shown_draft, sides_walk, solid_walk, standing}
-use Rattle.px_canonical.proofs.RoundLaws.{stands}
+use Rattle.px_scene.proofs.RoundLaws.{back_walk, begin_walk, begin_words, end_walk, front_walk, open_solid, opened}
+use Rattle.px_scene.proofs.RoundLaws.{plane_written, show_walk, shown_draft, sides_walk, solid_walk, standing}
+use Rattle.px_scene.proofs.RoundLaws.{stands}
 use Rattle.px_sample.proofs.SampleSolidLemmas.{back_of, back_plane, block, block_named, block_planes, block_sides_of}
 use Rattle.px_sample.proofs.SampleSolidLemmas.{block_words, blocks, blocks_more, blue, blue_is, cut_back}
 use Rattle.px_sample.proofs.SampleSolidLemmas.{cut_back_plane, cut_planes, cut_side, cut_solid, cut_words, fresh_block}
 use Rattle.px_sample.proofs.SampleSolidLemmas.{fresh_cut, front_of, front_plane, sample_names, sample_solids}
 use Rattle.px_sample.proofs.SampleSolidLemmas.{side_words, yellow, yellow_is}
 use Rattle.px_sample.proofs.SampleTreeLemmas.{IsSampleTree, sample_tree, sample_tree_is}
-use Rattle.px_canonical.proofs.WalkLaws.{Walk, walk_both}
+use Rattle.px_scene.proofs.WalkLaws.{Walk, walk_both}
 use Rattle.px_show.specs.declared.scene_version.Version.TheVariants as v
 use Rattle.px_scene.specs.declared.line.Due.TheVariants as d
 

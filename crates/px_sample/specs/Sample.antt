@@ -3,7 +3,7 @@ use Rattle.std.specs.Prelude.{ℕ, zero, suc, ◌+◌, ◌-◌, ◌*◌, ◌/◌
 use Rattle.std.specs.Prelude.{ℤ, pos, neg_ℤ, codes, decimal}
 use Rattle.std.specs.List.{flat_map, range_with_len}
 use Rattle.px_num.specs.declared.linear.Linear.{Linear}
-use Rattle.px_canonical.specs.Canonical.{colour_words, words_of_plane, side_line, written_line}
+use Rattle.px_scene.specs.Canonical.{colour_words, words_of_plane, side_line, written_line}
 
 abbrev pub form : (a b c : ℤ) → Linear
 form a b c = record { a = a; b = b; c = c }

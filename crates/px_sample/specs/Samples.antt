@@ -9,9 +9,9 @@ use Rattle.px_scene.specs.Text.{worded}
 use Rattle.px_scene.specs.Reading.{scene_of}
 use Rattle.px_prune.specs.Kept.{plan_of}
 use Rattle.px_control.specs.Program.{total}
-use Rattle.px_answers.specs.SampleText.{four_lines}
-use Rattle.px_outcome.specs.Outcomes.{Outcome, done, drawable, unless_refused}
-use Rattle.px_outcome.specs.Refusals.{text_refusal}
+use Rattle.px_commands.specs.SampleText.{four_lines}
+use Rattle.px_commands.specs.Outcomes.{Outcome, done, drawable, unless_refused}
+use Rattle.px_commands.specs.Refusals.{text_refusal}
 
 -- the sum of the numbers of so many pixels of row y, and that of so many rows of them
 abbrev pub row_sum : (number : (x y : ℕ) → ℕ) → (width y : ℕ) → ℕ

@@ -1,6 +1,6 @@
 //! The sample: a scene of so many blocks with one cut through all of them, the program's own measure of work.
 ghost use Rattle.std.specs.Prelude.{◌≡◌, ◌+◌, ◌/◌, ◌<◌, ◌≤◌, ◌++◌, ◌∷◌, [], ℕ, codes, IfOk, OnOk};
-ghost use Rattle.px_canonical.specs.Canonical.{written_line};
+ghost use Rattle.px_scene.specs.Canonical.{written_line};
 ghost use Rattle.px_model.specs.declared.limits.TheConstants.{MAX_BLOCKS};
 ghost use Rattle.px_sample.specs.Sample.{
   block_faces,
@@ -20,12 +20,12 @@ ghost use Rattle.px_sample.specs.Sample.{
 ghost use Rattle.px_sample.specs.SampleLaw.{SamplesAreAccepted};
 
 use itoa::Buffer;
-use px_canonical::{
+use px_model::Colour;
+use px_num::{Linear, Memory};
+use px_scene::{
     put_bytes, put_colour, put_depth, put_head, put_header, put_line, put_picture, put_plane,
     put_side,
 };
-use px_model::Colour;
-use px_num::{Linear, Memory};
 use px_show::Version;
 use std::alloc::Global;
 
@@ -127,7 +127,7 @@ fn put_cut(text: &mut Vec<u8>) -> Result<(), Memory>
     put_form(text, b"back", &form(0, 0, 300))
 }
 
-#[tactic(auto, unfolding(px_canonical::specs::Canonical::written_line))]
+#[tactic(auto, unfolding(px_scene::specs::Canonical::written_line))]
 fn put_shown(text: &mut Vec<u8>, n: u32) -> Result<(), Memory>
     requires some { 1 ≤ n }
     requires few { n ≤ MAX_BLOCKS }
@@ -157,7 +157,7 @@ fn put_union(text: &mut Vec<u8>, first: u32, end: u32) -> Result<(), Memory>
     put_bytes(text, b")")
 }
 
-#[tactic(auto, unfolding(px_canonical::specs::Canonical::written_line))]
+#[tactic(auto, unfolding(px_scene::specs::Canonical::written_line))]
 fn put_block_line(text: &mut Vec<u8>, i: u32) -> Result<(), Memory>
     requires { i < MAX_BLOCKS }
     ensures { OnOk result (text.new.items ≡ text.old.items ++ block_line i) }
@@ -174,7 +174,7 @@ fn put_block_line(text: &mut Vec<u8>, i: u32) -> Result<(), Memory>
 }
 
 /// A front or a back in the colour of its solid.
-#[tactic(auto, unfolding(px_canonical::specs::Canonical::written_line))]
+#[tactic(auto, unfolding(px_scene::specs::Canonical::written_line))]
 fn put_form(text: &mut Vec<u8>, keyword: &[u8], plane: &Linear) -> Result<(), Memory>
     ensures { OnOk result (text.new.items ≡ text.old.items ++ form_line keyword.now plane.now) }
 {

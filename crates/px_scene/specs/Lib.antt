@@ -3,9 +3,11 @@ pub use Rattle.px_model.specs.Scenes
 pub use Rattle.px_text.specs.Text
 pub use Rattle.px_text.specs.Written
 pub mod AcceptedLaw
+pub mod Canonical
 pub mod DraftViews
 pub mod Drafts
 pub mod LawfulDrafts
 pub mod Lines
 pub mod Parsed
 pub mod Reading
+pub mod Writable

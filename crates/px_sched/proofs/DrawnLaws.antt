@@ -6,7 +6,7 @@ use Rattle.px_sched.proofs.Words.{leaves_below, literals, Product, SceneView, su
 use Rattle.px_normal.proofs.NormalLemmas.{all_below, all_plain}
 use Rattle.px_prune.specs.Bounding.{bounding_box}
 use Rattle.px_prune.proofs.StayingLemmas.{kept_below, kept_plain}
-use Rattle.px_sets.proofs.SolidsLaws.{solids_laws}
+use Rattle.px_normal.proofs.SolidsLaws.{solids_laws}
 use Rattle.px_sched.proofs.MemberLaws.{In}
 use Rattle.px_sched.proofs.ProductLaws.{each_literal, in_solids}
 

@@ -6,7 +6,7 @@ use Rattle.px_sched.proofs.Words.{bare, candidate_faces, confirm_worth, depths_o
 use Rattle.px_sched.proofs.Words.{EdgesAreCounted, HasFace, IsLawfulSolid, IsThere, judged_worth, LayoutView, Literal}
 use Rattle.px_sched.proofs.Words.{literal_steps, literals, no_solid, operations, others, passes_with, Product}
 use Rattle.px_sched.proofs.Words.{product_steps, SceneView, solid_of, SolidSet, SolidView, Step, steps_with}
-use Rattle.px_sets.specs.Sets.{below, has, solids}
+use Rattle.px_normal.specs.Sets.{below, has, solids}
 use Rattle.px_sched.specs.declared.literal.TheConstants.{MAX_LITERALS}
 use Rattle.px_sched.proofs.LawfulLaws.{all_or}
 use Rattle.px_sched.proofs.OperationLaws.{steps_there}

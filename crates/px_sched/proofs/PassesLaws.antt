@@ -17,7 +17,7 @@ use Rattle.px_prune.specs.Bounding.{bounding_box}
 use Rattle.px_prune.specs.Kept.{plan_of}
 use Rattle.px_prune.proofs.KeptLaws.{kept_is_shown, none_is_void}
 use Rattle.px_prune.proofs.StayingLemmas.{kept_below}
-use Rattle.px_sets.proofs.SolidsLaws.{solids_laws}
+use Rattle.px_normal.proofs.SolidsLaws.{solids_laws}
 use Rattle.px_sched.specs.Layouts.{layout_of}
 use Rattle.px_sched.specs.NumbersLaw.{NumbersShowThePicture}
 use Rattle.px_sched.specs.PassesFacts.{PassesAreFew, PassesAreLawful, StepsAreLawful}

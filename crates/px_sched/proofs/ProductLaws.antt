@@ -7,7 +7,7 @@ use Rattle.px_sched.proofs.Words.{faces_of, fronts_at, has_face, HasSolidsBelow,
 use Rattle.px_sched.proofs.Words.{KeyedPixel, leaf_cell, Literal, literal, literals, literals_of, no_cell, no_solid}
 use Rattle.px_sched.proofs.Words.{or_left, or_right, Product, SceneView, shows, solid_cell, solid_of, SolidSet}
 use Rattle.px_sched.proofs.Words.{SolidView}
-use Rattle.px_sets.specs.Sets.{below, has, solids}
+use Rattle.px_normal.specs.Sets.{below, has, solids}
 use Rattle.px_sched.proofs.BlockLemmas.{suited}
 use Rattle.px_sched.proofs.MemberLaws.{From, In, all_of, any_in, any_out, face_in, in_either, in_face, in_filter}
 use Rattle.px_sched.proofs.MemberLaws.{in_left, in_map, in_right, one_of, out_filter, out_map}

@@ -54,7 +54,7 @@ pub use Rattle.px_sched.specs.declared.literal.Literal.{Literal}
 pub use Rattle.px_sched.specs.declared.step.Step.{Step}
 pub use Rattle.px_sched.specs.declared.step.Step.TheVariants.{Begin, Candidate, Clear, Close, Confirm, Drop, Front}
 pub use Rattle.px_sched.specs.declared.step.Step.TheVariants.{Merge, Open, Turn}
-pub use Rattle.px_sets.specs.declared.set.SolidSet.{SolidSet}
+pub use Rattle.px_normal.specs.declared.set.SolidSet.{SolidSet}
 pub use Rattle.std.proofs.lemmas.Bool.{cases_order, cond-false}
 pub use Rattle.std.proofs.lemmas.List.{get_or-drop, length-drop, length-take}
 pub use lib.Signed.{le_z, lt_z}

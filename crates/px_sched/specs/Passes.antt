@@ -11,7 +11,7 @@ use Rattle.px_model.specs.Cells.{Depths, depths_of, end_of}
 use Rattle.px_face.specs.Faces.{face_count, face_number, face_plane}
 use Rattle.px_face.specs.Edges.{edges}
 use Rattle.px_normal.specs.declared.product.Product.{Product}
-use Rattle.px_sets.specs.Sets.{solids}
+use Rattle.px_normal.specs.Sets.{solids}
 use Rattle.px_prune.specs.Kept.{plan_of}
 use Rattle.px_sched.specs.declared.literal.Literal.{Literal}
 use Rattle.px_sched.specs.declared.step.Step.{Step}

@@ -369,7 +369,7 @@ fn candidate(scene: &Scene, solid: &Solid, face: usize, layout: &Layout, at: usi
     }
 }
 
-/// The same, of those before and behind the edges.
+/// An operation of such a step before or after its edges.
 fn candidate_at_ends(scene: &Scene, solid: &Solid, face: usize, layout: &Layout, at: usize) -> Macro
     requires face { face < face_count solid.now }
     requires bits { layout.now.fraction_bits ≡ scene.now.fraction_bits }
@@ -443,7 +443,7 @@ fn where_passed(
     }
 }
 
-/// The same, of those before and behind the edges.
+/// An operation of such a step before or after its edges.
 fn passed_at_ends(
     scene: &Scene,
     solid: u8,

@@ -9,8 +9,8 @@ use Rattle.px_num.proofs.TruthLaws.{lt_true}
 use Rattle.px_io.specs.Told.{SinkState, TakesAll, TakesFront}
 use Rattle.px_io.proofs.ToldLaws.{takes_both, takes_none}
 use Rattle.px_debug.specs.Answers.{answer}
-use Rattle.px_debug_text.specs.Commands.{line_command}
-use Rattle.px_debug_text.specs.declared.command.Command.{Command}
+use Rattle.px_debug.specs.Commands.{line_command}
+use Rattle.px_debug.specs.declared.command.Command.{Command}
 use Rattle.px_debug.specs.Moves.{SessionView, going, most_clocks, moved}
 use Rattle.px_debug.specs.declared.session.Going.{Going}
 use Rattle.px_asked.proofs.PartLemmas.{not_feed}

@@ -4,7 +4,7 @@ use Rattle.std.specs.List.{fold}
 use Rattle.px_io.specs.Told.{SinkState}
 use Rattle.px_model.specs.Scenes.{SceneView}
 use Rattle.px_debug.specs.Answers.{answer}
-use Rattle.px_debug_text.specs.Commands.{line_command}
+use Rattle.px_debug.specs.Commands.{line_command}
 use Rattle.px_debug.specs.Moves.{SessionView, going, most_clocks, moved}
 use Rattle.px_debug.specs.declared.session.Going.{Going}
 use Rattle.px_debug.specs.declared.session.Going.TheVariants as g

@@ -18,7 +18,7 @@ pub(crate) type Line = ArrayVec<u8, 256>;
 
 /// Keeps a byte of a line, as long as there is room.
 #[tactic(auto, using(crate::proofs::FeedingLemmas::kept_full, crate::proofs::FeedingLemmas::kept_more))]
-fn keep(held: &mut Line, byte: u8)
+fn hold_byte(held: &mut Line, byte: u8)
     ensures { (line : List ℕ) → held.old.items ≡ short line →
         held.new.items ≡ short (line ++ byte ∷ []) }
 {
@@ -27,8 +27,8 @@ fn keep(held: &mut Line, byte: u8)
     }
 }
 
-/// Gives a line to a session, by its first bytes.
-fn give<A: Operating, O: Sink>(
+/// Has a session answer a line, by its first bytes.
+fn answer_line<A: Operating, O: Sink>(
     session: &mut Session<'_>,
     array: &mut A,
     first: &[u8],
@@ -70,11 +70,11 @@ fn take_byte<A: Operating, O: Sink>(
     ensures cause { HasCause (O.state out.old).faults (O.state out.new).faults result }
 {
     if byte == b'\n' {
-        let going = give(session, array, held.as_slice(), out)?;
+        let going = answer_line(session, array, held.as_slice(), out)?;
         held.clear();
         Ok(going)
     } else {
-        keep(held, byte);
+        hold_byte(held, byte);
         Ok(Going::More)
     }
 }
@@ -134,7 +134,7 @@ pub(crate) fn finish_line<A: Operating, O: Sink>(
     match held.as_slice() {
         [] => Ok(()),
         [_, ..] => {
-            give(session, array, held.as_slice(), out)?;
+            answer_line(session, array, held.as_slice(), out)?;
             Ok(())
         }
     }

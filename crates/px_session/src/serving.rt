@@ -111,7 +111,7 @@ fn read_on<S: Asks<O>, O: Sink, A: Operating>(
     let mut piece = [0; 4096];
     let mut more = limit;
     while more > 0 {
-        match turn(session, held, array, input, &mut piece, more, out) {
+        match read_and_answer(session, held, array, input, &mut piece, more, out) {
             Ok(count) => more -= count,
             Err(ending) => return ending,
         }
@@ -121,7 +121,7 @@ fn read_on<S: Asks<O>, O: Sink, A: Operating>(
 
 /// One read, and the answers to the lines that it ends.
 #[tactic(auto, using(crate::proofs::TurningLemmas::read_is))]
-fn turn<S: Asks<O>, O: Sink, A: Operating>(
+fn read_and_answer<S: Asks<O>, O: Sink, A: Operating>(
     session: &mut Session<'_>,
     held: &mut Line,
     array: &mut A,

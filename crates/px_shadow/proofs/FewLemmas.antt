@@ -5,7 +5,7 @@ use Rattle.px_num.proofs.Basics.{length-map-range_with_len, length-range_with_le
 use Rattle.px_shadow.proofs.Words.{background_passes, below, depths_of, end_of, face_count, has, IsBelow}
 use Rattle.px_shadow.proofs.Words.{IsLawfulSolid, LayoutView, light_bit, light_passes, Macro, no_solid, passes_from}
 use Rattle.px_shadow.proofs.Words.{range_all, solid_of, solid_passes, SolidSet, SolidView, stored_turn}
-use Rattle.px_sets.specs.Sets.{solids}
+use Rattle.px_normal.specs.Sets.{solids}
 use Rattle.px_model.specs.Scenes.{SceneView}
 use Rattle.px_sched.proofs.FewLaws.{few_filtered}
 use Rattle.px_sched.proofs.LayoutLaws.{scene_layout}

@@ -11,20 +11,20 @@ use Rattle.px_io.specs.declared.reading.ReadError.{ReadError}
 use Rattle.px_scene.specs.Scenes.{SceneView}
 use Rattle.px_scene.specs.Reading.{scene_of}
 use Rattle.px_asked.specs.Parts.{behind_part, part_end, scene_part}
-use Rattle.px_outcome.specs.declared.refusal.Refusal.{Refusal}
-use Rattle.px_outcome.specs.declared.stop.Stop.{Stop}
-use Rattle.px_outcome.specs.declared.stop.SceneStop.{SceneStop}
-use Rattle.px_outcome.specs.Arrays.{Draws}
-use Rattle.px_outcome.specs.Ends.{Ends, IsUntouched}
-use Rattle.px_outcome.specs.Results.{Meets, status_in, status_of}
+use Rattle.px_commands.specs.declared.refusal.Refusal.{Refusal}
+use Rattle.px_commands.specs.declared.stop.Stop.{Stop}
+use Rattle.px_commands.specs.declared.stop.SceneStop.{SceneStop}
+use Rattle.px_commands.specs.Arrays.{Draws}
+use Rattle.px_commands.specs.Ends.{Ends, IsUntouched}
+use Rattle.px_commands.specs.Results.{Meets, status_in, status_of}
 use Rattle.px_shadow.proofs.ArrayLemmas.{mask_law}
 use Rattle.px_shadow.specs.Shadows.{lit, shadowed}
-use Rattle.px_outcome.specs.Stops.{DoesWork, read_stop, stopped}
-use Rattle.px_outcome.proofs.LimitLaws.{long_is, short_is}
+use Rattle.px_commands.specs.Stops.{DoesWork, read_stop, stopped}
+use Rattle.px_commands.proofs.LimitLaws.{long_is, short_is}
 use Rattle.px_io.specs.declared.reading.ReadError.TheVariants as read
-use Rattle.px_outcome.specs.declared.refusal.Refusal.TheVariants as r
-use Rattle.px_outcome.specs.declared.stop.Stop.TheVariants as s
-use Rattle.px_outcome.specs.declared.stop.SceneStop.TheVariants as halted
+use Rattle.px_commands.specs.declared.refusal.Refusal.TheVariants as r
+use Rattle.px_commands.specs.declared.stop.Stop.TheVariants as s
+use Rattle.px_commands.specs.declared.stop.SceneStop.TheVariants as halted
 
 -- a text past its limit, and one within it
 pub long_shadowed : (bytes : List ℕ) (bits : ℕ) → 1048577 ≤ length bytes → shadowed bytes bits ≡ refused too_long

@@ -25,17 +25,17 @@ pub use Rattle.px_num.proofs.TruthLaws.{and_both, and_false, and_left, and_right
 pub use Rattle.px_num.proofs.TruthLaws.{turned_from_false}
 pub use Rattle.px_num.specs.Bits.{bit_at, modulo}
 pub use Rattle.px_num.specs.declared.linear.Linear.{Linear}
-pub use Rattle.px_outcome.proofs.RunLaws.{bytes_of, of_known, performs_over, serves_front, serves_whole}
-pub use Rattle.px_outcome.proofs.StopLaws.{read_meets, read_writes, stop_draws, stop_serves}
-pub use Rattle.px_outcome.specs.Outcomes.{done, Outcome, refusal, refused, unless_refused}
-pub use Rattle.px_outcome.specs.Refusals.{text_refusal, too_long}
+pub use Rattle.px_commands.proofs.RunLaws.{bytes_of, of_known, performs_over, serves_front, serves_whole}
+pub use Rattle.px_commands.proofs.StopLaws.{read_meets, read_writes, stop_draws, stop_serves}
+pub use Rattle.px_commands.specs.Outcomes.{done, Outcome, refusal, refused, unless_refused}
+pub use Rattle.px_commands.specs.Refusals.{text_refusal, too_long}
 pub use Rattle.px_prune.specs.Kept.{plan_of, set_of}
 pub use Rattle.px_scene.specs.Text.{worded}
 pub use Rattle.px_sched.specs.Layouts.{deep_part, IsLayout, layout_of, layout_with, LayoutView, need_of, number_part}
 pub use Rattle.px_sched.specs.Passes.{keep_covered, no_solid, solid_of}
-pub use Rattle.px_sets.proofs.SolidsLaws.{solids_laws}
-pub use Rattle.px_sets.specs.Sets.{below, empty, has, IsBelow, one, sets_joined, solids}
-pub use Rattle.px_sets.specs.declared.set.SolidSet.{SolidSet}
+pub use Rattle.px_normal.proofs.SolidsLaws.{solids_laws}
+pub use Rattle.px_normal.specs.Sets.{below, empty, has, IsBelow, one, sets_joined, solids}
+pub use Rattle.px_normal.specs.declared.set.SolidSet.{SolidSet}
 pub use Rattle.px_shadow.specs.Carrying.{CanCarryOut, carried_out, CarriesOut, IsRestOf}
 pub use Rattle.px_shadow.specs.LightLines.{as_light, is_solid_name, light_fault_behind, light_in, light_of}
 pub use Rattle.px_shadow.specs.LightLines.{lights_fault, lights_of, line_fault, named, solid_named}

@@ -14,4 +14,4 @@ pub use Rattle.px_model.specs.Cells
 pub use Rattle.px_model.specs.Scenes
 pub use Rattle.px_sched.specs.Layouts
 pub use Rattle.px_sched.specs.PassesLaw
-pub use Rattle.px_sets.specs.Sets
+pub use Rattle.px_normal.specs.Sets

@@ -2,8 +2,8 @@
 use Rattle.std.specs.Prelude.{ℕ, Bool, false, not, List, length, get_or, Option, Some, None}
 use Rattle.std.specs.List.{list_all}
 use Rattle.px_macro.specs.Fields.{number_from_bits}
-use Rattle.px_sets.specs.declared.set.SolidSet.{SolidSet}
-use Rattle.px_sets.specs.Sets.{empty, solids}
+use Rattle.px_normal.specs.declared.set.SolidSet.{SolidSet}
+use Rattle.px_normal.specs.Sets.{empty, solids}
 use Rattle.px_model.specs.Scenes.{SceneView}
 use Rattle.px_model.specs.Cells.{depths_of, first_cell, is_inside}
 use Rattle.px_sched.specs.Passes.{solid_of}

@@ -1,7 +1,7 @@
 -- How many operations the shadow passes are. Only proofs and private functions stand on it.
 use Rattle.std.specs.Prelude.{◌≤◌, ◌*◌, All, List, length}
-use Rattle.px_sets.specs.declared.set.SolidSet.{SolidSet}
-use Rattle.px_sets.specs.Sets.{IsBelow}
+use Rattle.px_normal.specs.declared.set.SolidSet.{SolidSet}
+use Rattle.px_normal.specs.Sets.{IsBelow}
 use Rattle.px_model.specs.Scenes.{IsLawfulScene, SceneView, IsLawfulSolid}
 use Rattle.px_sched.specs.Layouts.{layout_of}
 use Rattle.px_shadow.specs.ShadowPasses.{shadow_passes}

@@ -4,8 +4,8 @@ use Rattle.std.specs.Prelude.{if◌then◌else◌, Option, Some, None}
 use Rattle.std.specs.List.{filter_map, list_all, slice_split}
 use Rattle.std.specs.Str.{bytes_eq}
 use Rattle.px_text.specs.Text.{Words, words_of, is_name}
-use Rattle.px_sets.specs.declared.set.SolidSet.{SolidSet}
-use Rattle.px_sets.specs.Sets.{IsBelow, sets_joined, one}
+use Rattle.px_normal.specs.declared.set.SolidSet.{SolidSet}
+use Rattle.px_normal.specs.Sets.{IsBelow, sets_joined, one}
 use Rattle.px_model.specs.Scenes.{SolidView}
 use Rattle.px_prune.specs.Kept.{set_of}
 use Rattle.px_shadow.specs.declared.light.Said.{Said}

@@ -5,7 +5,7 @@ use Rattle.px_array.specs.declared.micro.Micro.{Micro}
 use Rattle.px_array.specs.Arrays.{Device}
 use Rattle.px_array.specs.Clocks.{all_clocked}
 use Rattle.px_asm.specs.Micros.{all_micros}
-use Rattle.px_sets.specs.declared.set.SolidSet.{SolidSet}
+use Rattle.px_normal.specs.declared.set.SolidSet.{SolidSet}
 use Rattle.px_model.specs.Scenes.{SceneView}
 use Rattle.px_sched.specs.Layouts.{layout_of}
 use Rattle.px_control.specs.Program.{array_after, columns_of, rows_of, total}

@@ -4,8 +4,8 @@ use Rattle.std.specs.Prelude.{◌≡◌, ℕ, ◌+◌, ◌<◌, ◌≤◌, All, 
 use Rattle.px_array.specs.Arrays.{Device, State}
 use Rattle.px_num.specs.Bits.{bit_at}
 use Rattle.px_macro.specs.Macros.{IsLawful, PixelBits, after_macros}
-use Rattle.px_sets.specs.declared.set.SolidSet.{SolidSet}
-use Rattle.px_sets.specs.Sets.{IsBelow}
+use Rattle.px_normal.specs.declared.set.SolidSet.{SolidSet}
+use Rattle.px_normal.specs.Sets.{IsBelow}
 use Rattle.px_model.specs.Scenes.{IsLawfulScene, SceneView, IsLawfulSolid}
 use Rattle.px_model.specs.Cells.{picture}
 use Rattle.px_sched.specs.Layouts.{LayoutView, layout_of}

@@ -7,8 +7,8 @@ use Rattle.px_macro.specs.declared.operation.Macro.TheVariants as m
 use Rattle.px_model.specs.Scenes.{SceneView, SolidView}
 use Rattle.px_model.specs.Cells.{depths_of, end_of}
 use Rattle.px_face.specs.Faces.{face_count, face_plane}
-use Rattle.px_sets.specs.declared.set.SolidSet.{SolidSet}
-use Rattle.px_sets.specs.Sets.{solids}
+use Rattle.px_normal.specs.declared.set.SolidSet.{SolidSet}
+use Rattle.px_normal.specs.Sets.{solids}
 use Rattle.px_sched.specs.Layouts.{LayoutView, deep_part, need_of, number_part}
 use Rattle.px_sched.specs.Passes.{keep_covered, solid_of}
 

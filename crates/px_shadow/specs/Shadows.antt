@@ -7,7 +7,7 @@ use Rattle.px_array.specs.Slots.{ArrayView, IsRunOnce}
 use Rattle.px_scene.specs.Scenes.{SceneView}
 use Rattle.px_scene.specs.Text.{worded}
 use Rattle.px_scene.specs.Reading.{scene_of}
-use Rattle.px_sets.specs.declared.set.SolidSet.{SolidSet}
+use Rattle.px_normal.specs.declared.set.SolidSet.{SolidSet}
 use Rattle.px_asked.specs.Parts.{behind_part, scene_part}
 use Rattle.px_sched.specs.Layouts.{layout_of}
 use Rattle.px_shadow.specs.declared.light.LightFault.{LightFault}
@@ -16,18 +16,18 @@ use Rattle.px_shadow.specs.LightLines.{lights_fault, lights_of}
 use Rattle.px_shadow.specs.Lights.{mask_image}
 use Rattle.px_shadow.specs.Shaded.{IsShaded}
 use Rattle.px_shadow.specs.ShadowPasses.{need_with}
-use Rattle.px_outcome.specs.declared.refusal.Kind.TheVariants as k
-use Rattle.px_outcome.specs.declared.refusal.Refusal.{Refusal}
-use Rattle.px_outcome.specs.declared.refusal.Refusal.TheVariants as r
-use Rattle.px_outcome.specs.declared.stop.Stop.{Stop}
-use Rattle.px_outcome.specs.declared.status.Status.{Status}
-use Rattle.px_outcome.specs.declared.status.Status.TheVariants as status
-use Rattle.px_outcome.specs.Arrays.{IsKeptOrClosed}
-use Rattle.px_outcome.specs.Ends.{Ends}
-use Rattle.px_outcome.specs.Inputs.{PerformsOver, WritesAndLeaves}
-use Rattle.px_outcome.specs.Outcomes.{Outcome, done, refused, unless_refused, within_products}
-use Rattle.px_outcome.specs.Refusals.{is_long, short_of_bits, text_refusal, too_long}
-use Rattle.px_outcome.specs.Results.{status_in}
+use Rattle.px_commands.specs.declared.refusal.Kind.TheVariants as k
+use Rattle.px_commands.specs.declared.refusal.Refusal.{Refusal}
+use Rattle.px_commands.specs.declared.refusal.Refusal.TheVariants as r
+use Rattle.px_commands.specs.declared.stop.Stop.{Stop}
+use Rattle.px_commands.specs.declared.status.Status.{Status}
+use Rattle.px_commands.specs.declared.status.Status.TheVariants as status
+use Rattle.px_commands.specs.Arrays.{IsKeptOrClosed}
+use Rattle.px_commands.specs.Ends.{Ends}
+use Rattle.px_commands.specs.Inputs.{PerformsOver, WritesAndLeaves}
+use Rattle.px_commands.specs.Outcomes.{Outcome, done, refused, unless_refused, within_products}
+use Rattle.px_commands.specs.Refusals.{is_long, short_of_bits, text_refusal, too_long}
+use Rattle.px_commands.specs.Results.{status_in}
 
 -- the refusal of a light line
 abbrev pub light_refusal : LightFault → Refusal

@@ -4,7 +4,7 @@ use Rattle.px_array.specs.Arrays.{State, pixel_of}
 use Rattle.px_macro.specs.Fields.{number_in}
 use Rattle.px_num.specs.Bits.{bit_at}
 use Rattle.px_macro.specs.declared.field.Field.{Field}
-use Rattle.px_sets.specs.declared.set.SolidSet.{SolidSet}
+use Rattle.px_normal.specs.declared.set.SolidSet.{SolidSet}
 use Rattle.px_model.specs.Scenes.{SceneView}
 use Rattle.px_sched.specs.Layouts.{LayoutView, field}
 use Rattle.px_frame.specs.Picture.{image_of}

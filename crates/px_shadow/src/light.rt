@@ -3,7 +3,7 @@ ghost use Rattle.std.specs.Prelude.{◌≡◌, ◌<◌, ◌≤◌, ◌++◌, ◌
 ghost use Rattle.std.specs.List.{cons_option};
 ghost use Rattle.px_model.specs.Scenes.{SolidView};
 ghost use Rattle.px_text.specs.Text.{is_name, Words, words_of, worded};
-ghost use Rattle.px_sets.specs.Sets.{IsBelow};
+ghost use Rattle.px_normal.specs.Sets.{IsBelow};
 ghost use Rattle.px_text.specs.declared.text.TheConstants.{MAX_TEXT_BYTES};
 ghost use Rattle.px_shadow.specs.declared.light.Said.TheVariants as s;
 ghost use Rattle.px_shadow.specs.Saying.{AreRead, pieces_of, said_of, with_solid};
@@ -20,8 +20,8 @@ ghost use Rattle.px_shadow.specs.LightLines.{
 use crate::passes::MAX_LIGHTS;
 use arrayvec::ArrayVec;
 use px_model::{Scene, laws_of_scenes};
+use px_normal::SolidSet;
 use px_scene::Cause;
-use px_sets::SolidSet;
 use px_text::{before_comment, is_blank, is_name, is_word, without_last_feed};
 use thiserror::Error;
 

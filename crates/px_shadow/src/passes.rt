@@ -3,7 +3,7 @@ ghost use Rattle.std.specs.Prelude.{◌≡◌, ◌+◌, ◌-◌, ◌<◌, ◌≤
 ghost use Rattle.px_array.specs.Slots.{HasWorked, IsRunOnce};
 ghost use Rattle.px_face.specs.Edges.{edge_count};
 ghost use Rattle.px_face.specs.Faces.{face_count};
-ghost use Rattle.px_sets.specs.Sets.{IsBelow};
+ghost use Rattle.px_normal.specs.Sets.{IsBelow};
 ghost use Rattle.px_prune.specs.Kept.{plan_of};
 ghost use Rattle.px_sched.specs.Layouts.{layout_of};
 ghost use Rattle.px_control.specs.GridLaw.{CoversThePicture};
@@ -29,9 +29,8 @@ use px_asm::Operating;
 use px_face::{edge_at, edge_count, face_count, laws_of_edges, plane_of};
 use px_macro::Macro;
 use px_model::{Scene, Solid, laws_of_scenes};
-use px_normal::MAX_PRODUCTS;
+use px_normal::{MAX_PRODUCTS, SolidSet};
 use px_sched::Layout;
-use px_sets::SolidSet;
 
 /// A scene is lit by at most so many lights.
 pub const MAX_LIGHTS: usize = 8;

@@ -7,20 +7,20 @@ ghost use Rattle.px_array.specs.Slots.{IsRunOnce};
 ghost use Rattle.px_control.specs.GridLaw.{CoversThePicture};
 ghost use Rattle.px_control.specs.Program.{IsAt};
 ghost use Rattle.px_asked.specs.Parts.{part_end};
-ghost use Rattle.px_sets.specs.Sets.{IsBelow};
+ghost use Rattle.px_normal.specs.Sets.{IsBelow};
 ghost use Rattle.px_sched.specs.Layouts.{layout_of};
 ghost use Rattle.px_shadow.specs.Lights.{mask_image};
 ghost use Rattle.px_shadow.specs.Shaded.{IsShaded};
 ghost use Rattle.px_shadow.specs.ShadowPasses.{need_with};
 ghost use Rattle.px_shadow.specs.Stored.{StoresTheLights};
-ghost use Rattle.px_outcome.specs.declared.stop.Stop.{Stop};
-ghost use Rattle.px_outcome.specs.Arrays.{Draws};
-ghost use Rattle.px_outcome.specs.Outcomes.{Outcome};
-ghost use Rattle.px_outcome.specs.Ends.{ends};
-ghost use Rattle.px_outcome.specs.Results.{HasCauses, status_in, status_of};
-ghost use Rattle.px_outcome.specs.Inputs.{TookText};
+ghost use Rattle.px_commands.specs.declared.stop.Stop.{Stop};
+ghost use Rattle.px_commands.specs.Arrays.{Draws};
+ghost use Rattle.px_commands.specs.Outcomes.{Outcome};
+ghost use Rattle.px_commands.specs.Ends.{ends};
+ghost use Rattle.px_commands.specs.Results.{HasCauses, status_in, status_of};
+ghost use Rattle.px_commands.specs.Inputs.{TookText};
 ghost use Rattle.px_shadow.specs.Shadows.{PerformsShadow, Shades, ShadesBy, ShadesParts, line_behind, lit, lit_drawable, parts_lit, shadowed};
-ghost use Rattle.px_outcome.specs.Stops.{DoesWork, StopsAt, stopped};
+ghost use Rattle.px_commands.specs.Stops.{DoesWork, StopsAt, stopped};
 
 use crate::light::{LightFault, read_lights};
 use crate::masks::write_masks;
@@ -29,16 +29,16 @@ use arrayvec::ArrayVec;
 use px_array::Array;
 use px_asked::{laws_of_parts, part_end};
 use px_asm::Operating;
-use px_control::Job;
-use px_deliver::draw_job;
-use px_io::{Failed, Sink, Source};
-use px_outcome::{
+use px_commands::{
     Kind, READ_LIMIT, Refusal, SceneStop, Stop, behind, open_job, read_text, scene_in,
     short_of_bits, too_long,
 };
+use px_control::Job;
+use px_frame::draw_job;
+use px_io::{Failed, Sink, Source};
+use px_normal::SolidSet;
 use px_scene::{Scene, laws_of_scenes};
 use px_sched::{Layout, NeedBits};
-use px_sets::SolidSet;
 use px_text::MAX_TEXT_BYTES;
 use std::alloc::Global;
 
@@ -128,7 +128,7 @@ fn line_behind(part: &[u8]) -> u32
 
 impl From<LightFault> for Stop {
     ghost use Rattle.std.specs.Prelude.{◌≡◌};
-    ghost use Rattle.px_outcome.specs.declared.stop.Stop.TheVariants.{Refused};
+    ghost use Rattle.px_commands.specs.declared.stop.Stop.TheVariants.{Refused};
     ghost use Rattle.px_shadow.specs.Shadows.{light_refusal};
 
     ghost from_gives = { λ fault stop. stop ≡ Refused (light_refusal fault) };

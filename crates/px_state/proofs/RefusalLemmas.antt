@@ -1,5 +1,5 @@
 -- What is refused, and by which fault.
-use Rattle.px_num.proofs.Basics.{◌≡◌, ℕ, ◌<◌, ◌≤◌, ◌^◌, length, nat_lt, Option, Some, None, inl, inr, refl, ap, sym}
+use Rattle.px_num.proofs.Basics.{◌≡◌, ℕ, ◌<◌, ◌≤◌, length, nat_lt, Option, Some, None, inl, inr, refl, ap, sym}
 use Rattle.px_num.proofs.Basics.{◌∙◌, option_or, lt-ltb}
 use Rattle.px_num.proofs.TruthLaws.{lt_false}
 use Rattle.px_array.specs.Slots.{ArrayView}
@@ -10,7 +10,7 @@ use Rattle.px_control.specs.Standing.{LeavesOnRefusal}
 use Rattle.px_control.specs.declared.fault.JobFault.{JobFault}
 use Rattle.px_control.specs.declared.fault.JobFault.TheVariants as job
 use Rattle.px_listing.specs.Listings.{ListingView}
-use Rattle.px_state.specs.Refusals.{HasSmallCount, IsRefusedBy, clock_refusal, course_refusal, fault_of_job}
+use Rattle.px_state.specs.Refusals.{IsRefusedBy, clock_refusal, course_refusal, fault_of_job}
 use Rattle.px_state.specs.Refusals.{refusal_by_bits, operation_refusal, refused_by, refused_where}
 use Rattle.px_state.specs.Courses.{total_of_listing}
 use Rattle.px_state.specs.Words.{room_of}
@@ -36,21 +36,13 @@ pub job_refused : (bits : ℕ) (scene : SceneView) (fault : JobFault)
     → ((need : ℕ) → fault ≡ job.PixelMemory need → (bits < need_of (layout_of scene))
     × (need ≡ need_of (layout_of scene)))
     → ((count : ℕ) → fault ≡ job.Products count
-    → (need_of (layout_of scene) ≤ bits) × (crowd_of scene ≡ Some count) × (count ≤ 2 ^ 21))
+    → (need_of (layout_of scene) ≤ bits) × (crowd_of scene ≡ Some count))
     → IsRefusedBy (fault_of_job fault) (refusal_by_bits bits scene)
 job_refused bits scene (job.PixelMemory need) short many =
     let is = short need refl in inr (short_refused bits need scene is.0 is.1)
 job_refused bits scene (job.Products count) short many =
     let is = many count refl in inr (many_refused bits count scene is.0 is.1)
 job_refused bits scene (job.Memory _) short many = inl refl
-
-pub job_small : (bits : ℕ) (scene : SceneView) (fault : JobFault)
-    → ((count : ℕ) → fault ≡ job.Products count
-    → (need_of (layout_of scene) ≤ bits) × (crowd_of scene ≡ Some count) × (count ≤ 2 ^ 21))
-    → HasSmallCount (fault_of_job fault)
-job_small bits scene (job.PixelMemory need) many = tt
-job_small bits scene (job.Products count) many = let is = many count refl in is.2
-job_small bits scene (job.Memory _) many = tt
 
 pub job_leaves : (fault : JobFault) (bits : ℕ) (l : ListingView) (before now : ArrayView)
     → LeavesOnRefusal fault before now

@@ -13,7 +13,7 @@ use Rattle.px_playing.specs.PassesText.{passes_listing}
 use Rattle.px_listing.specs.Reading.{listing_of}
 use Rattle.px_listing.specs.Reading as listing
 use Rattle.px_listing.specs.Reading.{ListFault}
-use Rattle.px_state.specs.Refusals.{HasSmallCount, IsRefusedBy, course_of, is_listing, refusal_by_bits}
+use Rattle.px_state.specs.Refusals.{IsRefusedBy, course_of, is_listing, refusal_by_bits}
 use Rattle.px_state.specs.Refusals.{list_fault, fault_of_scene, input_refusal, past_text_limit}
 use Rattle.px_state.specs.Keeping.{KeepsArray}
 use Rattle.px_state.specs.declared.fault.StateFault.{StateFault}
@@ -53,16 +53,6 @@ pub scene_refused : (fault : SceneFault) (refusal : Option SceneFault) (job : Op
     → IsRefusedBy (fault_of_scene fault) (option_or (option_map fault_of_scene refusal) job)
 scene_refused fault refusal job (inl memory) = inl (ap fault_of_scene memory)
 scene_refused fault refusal job (inr is) = inr (rw is refl)
-
-pub list_small : (fault : ListFault) → HasSmallCount (list_fault fault)
-list_small (text_fault.Malformed line cause) = tt
-list_small (text_fault.Limit line kind found) = tt
-list_small (text_fault.Memory _) = tt
-
-pub scene_small : (fault : SceneFault) → HasSmallCount (fault_of_scene fault)
-scene_small (text_fault.Malformed line cause) = tt
-scene_small (text_fault.Limit line kind found) = tt
-scene_small (text_fault.Memory _) = tt
 
 pub list_keeps : (fault : ListFault) → KeepsArray (list_fault fault)
 list_keeps (text_fault.Malformed line cause) bits l array = refl

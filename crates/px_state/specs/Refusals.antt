@@ -1,5 +1,5 @@
 -- Why a text has no state, and no micros or operations, where it has none. Clauses of public calls stand on it.
-use Rattle.std.specs.Prelude.{◌≡◌, ℕ, ◌+◌, ◌≤◌, ◌^◌, ◌⊎◌, ⊤, Bool, true, false, pos, List, [], ◌∷◌, length}
+use Rattle.std.specs.Prelude.{◌≡◌, ℕ, ◌+◌, ◌⊎◌, Bool, true, false, pos, List, [], ◌∷◌, length}
 use Rattle.std.specs.Prelude.{nat_lt, if◌then◌else◌, Option, Some, None, codes, unwrap_or, ◌==◌}
 use Rattle.std.specs.List.{filter_map, slice_get, slice_split}
 use Rattle.std.specs.Option.{option_map, option_or}
@@ -109,22 +109,6 @@ operation_refusal l operation = refused_where (nat_lt (length l.macros) operatio
 abbrev pub operations_refusal : (bits : ℕ) → List ℕ → (first count : ℕ) → Option StateFault
 operations_refusal bits text first count =
     option_or (input_refusal bits text) (operation_refusal (course_of text) (first + count))
-
--- a list of products that is past the limit has at most so many
-abbrev pub HasFewProducts : JobFault → Type 0
-HasFewProducts (job.PixelMemory need) = ⊤
-HasFewProducts (job.Products count) = count ≤ 2 ^ 21
-HasFewProducts (job.Memory _) = ⊤
-
--- and so of a fault that tells its length
-abbrev pub HasSmallCount : StateFault → Type 0
-HasSmallCount (f.Scene fault) = ⊤
-HasSmallCount (f.Job fault) = HasFewProducts fault
-HasSmallCount (f.Listing fault) = ⊤
-HasSmallCount (f.NoClock clocks) = ⊤
-HasSmallCount (f.NoOperation operations) = ⊤
-HasSmallCount (f.NoRoom room) = ⊤
-HasSmallCount (f.Memory _) = ⊤
 
 -- a fault is the want of memory, or else exactly the refusal
 abbrev pub IsRefusedBy : StateFault → Option StateFault → Type 0

@@ -1,7 +1,7 @@
 //! What an act does to the pixels of a state where its words stand.
 ghost use Rattle.std.specs.Prelude.{◌≡◌, ◌≢◌, ◌≤◌, ◌<◌, ◌+◌, ◌*◌, ℕ, ◌&&◌, cond, get_or, length};
 ghost use Rattle.std.specs.Bool.{beq};
-ghost use Rattle.px_num.specs.Bits.{nat_bit, xor};
+ghost use Rattle.px_num.specs.Bits.{nat_bit};
 ghost use Rattle.px_pixel.specs.Acts.{HasPlace};
 ghost use Rattle.px_pixel.specs.Pixels.{PixelState};
 ghost use Rattle.px_planes.specs.Pixels.{acted_at};
@@ -10,8 +10,8 @@ ghost use Rattle.px_state.specs.Packing.{memory_place};
 
 use crate::packing::place_of;
 use crate::shape::Shape;
-use px_lanes::{all_of, chosen_word, majority_word, turned};
 use px_pixel::Act;
+use px_rows::{all_of, chosen_word, majority_word, turned, xor_word};
 
 /// One word of each plane that an act reads: 64 pixels.
 #[derive(Clone, Copy)]
@@ -39,7 +39,7 @@ pub(crate) fn act_all(words: &mut [u64], shape: &Shape, act: &Act)
     }
 }
 
-/// The same of the pixels of word `k` of each plane.
+/// Makes the pixels of word `k` of each plane do an act, by their leaves.
 fn act_word(words: &mut [u64], shape: &Shape, k: usize, act: &Act)
     requires shape { IsShape shape.now }
     requires place { memory_place act.now < shape.now.bits }
@@ -82,9 +82,9 @@ fn acted(act: &Act, old: Cells, full: u64) -> Cells
             enable: full,
             ..old
         },
-        Act::EnableCarry(v) => keep(old, old.carry, *v),
-        Act::EnableTree(v) => keep(old, old.leaf, *v),
-        Act::EnableBit(_, v) => keep(old, old.memory, *v),
+        Act::EnableCarry(v) => keep_enabled(old, old.carry, *v),
+        Act::EnableTree(v) => keep_enabled(old, old.leaf, *v),
+        Act::EnableBit(_, v) => keep_enabled(old, old.memory, *v),
         Act::SetCarry(v) => Cells {
             carry: if *v { full } else { 0 },
             ..old
@@ -113,7 +113,7 @@ fn acted(act: &Act, old: Cells, full: u64) -> Cells
 }
 
 /// The pixels stay enabled where a bit is the one that is wanted.
-fn keep(old: Cells, bits: u64, want: bool) -> Cells
+fn keep_enabled(old: Cells, bits: u64, want: bool) -> Cells
     ensures enable { (i : ℕ) → i < 64 → nat_bit result.enable i ≡ (nat_bit old.enable i && beq (nat_bit bits i) want) }
     ensures memory { result.memory ≡ old.memory }
     ensures carry { result.carry ≡ old.carry }
@@ -139,11 +139,4 @@ fn store(old: Cells, bits: u64) -> Cells
         memory: chosen_word(old.memory, bits, old.enable),
         ..old
     }
-}
-
-/// Exactly one of two.
-pub(crate) fn xor_word(a: u64, b: u64) -> u64
-    ensures { (i : ℕ) → i < 64 → nat_bit result i ≡ xor (nat_bit a i) (nat_bit b i) }
-{
-    chosen_word(b, turned(b), a)
 }

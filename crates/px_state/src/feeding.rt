@@ -5,12 +5,11 @@ ghost use Rattle.px_num.specs.Bits.{majority, nat_bit, xor};
 ghost use Rattle.px_tree.specs.Nodes.{next_node};
 ghost use Rattle.px_state.specs.Cells.{IsShape, carry_in, fed_in, nodes_at, output_in};
 
-use crate::acting::xor_word;
 use crate::shape::Shape;
-use px_lanes::{all_of, chosen_word, majority_word};
 use px_num::power;
 use px_plane_tree::{doubled_pair, rooted};
 use px_planes::full_word;
+use px_rows::{all_of, chosen_word, majority_word, xor_word};
 use px_tree::Lines;
 use std::simd::prelude::*;
 

@@ -3,7 +3,7 @@ ghost use Rattle.std.specs.Prelude.{◌≡◌, ◌≤◌, ◌<◌, ◌^◌, All,
 ghost use Rattle.px_array.specs.Arrays.{opened};
 ghost use Rattle.px_macro.specs.Macros.{IsLawful};
 ghost use Rattle.px_state.specs.Courses.{IsNextBroadcast, device_after, total_of_listing};
-ghost use Rattle.px_state.specs.Refusals.{HasSmallCount, IsRefusedBy, course_refusal};
+ghost use Rattle.px_state.specs.Refusals.{IsRefusedBy, course_refusal};
 ghost use Rattle.px_array.specs.Slots.{HasWorked};
 ghost use Rattle.px_state.specs.States.{IsRunTo, IsState, FaultLeaves};
 ghost use Rattle.px_state.specs.Words.{BeginsWithState};
@@ -31,7 +31,6 @@ pub(crate) fn state_of_listing<A: Operating>(
         (device_after A.BITS listing.now clock).state words.old words.new) }
     ensures err { IfErr result (λ fault.
         IsRefusedBy fault (course_refusal A.BITS listing.now clock (length words.old))) }
-    ensures small { IfErr result HasSmallCount }
     ensures kept { OnErr result (words.new ≡ words.old) }
     ensures length { length words.new ≡ length words.old }
     ensures array { OnOk result (IsRunTo A.BITS listing.now clock (A.view array.new)) }

@@ -11,7 +11,7 @@ ghost use Rattle.px_playing.specs.PassesText.{passes_listing};
 ghost use Rattle.px_macro.specs.Macros.{IsLawful};
 ghost use Rattle.px_tree.specs.Nodes.{IsGrid};
 ghost use Rattle.px_state.specs.Packed.{HasMicros};
-ghost use Rattle.px_state.specs.Refusals.{HasSmallCount, IsRefusedBy, clock_refusal, refusal_by_bits};
+ghost use Rattle.px_state.specs.Refusals.{IsRefusedBy, clock_refusal, refusal_by_bits};
 ghost use Rattle.px_state.specs.States.{IsCourse};
 
 use crate::fault::StateFault;
@@ -39,7 +39,6 @@ pub(crate) fn micros_of_listing(
     ensures micros { OnOk result (HasMicros listing.now first micros.new) }
     ensures err { IfErr result (λ fault.
         clock_refusal listing.now (first + length micros.old) ≡ Some fault) }
-    ensures small { IfErr result HasSmallCount }
     ensures kept { OnErr result (micros.new ≡ micros.old) }
     ensures length { length micros.new ≡ length micros.old }
 {
@@ -83,7 +82,6 @@ pub(crate) fn micros_of_scene(
     ensures micros { OnOk result (HasMicros (passes_listing scene.now) first micros.new) }
     ensures err { IfErr result (λ fault. IsRefusedBy fault (option_or (refusal_by_bits bits scene.now)
         (clock_refusal (passes_listing scene.now) (first + length micros.old)))) }
-    ensures small { IfErr result HasSmallCount }
     ensures kept { OnErr result (micros.new ≡ micros.old) }
     ensures length { length micros.new ≡ length micros.old }
 {
@@ -107,7 +105,6 @@ pub(crate) fn drawing_of(
     ensures few { OnOk result (length (plan_of scene.now) ≤ MAX_PRODUCTS) }
     ensures ok { OnOk result (refusal_by_bits bits scene.now ≡ None) }
     ensures err { IfErr result (λ fault. IsRefusedBy fault (refusal_by_bits bits scene.now)) }
-    ensures small { IfErr result HasSmallCount }
 {
     Ok(px_control::drawing_of(alloc, scene, bits)?)
 }

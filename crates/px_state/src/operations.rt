@@ -18,7 +18,7 @@ ghost use Rattle.px_state.specs.Operations.{
   purpose_of,
 };
 ghost use Rattle.px_state.specs.Putting.{IsPutTo};
-ghost use Rattle.px_state.specs.Refusals.{HasSmallCount, IsRefusedBy, refusal_by_bits, operation_refusal};
+ghost use Rattle.px_state.specs.Refusals.{IsRefusedBy, refusal_by_bits, operation_refusal};
 ghost use Rattle.px_state.specs.States.{IsCourse};
 
 use crate::fault::StateFault;
@@ -46,7 +46,6 @@ pub(crate) fn operations_of_listing(
     ensures operations { OnOk result (HasOperations (IsOfListing listing.now) first list.new) }
     ensures err { IfErr result (λ fault.
         operation_refusal listing.now (first + length list.old) ≡ Some fault) }
-    ensures small { IfErr result HasSmallCount }
     ensures kept { OnErr result (list.new ≡ list.old) }
     ensures length { length list.new ≡ length list.old }
 {
@@ -97,7 +96,6 @@ pub(crate) fn operations_of_scene(
     ensures operations { OnOk result (HasOperations (IsPassed scene.now) first list.new) }
     ensures err { IfErr result (λ fault. IsRefusedBy fault (option_or (refusal_by_bits bits scene.now)
         (operation_refusal (passes_listing scene.now) (first + length list.old)))) }
-    ensures small { IfErr result HasSmallCount }
     ensures kept { OnErr result (list.new ≡ list.old) }
     ensures length { length list.new ≡ length list.old }
 {

@@ -2,7 +2,7 @@
 ghost use Rattle.std.specs.Prelude.{◌≡◌, ◌+◌, ◌<◌, ◌≤◌, ℕ, IfErr, None, OnOk, Some, nat_lt};
 ghost use Rattle.px_array.specs.Slots.{ArrayView};
 ghost use Rattle.px_listing.specs.Listings.{ListingView};
-ghost use Rattle.px_state.specs.Refusals.{HasSmallCount, refused_by, refused_where};
+ghost use Rattle.px_state.specs.Refusals.{refused_by, refused_where};
 ghost use Rattle.px_state.specs.States.{IsRunTo, FaultLeaves};
 ghost use Rattle.px_state.specs.declared.fault.StateFault.{StateFault};
 
@@ -14,7 +14,6 @@ pub(crate) fn judge(clock: u64, clocks: u64, words: usize, due: usize) -> Result
     ensures clock { OnOk result (clock ≤ clocks) }
     ensures room { OnOk result (due ≤ words) }
     ensures err { IfErr result (λ fault. refused_by clock clocks words due ≡ Some fault) }
-    ensures small { IfErr result HasSmallCount }
     ensures opened { IfErr result (λ fault. (bits : ℕ) (l : ListingView) (before now : ArrayView)
         → IsRunTo bits l 0 now → FaultLeaves fault bits l before now) }
 {
@@ -34,7 +33,6 @@ pub(crate) fn judge_stretch(first: u64, count: usize, clocks: u64) -> Result<(),
     ensures within { OnOk result (first + count ≤ clocks) }
     ensures err { IfErr result (λ fault.
         refused_where (nat_lt clocks (first + count)) (StateFault.NoClock clocks) ≡ Some fault) }
-    ensures small { IfErr result HasSmallCount }
 {
     if clocks < first || clocks - first < count as u64 {
         Err(StateFault::NoClock { clocks })
@@ -50,7 +48,6 @@ pub(crate) fn judge_operations(first: u64, count: usize, operations: u64) -> Res
     ensures within { OnOk result (first + count ≤ operations) }
     ensures err { IfErr result (λ fault.
         refused_where (nat_lt operations (first + count)) (StateFault.NoOperation operations) ≡ Some fault) }
-    ensures small { IfErr result HasSmallCount }
 {
     if operations < first || operations - first < count as u64 {
         Err(StateFault::NoOperation { operations })

@@ -1,9 +1,9 @@
 //! The state of a scene after so many clocks.
-ghost use Rattle.std.specs.Prelude.{◌≡◌, ◌≤◌, ◌<◌, IfErr, IfOk, IfSome, IfNone, None, OnErr, OnOk, Some, length};
+ghost use Rattle.std.specs.Prelude.{◌≡◌, ◌≤◌, IfErr, IfOk, IfSome, IfNone, None, OnErr, OnOk, Some, length};
 ghost use Rattle.px_playing.specs.PassesText.{passes_listing};
 ghost use Rattle.px_control.specs.Program.{IsAt, total};
 ghost use Rattle.px_state.specs.Courses.{IsNextBroadcast, device_after};
-ghost use Rattle.px_state.specs.Refusals.{HasSmallCount, IsRefusedBy, course_refusal, refusal_by_bits};
+ghost use Rattle.px_state.specs.Refusals.{IsRefusedBy, course_refusal, refusal_by_bits};
 ghost use Rattle.px_array.specs.Slots.{IsRunOnce};
 ghost use Rattle.px_state.specs.States.{IsRunTo, IsState, FaultLeaves};
 ghost use Rattle.px_state.specs.Words.{BeginsWithState};
@@ -34,7 +34,6 @@ pub(crate) fn state_of_scene<A: Operating>(
         (device_after A.BITS (passes_listing scene.now) clock).state words.old words.new) }
     ensures err { IfErr result (λ fault. IsRefusedBy fault (option_or (refusal_by_bits A.BITS scene.now)
         (course_refusal A.BITS (passes_listing scene.now) clock (length words.old)))) }
-    ensures small { IfErr result HasSmallCount }
     ensures kept { OnErr result (words.new ≡ words.old) }
     ensures length { length words.new ≡ length words.old }
     ensures array { OnOk result (IsRunTo A.BITS (passes_listing scene.now) clock
@@ -74,7 +73,6 @@ fn open_job<'s, A: Operating>(
     ensures ok { OnOk result (refusal_by_bits A.BITS scene.now ≡ None) }
     ensures once { OnOk result (IsRunOnce (A.view array.new)) }
     ensures err { IfErr result (λ fault. IsRefusedBy fault (refusal_by_bits A.BITS scene.now)) }
-    ensures small { IfErr result HasSmallCount }
     ensures refused { IfErr result (λ fault. FaultLeaves fault A.BITS (passes_listing scene.now)
         (A.view array.old) (A.view array.new)) }
 {

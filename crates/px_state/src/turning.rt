@@ -4,8 +4,8 @@ ghost use Rattle.px_num.specs.Bits.{nat_bit};
 ghost use Rattle.px_rows.specs.Rows.{row_bit};
 ghost use Rattle.px_state.specs.Turning.{HasLow, exchanged};
 
-use px_lanes::chosen_word;
 use px_num::power;
+use px_rows::chosen_word;
 
 /// The block that is turned over, in six stages.
 pub(crate) fn turned_block(block: &[u64; 64]) -> [u64; 64]

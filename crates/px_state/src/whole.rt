@@ -7,7 +7,7 @@ ghost use Rattle.px_text.specs.Text.{worded};
 ghost use Rattle.px_scene.specs.Reading.{scene_of};
 ghost use Rattle.px_state.specs.Operations.{HasOperations, IsOperationOf};
 ghost use Rattle.px_state.specs.Packed.{HasMicros};
-ghost use Rattle.px_state.specs.Refusals.{HasSmallCount, IsRefusedBy, course_of, is_listing, refusal_by_bits, micros_refusal, operations_refusal, state_refusal, input_refusal, past_text_limit};
+ghost use Rattle.px_state.specs.Refusals.{IsRefusedBy, course_of, is_listing, refusal_by_bits, micros_refusal, operations_refusal, state_refusal, input_refusal, past_text_limit};
 ghost use Rattle.px_state.specs.Keeping.{KeepsArray};
 ghost use Rattle.px_state.specs.States.{IsCourse, IsRunTo, IsState, FaultLeaves};
 ghost use Rattle.px_state.specs.Words.{BeginsWithState};
@@ -48,7 +48,6 @@ pub fn write_state<A: Operating>(
         (device_after A.BITS (course_of text.now) clock).state words.old words.new) }
     ensures err { IfErr result (λ fault.
         IsRefusedBy fault (state_refusal A.BITS text.now clock (length words.old))) }
-    ensures small { IfErr result HasSmallCount }
     ensures kept { OnErr result (words.new ≡ words.old) }
     ensures length { length words.new ≡ length words.old }
     ensures array { OnOk result (IsRunTo A.BITS (course_of text.now) clock (A.view array.new)) }
@@ -86,7 +85,6 @@ pub fn write_micros(
     ensures micros { OnOk result (HasMicros (course_of text.now) first micros.new) }
     ensures err { IfErr result (λ fault.
         IsRefusedBy fault (micros_refusal bits text.now first (length micros.old))) }
-    ensures small { IfErr result HasSmallCount }
     ensures kept { OnErr result (micros.new ≡ micros.old) }
     ensures length { length micros.new ≡ length micros.old }
 {
@@ -121,7 +119,6 @@ pub fn write_operations(
     ensures operations { OnOk result (HasOperations (IsOperationOf text.now) first list.new) }
     ensures err { IfErr result (λ fault.
         IsRefusedBy fault (operations_refusal bits text.now first (length list.old))) }
-    ensures small { IfErr result HasSmallCount }
     ensures kept { OnErr result (list.new ≡ list.old) }
     ensures length { length list.new ≡ length list.old }
 {
@@ -132,7 +129,7 @@ pub fn write_operations(
     }
 }
 
-/// The same of a text whose first word says that it is a listing.
+/// Writes the operations of a listing: a text whose first word says so.
 fn listed_operations(
     alloc: Global,
     text: &[u8],
@@ -147,7 +144,6 @@ fn listed_operations(
     ensures operations { OnOk result (HasOperations (IsOperationOf text.now) first list.new) }
     ensures err { IfErr result (λ fault.
         IsRefusedBy fault (operations_refusal bits text.now first (length list.old))) }
-    ensures small { IfErr result HasSmallCount }
     ensures kept { OnErr result (list.new ≡ list.old) }
     ensures length { length list.new ≡ length list.old }
 {
@@ -157,7 +153,7 @@ fn listed_operations(
     }
 }
 
-/// The same of any other text.
+/// Writes the operations that draw a scene: any text that is no listing.
 fn drawn_operations(
     alloc: Global,
     text: &[u8],
@@ -171,7 +167,6 @@ fn drawn_operations(
     ensures operations { OnOk result (HasOperations (IsOperationOf text.now) first list.new) }
     ensures err { IfErr result (λ fault.
         IsRefusedBy fault (operations_refusal bits text.now first (length list.old))) }
-    ensures small { IfErr result HasSmallCount }
     ensures kept { OnErr result (list.new ≡ list.old) }
     ensures length { length list.new ≡ length list.old }
 {
@@ -189,7 +184,6 @@ fn read_course(alloc: Global, text: &[u8], bits: u32) -> Result<Listing, StateFa
     ensures course { IfOk result (λ listing. course_of text.now ≡ listing) }
     ensures lawful { IfOk result (λ listing. All (λ m. IsLawful m bits) listing.macros) }
     ensures err { IfErr result (λ fault. IsRefusedBy fault (input_refusal bits text.now)) }
-    ensures small { IfErr result HasSmallCount }
     ensures keeps { IfErr result KeepsArray }
 {
     if text.len() > MAX_TEXT_BYTES {
@@ -205,7 +199,6 @@ fn read_drawing(alloc: Global, text: &[u8]) -> Result<Scene, StateFault>
     ensures scene { IfOk result (λ scene. scene ≡ scene_of (worded text.now)) }
     ensures course { IfOk result (λ scene. course_of text.now ≡ passes_listing scene) }
     ensures err { IfErr result (λ fault. (bits : ℕ) → IsRefusedBy fault (input_refusal bits text.now)) }
-    ensures small { IfErr result HasSmallCount }
     ensures keeps { IfErr result KeepsArray }
 {
     if text.len() > MAX_TEXT_BYTES {

@@ -10,9 +10,9 @@ use Rattle.px_expr.specs.declared.node.Op.{Op}
 use Rattle.px_normal.specs.Crowd.{crowd}
 use Rattle.px_normal.specs.CrowdLaw.{CrowdLaw, HasNoDiffer}
 use Rattle.px_normal.specs.Forms.{sum_of_products}
-use Rattle.px_sets.specs.declared.cell_box.CellBox.{CellBox}
+use Rattle.px_normal.specs.declared.cell_box.CellBox.{CellBox}
 use Rattle.px_normal.specs.declared.product.TheConstants.{MAX_PRODUCTS}
-use Rattle.px_count.specs.Counting.{capped}
+use Rattle.px_normal.specs.Counting.{capped}
 use Rattle.px_tile.specs.Operators.{is_no_differ}
 use Rattle.px_expr.specs.declared.node.Op.TheVariants as o
 

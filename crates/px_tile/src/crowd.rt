@@ -3,13 +3,12 @@ ghost use Rattle.std.specs.Bool.{OnTrue};
 ghost use Rattle.std.specs.Prelude.{◌≡◌, ℕ, Option, None};
 ghost use Rattle.std.specs.List.{list_all};
 ghost use Rattle.px_expr.specs.Postorder.{nodes_of};
-ghost use Rattle.px_sets.specs.declared.cell_box.CellBox.{CellBox as AnyBox};
+ghost use Rattle.px_normal.specs.declared.cell_box.CellBox.{CellBox as AnyBox};
 ghost use Rattle.px_normal.specs.Crowd.{crowd};
 ghost use Rattle.px_tile.specs.Operators.{is_no_differ};
 
-use px_count::count_products;
 use px_expr::{Expr, Node};
-use px_normal::{MAX_PRODUCTS, laws_of_live_products};
+use px_normal::{MAX_PRODUCTS, count_products, laws_of_live_products};
 
 /// Whether no wanted list is past the limit, whatever the boxes of the solids are: no operator is `^`, and the whole sum
 /// has at most `MAX_PRODUCTS` products. Takes no memory.

@@ -1,5 +1,5 @@
 //! Drawing a wide picture tile by tile on one array.
-ghost use Rattle.std.specs.Prelude.{◌≡◌, ◌*◌, ◌^◌, ◌<◌, ◌≤◌, ◌⊎◌, ℕ, Err, IfErr, IfOk, None, OnErr, OnOk, Some, length};
+ghost use Rattle.std.specs.Prelude.{◌≡◌, ◌*◌, ◌<◌, ◌⊎◌, Err, IfErr, IfOk, None, OnErr, OnOk, Some, length};
 ghost use Rattle.std.specs.Option.{option_map};
 ghost use Rattle.px_num.specs.Want.{want};
 ghost use Rattle.px_array.specs.Slots.{none_open};
@@ -51,7 +51,6 @@ pub fn check_tiles(
         (wide_refusal scene.now width height bits ≡ Some fault) ⊎ (fault ≡ WideFault.Memory want)) }
     ensures early { (fault : WideFault) → early_refusal scene.now width height bits ≡ Some fault →
         result ≡ Err fault }
-    ensures small { (count : ℕ) → result ≡ Err (WideFault.Products count) → count ≤ 2 ^ 21 }
 {
     let count = tile_count(scene, width, height);
     if count > MAX_TILES {
@@ -103,7 +102,6 @@ fn check_products(alloc: Global, scene: &Scene, width: u32, height: u32) -> Resu
     ensures err { IfErr result (λ fault.
         (option_map WideFault.Products (first_crowd scene.now width height) ≡ Some fault)
         ⊎ (fault ≡ WideFault.Memory want)) }
-    ensures small { (count : ℕ) → result ≡ Err (WideFault.Products count) → count ≤ 2 ^ 21 }
 {
     if is_never_crowded(scene.show()) {
         return Ok(());
@@ -114,7 +112,7 @@ fn check_products(alloc: Global, scene: &Scene, width: u32, height: u32) -> Resu
     Ok(())
 }
 
-/// The same of one tile.
+/// Whether one tile has no wanted list of products past the limit, or the length of the first one.
 fn check_products_of_tile(
     alloc: Global,
     scene: &Scene,
@@ -129,7 +127,6 @@ fn check_products_of_tile(
     ensures err { IfErr result (λ fault.
         (option_map WideFault.Products (crowd_of_tile scene.now width height tile) ≡ Some fault)
         ⊎ (fault ≡ WideFault.Memory want)) }
-    ensures small { (count : ℕ) → result ≡ Err (WideFault.Products count) → count ≤ 2 ^ 21 }
 {
     let tile = scene_of_tile(alloc, scene, width, height, tile)?;
     let _plan = plan_of(alloc, &tile)?;
@@ -173,7 +170,6 @@ pub fn render_tiles<A: Operating>(
         (wide_refusal scene.now width height A.BITS ≡ Some fault) ⊎ (fault ≡ WideFault.Memory want)) }
     ensures early { (fault : WideFault) → early_refusal scene.now width height A.BITS ≡ Some fault →
         result ≡ Err fault }
-    ensures small { (count : ℕ) → result ≡ Err (WideFault.Products count) → count ≤ 2 ^ 21 }
     ensures array { IfErr result (λ fault. LeavesOnWideRefusal fault A.BITS scene.now width height
         (A.view array.old) (A.view array.new)) }
 {

@@ -41,8 +41,8 @@ pub enum WideFault {
     /// A list of live products that is wanted is too long (docs/SCENES.md, "Limits").
     #[error("{count} products")]
     Products {
-        /// How many the first such list of the first such tile has, at most `2^21`.
-        count: u64,
+        /// How many the first such list of the first such tile has.
+        count: u32,
     },
     /// Memory was wanted and not given.
     #[error("out of memory")]

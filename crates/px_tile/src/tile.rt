@@ -38,7 +38,7 @@ pub fn tile_scene(
     Ok(tile)
 }
 
-/// The same of a tile that has no coefficient past the limit.
+/// The scene of a tile that has no coefficient past the limit.
 pub(crate) fn moved_scene(
     alloc: Global,
     scene: &Scene,

@@ -1,5 +1,5 @@
 " Sessions of the debugger of pxplanes (docs/DEBUGGER.md): a scene, and command lines behind its `end`,
-" with comments as tools/session takes them.
+" with comments as pxplanes trace takes them.
 if exists("b:current_syntax")
   finish
 endif

@@ -4,8 +4,8 @@ import os
 import subprocess
 import sys
 
-sys.path.insert(0, os.path.join(os.getcwd(), "tools", "lib"))
-import ends
+sys.path[:0] = [os.path.join(os.getcwd(), "tools", "lib"), os.path.join(os.getcwd(), "python")]
+from pxplanes import ends
 
 cases = ends.script("dev/run_cases")
 FIRST = cases.content(os.path.join(ends.TOP, "docs", "scenes"), "first.scene")

@@ -1,4 +1,4 @@
-"""Asks tools/estimate, with a program whose seconds are told and not taken, so that no clock judges; and how often `timed` has a
+"""Asks `pxplanes explain --time`, with a program whose seconds are told and not taken, so that no clock judges; and how often `timed` has a
 program run, by a processor's time that is told too."""
 import contextlib
 import io
@@ -8,10 +8,11 @@ import sys
 import types
 
 sys.dont_write_bytecode = True
-sys.path.insert(0, os.path.join(os.getcwd(), "tools", "lib"))
-import ends
-import program
-import times
+sys.path[:0] = [os.path.join(os.getcwd(), "tools", "lib"), os.path.join(os.getcwd(), "python")]
+from pxplanes import ends
+from pxplanes import program
+from pxplanes.cli import frame
+from pxplanes.explain import times
 
 timed, MODEL = times.timed, "./model"
 
@@ -27,9 +28,10 @@ def told(built, words, text, most=None):
 
 
 def judged(path, words):
-    times.timed, estimate, said = told, ends.script("estimate"), io.StringIO()
+    times.timed, said = told, io.StringIO()
+    os.environ["PXPLANES_PROGRAM"] = MODEL
     with contextlib.redirect_stdout(said):
-        estimate.main(["--program", MODEL, path] + words)
+        frame.main(["explain", "--time", path, "--command", " ".join(words)])
     number, unit = re.match(r"about ([0-9.]+) (\w+):", said.getvalue()).groups()
     seconds, due = float(number) * {"seconds": 1, "minutes": 60}[unit], told(MODEL, words, ends.content(path))
     near = 0.9 * due < seconds < 1.1 * due

@@ -3,9 +3,9 @@ import os
 import sys
 
 sys.dont_write_bytecode = True
-sys.path.insert(0, os.path.join("tools", "lib"))
-import rays
-import scenes
+sys.path[:0] = [os.path.join("tools", "lib"), "python"]
+from pxplanes.scene import rays
+from pxplanes.scene import scenes
 
 scene = scenes.read(open(sys.argv[1], "rb").read())
 pixels = [rays.pixel(scene, x, y) for y in range(scene.height) for x in range(scene.width)]

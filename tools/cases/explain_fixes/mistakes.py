@@ -1,11 +1,12 @@
-"""Mistakes as people make them in docs/scenes/first.scene; of each, whether `tools/explain --fix` gives the scene that was meant."""
+"""Mistakes as people make them in docs/scenes/first.scene: those of which `pxplanes explain --fix` gives the scene that was meant, and
+those of which it writes nothing."""
 import os
 import re
 import subprocess
 import sys
 
-sys.path.insert(0, os.path.join(os.getcwd(), "tools", "lib"))
-import scenes
+sys.path[:0] = [os.path.join(os.getcwd(), "tools", "lib"), os.path.join(os.getcwd(), "python")]
+from pxplanes.scene import scenes
 
 FIRST = open("docs/scenes/first.scene").read()
 BAR = "solid bar 200 60 40 "
@@ -111,21 +112,19 @@ def colours(text):
     return [face[4] for face in scenes.read(text).faces()]
 
 
-good = 0
+MEANT, LEFT = [], []
 for name, text in MISTAKES.items():
     text = text if isinstance(text, bytes) else text.encode()
     with open("wrong.scene", "wb") as out:
         out.write(text)
-    done = subprocess.run(["tools/explain", "--fix", "wrong.scene"], capture_output=True)
-    try:
-        right = meaning(done.stdout) == meaning(FIRST.encode())
-        if "colour" in name and name != "no colour":
-            right = right and colours(done.stdout) == colours(FIRST.encode())
-        said = "is another scene"
-    except scenes.Refusal as refusal:
-        right, said = False, refusal.note
-    told = len(done.stderr.splitlines())
-    if not right or not told or open("wrong.scene", "rb").read() != text:
-        print("%s: %s, %d changes told" % (name, said if not right else "is right", told))
-    good += right
-print("%d of %d mistakes are mended" % (good, len(MISTAKES)))
+    done = subprocess.run(["./pxplanes", "explain", "--fix", "wrong.scene"], capture_output=True)
+    if open("wrong.scene", "rb").read() != text or not done.stderr:
+        print("%s: the file is changed, or nothing is said" % name)
+    if done.returncode == 0 and (meaning(done.stdout), colours(done.stdout)) == (meaning(FIRST.encode()), colours(FIRST.encode())):
+        MEANT.append(name)
+    elif done.returncode == 1 and not done.stdout:
+        LEFT.append(name)
+    else:
+        print("%s: status %d, another scene or none" % (name, done.returncode))
+print("%d of %d mistakes are mended as meant: %s" % (len(MEANT), len(MISTAKES), ", ".join(MEANT)))
+print("not sure: %s" % ", ".join(LEFT))

@@ -4,12 +4,12 @@ import glob
 import os
 import sys
 
-sys.path.insert(0, os.path.join(os.getcwd(), "tools", "lib"))
-import ends
-import looks
-import netpbm
-import program
-import scenes
+sys.path[:0] = [os.path.join(os.getcwd(), "tools", "lib"), os.path.join(os.getcwd(), "python")]
+from pxplanes import ends
+from pxplanes.explain import looks
+from pxplanes.image import netpbm
+from pxplanes import program
+from pxplanes.scene import scenes
 
 paths = sorted(glob.glob("gallery/*.scene") + glob.glob("suite/*/*.scene"))
 for path in paths:

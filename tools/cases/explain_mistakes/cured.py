@@ -6,8 +6,8 @@ import sys
 
 program, path, told = sys.argv[1:4]
 text = open(path, "rb").read()
-cure = next((line[6:] for line in told.split("\n") if line.startswith("cure: ")), "")
-number = int(re.search(r"line (\d+)", told).group(1))
+cure = next((line[6:] for line in told.split("\n") if line.startswith(("cure: ", "hint: "))), "")
+number = int(re.search(r"^(?:malformed|limit) line (\d+)", told, re.M).group(1))
 marks = [line for line in told.split("\n") if line.strip() and not line.strip("^ ")]
 shown = told.split("\n")[told.split("\n").index(marks[0]) - 1] if marks else ""
 word = shown[marks[0].index("^"):len(marks[0])] if marks else ""

@@ -4,11 +4,11 @@ import re
 import subprocess
 import sys
 
-sys.path.insert(0, os.path.join(os.getcwd(), "tools", "lib"))
-import micros
-import netpbm
-import program
-import sessions
+sys.path[:0] = [os.path.join(os.getcwd(), "tools", "lib"), os.path.join(os.getcwd(), "python")]
+from pxplanes.machine import micros
+from pxplanes.image import netpbm
+from pxplanes import program
+from pxplanes.machine import sessions
 from browser import Browser
 from pages import go, pixels, text_of, view
 
@@ -16,8 +16,7 @@ BUILT = os.environ["PROGRAM"]
 
 
 def film(name, *words):
-    with open(name, "wb") as file:
-        file.write(subprocess.run(["tools/film", *words], stdout=subprocess.PIPE, check=True).stdout)
+    subprocess.run(["./pxplanes", "view", *words, "--page", name], stdout=subprocess.DEVNULL, check=True)
     return "file://" + os.path.abspath(name)
 
 
@@ -30,12 +29,12 @@ with Browser() as page:
     text = sessions.parted(open("cases/one_solid/stdin", "rb").read())[0]
     opened(page, film("film.html", "cases/one_solid/stdin"))
     print(page.run("document.title"), "|", page.run("[play.textContent, pace.value].join(', ')"), "| its text is shown:",
-          page.run("[...document.querySelectorAll('textarea, .tabs, #save, #gallery, #show-text, .bar .file')].some(each => each.checkVisibility())"),
+          page.run("[...document.querySelectorAll('.CodeMirror, .tabs, #save, #gallery, #show-text, .bar .file')].some(each => each.checkVisibility())"),
           "| a network:", bool(re.search(rb"(src|href)=\"?https?:|fetch\(\"http", open("film.html", "rb").read())))
     page.until("Number(document.body.dataset.frames) > 2")
     for key in "1et3":
         page.press(key)
-    print("keys of the text:", page.run("document.querySelector('main').dataset.tab"), page.run("document.querySelector('textarea').checkVisibility()"))
+    print("keys of the text:", page.run("document.querySelector('main').dataset.tab"), page.run("document.querySelector('.CodeMirror').checkVisibility()"))
     nx, ny, operations = micros.read_listing(program.answer(BUILT, ["list"], text)[1])
     clock, places = 0, [(x, y) for y in range(1 << ny) for x in range(1 << nx)]
     view(page, "enable")
@@ -52,8 +51,8 @@ with Browser() as page:
     print("the end is the picture:", [shown[y * width + x] for y in range(image.height) for x in range(image.width)] == image.colours())
     with open("scene", "wb") as file:
         file.write(text)
-    with open("scene", "rb") as file, open("later.html", "wb") as out:
-        subprocess.run(["tools/film", "-", "--first", "6"], stdin=file, stdout=out, check=True)
+    with open("scene", "rb") as file:
+        subprocess.run(["./pxplanes", "view", "-", "--first", "6", "--page", "later.html"], stdin=file, stdout=subprocess.DEVNULL, check=True)
     page.call("Emulation.setEmulatedMedia", features=[{"name": "prefers-reduced-motion", "value": "reduce"}])
     opened(page, "file://" + os.path.abspath("later.html"))
     print("from operation 6 on:", page.run("document.body.dataset.shown"), text_of(page, "#line code"), "|", page.run("play.textContent"))

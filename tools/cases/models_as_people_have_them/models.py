@@ -1,4 +1,4 @@
-"""Holds what tools/model makes of models as people have them beside rays through the mesh that OpenSCAD makes of each:
+"""Compares what `pxplanes convert` makes of models as people have them beside rays through the mesh that OpenSCAD makes of each:
 `right`, `refused` with the reason, or `WRONG`. Each model is a .scad text, here; its meshes are OpenSCAD's.
 
 Use: models.py PART OF [times]    every OFth model from the PARTth on; `times` prints a line for each, with the seconds
@@ -14,15 +14,14 @@ import sys
 import time
 
 sys.dont_write_bytecode = True
-sys.path.insert(0, os.path.realpath(os.path.join("tools", "lib")))
-import ends
-import facets
-import mesh_files
-import modelling
-import netpbm
-import rays
-import solids
-import views
+sys.path[:0] = [os.path.realpath(os.path.join("tools", "lib")), os.path.realpath("python")]
+from pxplanes.errors import Trouble
+from pxplanes import ends
+from pxplanes.mesh import facets
+from pxplanes.mesh import mesh_files
+from pxplanes.mesh import modelling
+from pxplanes.scene import rays
+from pxplanes.mesh import solids
 
 MODELS = """
 cube: cube(10);
@@ -98,7 +97,7 @@ TURN = (55.0, 0.0, 25.0)
 def openscad(source, out):
     done = subprocess.run(["openscad", "-o", out, source], capture_output=True, timeout=SECONDS)
     if done.returncode != 0:
-        raise netpbm.Bad("openscad: " + done.stderr.decode("latin-1").strip().split("\n")[-1])
+        raise Trouble("openscad: " + done.stderr.decode("latin-1").strip().split("\n")[-1])
 
 
 class Rays:
@@ -134,11 +133,11 @@ def judged(model, path, kind, mesh):
             tree = model.tree_of(path, kind)
             if tree is None:
                 return "refused: the model has no solid", time.process_time() - start
-            view = views.fitted(TURN, SIZE, None, CELLS, tree)
-            said = {"--size": list(SIZE), "--depth": [12, 6]}
-            text, (off, _) = model.scene_of(tree, view, said)
+            choices = modelling.Choices(view=TURN, size=SIZE)
+            view, _ = modelling.flatter(tree, choices)
+            text, (off, _) = model.scene_of(tree, view, choices)
             scene = model.checked(text)
-    except netpbm.Bad as bad:
+    except Trouble as bad:
         return "refused: %s" % bad, time.process_time() - start
     taken = time.process_time() - start
     traced, wrong, draw = Rays(mesh, view), [], random.Random(1)

@@ -3,10 +3,10 @@ import os
 import re
 import sys
 
-sys.path.insert(0, os.path.join(os.getcwd(), "tools", "lib"))
-import netpbm
+sys.path[:0] = [os.path.join(os.getcwd(), "tools", "lib"), os.path.join(os.getcwd(), "python")]
+from pxplanes.image import netpbm
 import pages
-import program
+from pxplanes import program
 from browser import Browser
 from pages import alone, called, choose, click, give, pixels, point, text_of, written
 
@@ -30,7 +30,7 @@ OVER = """tab => {
 TAKEN = """() => { const own = URL.createObjectURL; globalThis.taken = []; URL.createObjectURL = blob => { taken.push(blob); return own(blob); };
   HTMLAnchorElement.prototype.click = function () { taken.push(this.download); }; }"""
 # What is lacking, put into the page before it begins.
-LACKING = {"no DecompressionStream": "delete globalThis.DecompressionStream", "no WebAssembly": "delete globalThis.WebAssembly", "no 64-bit memory": "WebAssembly.validate = () => false"}
+LACKING = {"no DecompressionStream": "delete globalThis.DecompressionStream", "no WebAssembly": "delete globalThis.WebAssembly", "no SIMD": "WebAssembly.validate = () => false"}
 
 
 def colours_are_the_programs(page, text):
@@ -57,18 +57,16 @@ def names(page):
 
 
 def texts(page):
-    return page.run("document.getElementById('source').value")
+    return page.run("studio.editor.text")
 
 
 def put(page, text):
-    """Writes a text in the place of the one that stands, as keys do, and waits until it is drawn or refused."""
-    page.run("document.getElementById('source').select()")
-    page.run("document.getElementById('source').focus()")
-    return written(page, text)
+    """Pastes a text in the place of the one that stands, and waits until it is drawn or refused."""
+    return pages.pasted(page, text)
 
 
 def pick(page, name):
-    called(page, "name => [...document.querySelectorAll('#scenes button')].find(each => each.firstChild.textContent === name).click()", name)
+    called(page, "name => [...document.querySelectorAll('#scenes button')].find(each => each.textContent === name).click()", name)
 
 
 def lines_under_pictures(name):
@@ -109,7 +107,7 @@ def mistakes(page, text):
     choose(page, "- shaft)")
     print("typed:", written(page, "- shafd)"))
     print(page.run("[...document.getElementById('verdict').children].map(each => each.textContent).join(' | ')"))
-    print("marked:", text_of(page, ".gutter .bad"), text_of(page, ".wrong"))
+    print("marked:", text_of(page, ".bad .CodeMirror-linenumber"), text_of(page, ".wrong"))
     print("the picture is pale:", page.run("document.body.classList.contains('refused') && "
                                            "Number(getComputedStyle(document.getElementById('picture')).opacity) < 1"))
     called(page, TAKEN)
@@ -153,19 +151,24 @@ def opened(page, text):
     written(page, "+ shaft)")
     page.run("document.activeElement.blur()")
     click(page, "#gallery summary")
-    page.until("document.getElementById('scenes').contains(document.activeElement)")
-    for _ in range(3):
+    page.until("document.activeElement.id === 'search'")
+    for _ in range(4):
         page.press("ArrowDown", 40)
     print("the list by arrows:", names(page), "| at entry", page.run(
         "[...document.querySelectorAll('#scenes button')].indexOf(document.activeElement)"))
     print("what they teach:", taught(page))
     pick(page, "die")
     page.until("document.querySelectorAll('.text-tab').length === 2")
-    print("opened:", names(page), "| own text untouched:", page.run("document.querySelectorAll('.sheet textarea')[0].value") ==
-          text.decode().replace("- shaft)", "+ shaft)"))
+    print("opened:", names(page), "| own text untouched:", called(page, """() => { const tabs = document.querySelectorAll(".text-tab"); tabs[0].click(); const text = studio.editor.text;
+      document.querySelectorAll(".text-tab")[1].click(); return text; }""") == text.decode().replace("- shaft)", "+ shaft)"))
+    page.run("document.body.dataset.drawn = 'waits'")
     click(page, "#scenes button")
-    page.until("document.body.dataset.drawn === 'refused'")
-    print("an empty one:", names(page), "|", text_of(page, "#verdict"))
+    print("a new one:", page.until(DRAWN), names(page), "|", text_of(page, "#verdict"))
+    page.run("(studio.editor.focus(), studio.editor.code.execCommand('selectAll'))")
+    page.press("Backspace", 8)
+    print("an empty one:", page.until("document.body.dataset.drawn === 'refused' && 'refused'"), "|", text_of(page, "#verdict"))
+    page.press("z", 90, modifiers=2)
+    page.until("document.body.dataset.drawn === 'yes'")
     dropped(page, "bad.scene", "pxscen 1\n")
     page.until("document.body.dataset.drawn === 'refused'")
     print("a bad first line:", names(page), "|", text_of(page, "#verdict .note"))
@@ -181,15 +184,16 @@ def undone(page):
     print("-- undoing")
     page.run("document.querySelectorAll('.text-tab')[0].click()")
     before = texts(page)
-    # (a comment line at the head for each change, so that no two of them are one)
-    called(page, "count => { const s = document.getElementById('source'); for (let at = 0; at < count; at++) { "
-           "s.setRangeText('#\\n', 0, 0, 'end'); s.dispatchEvent(new Event('input')); } }", KEYS)
+    # (an editor that is not in sight is quicker)
+    click(page, "#tab-lesson")
+    # (each change has an origin of its own, so that no two of them are one)
+    called(page, "count => { for (let at = 0; at < count; at++) studio.editor.write(0, [9, 9], '#', '*' + at); }", KEYS)
     long = texts(page)
-    turned = lambda key: called(page, "(count, key) => { const s = document.getElementById('source'); for (let at = 0; at < count; at++) "
-                                "s.dispatchEvent(new KeyboardEvent('keydown', {key, ctrlKey: true, cancelable: true})); }", KEYS, key)
-    for way, key, due in (("back", "z", before), ("on", "y", long), ("back", "z", before)):
-        turned(key)
+    turned = lambda command: called(page, "(count, command) => { for (let at = 0; at < count; at++) studio.editor.code.execCommand(command); }", KEYS, command)
+    for way, command, due in (("back", "undo", before), ("on", "redo", long), ("back", "undo", before)):
+        turned(command)
         print("%d changes %s:" % (KEYS, way), texts(page) == due)
+    click(page, "#tab-write")
 
 
 def drafts(page):
@@ -197,15 +201,14 @@ def drafts(page):
     choose(page, "depth 9")
     written(page, "depth 10")
     kept = texts(page)
-    page.until("JSON.parse(localStorage.getItem('pxplanes draft first'))?.text.includes('depth 10')")
+    page.until("Object.entries(localStorage).some(([key, value]) => / first$/.test(key) && JSON.parse(value).text.includes('depth 10'))")
     alone(page)
     print("loaded again:", texts(page) == kept, "| told:", page.run("!document.getElementById('draft').hidden"), "|", names(page))
     click(page, "#as-it-was")
     page.until(DRAWN)
     print("as it was:", texts(page) == open(FIRST).read())
-    page.press("z", modifiers=2)
-    page.run("document.getElementById('source').focus()")
-    page.press("z", modifiers=2)
+    page.run("studio.editor.focus()")
+    page.press("z", 90, modifiers=2)
     print("and undone:", texts(page) == kept)
 
 
@@ -268,18 +271,18 @@ def waits(page):
     print("-- a drawing that takes long")
     fresh(page)
     page.run("""globalThis.post = Worker.prototype.postMessage; Worker.prototype.postMessage = function (message, ...more) {
-      if (message.name === "draw") setTimeout(() => post.call(this, message, ...more), 600); else post.call(this, message, ...more); }""")
+      if (message.name === "draw") setTimeout(() => post.call(this, message, ...more), 3000); else post.call(this, message, ...more); }""")
     found = called(page, """async () => {
-      const s = document.getElementById("source"), bar = document.querySelector("#write .working"), seen = () => getComputedStyle(bar).visibility === "visible";
+      const bar = document.querySelector("#write .working"), seen = () => getComputedStyle(bar).visibility === "visible";
       const pale = () => Number(getComputedStyle(document.getElementById("picture")).opacity) < 1, early = [seen(), pale()], began = performance.now();
-      s.setRangeText("#", 9, 9); s.dispatchEvent(new Event("input"));
+      studio.editor.write(0, [9, 9], "#");
       let first = null;
       const paleAtOnce = pale();
       while (document.body.dataset.drawn === "no") {
         if (first === null && seen()) first = performance.now() - began;
         await new Promise(done => setTimeout(done, 5));
       }
-      return [early, paleAtOnce, first >= 140 && first < 600, seen(), pale()];
+      return [early, paleAtOnce, first !== null && first >= 140, seen(), pale()];
     }""")
     page.run("Worker.prototype.postMessage = post")
     print("bar and pale before: %s; pale at once: %s; the bar behind 150 ms: %s; both when it is drawn: %s, %s" % tuple(found))
@@ -290,14 +293,14 @@ def dialog(page):
     print("-- the browser's dialog")
     fresh(page)
     page.run("""globalThis.names = []; globalThis.kept = []; globalThis.showSaveFilePicker = async ({suggestedName}) => { names.push(suggestedName);
-      return {createWritable: async () => ({write: async text => { kept.push(text); }, close: async () => { kept.push("closed"); }})}; }""")
+      return {name: "first.scene", getFile: async () => new Blob(kept.slice(-2, -1)), createWritable: async () => ({write: async text => { kept.push(text); }, close: async () => { kept.push("closed"); }})}; }""")
     for words, other in (("- shaft)", "+ shaft)"), ("+ shaft)", "- shaft)")):
         choose(page, words)
         written(page, other)
         page.run("delete document.body.dataset.saved")
         page.press("s", modifiers=2)
         page.until("document.body.dataset.saved === 'first.scene' && kept.at(-1) === 'closed'")
-        print("written as it stands:", page.run("kept.at(-2) === document.getElementById('source').value"), "| asked:", page.run("names.join()"), "|", names(page))
+        print("written as it stands:", page.run("kept.at(-2) === studio.editor.text"), "| asked:", page.run("names.join()"), "|", names(page))
     dropped(page, "other.scene", open(FIRST).read())
     page.until(DRAWN)
     choose(page, "- shaft)")
@@ -317,10 +320,12 @@ def long_text(page):
     fresh(page)
     put(page, open(FIRST).read().replace("pxscene 1\n", "pxscene 1\n" + "#\n" * 1200))
     page.until(DRAWN)
-    print("squares:", page.run("document.querySelectorAll('.gutter .chip').length > 5"), "| nearest to a number, in pixels, above 0:", called(page, """() => {
-      const range = document.createRange();
-      return Math.min(...[...document.querySelectorAll(".gutter .chip")].map(chip => { range.selectNodeContents(chip.parentElement.firstChild);
-        return range.getBoundingClientRect().left - chip.getBoundingClientRect().right; })) > 0; }"""))
+    page.run("studio.editor.go(1203)")
+    page.until("document.querySelectorAll('.CodeMirror-gutter-elt .chip').length > 5")
+    print("squares:", page.run("document.querySelectorAll('.CodeMirror-gutter-elt .chip').length > 5"), "| nearest to a number, in pixels, above 0:", called(page, """() => {
+      const numbers = [...document.querySelectorAll(".CodeMirror-linenumber")].filter(each => each.textContent > 1200), range = document.createRange();
+      const left = Math.min(...numbers.map(each => { range.selectNodeContents(each); return range.getBoundingClientRect().left; }));
+      return left - Math.max(...[...document.querySelectorAll(".CodeMirror-gutter-elt .chip")].map(chip => chip.getBoundingClientRect().right)) > 0; }"""))
 
 
 def many_keys(page):
@@ -331,13 +336,12 @@ def many_keys(page):
     pick(page, "die")
     page.until(DRAWN)
     last = called(page, """async count => {
-      const s = document.getElementById("source"), found = /solid \\w+ (?=\\d{3} )/.exec(s.value), place = found.index + found[0].length;
+      const {editor} = studio, row = editor.rows.findIndex(each => /^solid \\w+ \\d{3} /.test(each)), place = /^solid \\w+ /.exec(editor.rows[row])[0].length;
       for (let at = 0; at < count; at++) {
-        s.setRangeText(String(100 + at % 150), place, place + 3, "end");
-        s.dispatchEvent(new Event("input"));
+        editor.write(row, [place, place + 3], String(100 + at % 150));
         if (at % 10 === 0) await new Promise(done => setTimeout(done, 4));
       }
-      return s.value;
+      return editor.text;
     }""", 500)
     page.until(DRAWN)
     print("the last picture:", colours_are_the_programs(page, last.encode()), "| of its text:",
@@ -353,7 +357,7 @@ def lacking(page):
         with open(part + ".html", "w", encoding="utf-8") as file:
             file.write(content.replace(packed, packed[:60] + ("A" if packed[60] != "A" else "B") + packed[61:]))
     told = lambda path: page.open("file://" + os.path.abspath(path)) or page.until(
-        "document.readyState === 'complete' && document.getElementById('needs').textContent.length > 60 && "
+        "document.readyState === 'complete' && document.getElementById('needs').textContent.length > 70 && "
         "document.getElementById('needs').checkVisibility() && document.getElementById('needs').textContent")
     for part in parts:
         print("a byte flipped, %s:" % part, told(part + ".html"))

@@ -3,27 +3,30 @@ its hints, rays and course; and of maps as renderers write them what differs."""
 import base64
 import glob
 import os
-import subprocess
 import sys
 import tarfile
 
-sys.path.insert(0, os.path.join(os.getcwd(), "tools", "lib"))
-import cures
-import ends
-import explaining
-import listings
-import looks
-import micros
-import netpbm
+sys.path[:0] = [os.path.join(os.getcwd(), "tools", "lib"), os.path.join(os.getcwd(), "python")]
+from pxplanes.errors import Trouble
+from pxplanes.explain import cures
+from pxplanes import ends
+from pxplanes.explain import explaining
+from pxplanes.machine import listings
+from pxplanes.explain import looks
+from pxplanes.machine import micros
+from pxplanes.image import netpbm
 import pages
-import passes
-import program
-import rasters
-import scenes
+from pxplanes.machine import passes
+from pxplanes import program
+from pxplanes.image import maps as images
+from pxplanes.scene import scenes
 from browser import Browser
 
-cases, compare = (ends.script(leaf) for leaf in ("dev/run_cases", "compare"))
+cases = ends.script("dev/run_cases")
 BUILT, CASES, SCENE = os.environ["PROGRAM"], os.path.join("tools", "cases"), "cases/drilled_block_and_post"
+# What the package reads, and the page does not, and says so.
+NOT_ON_THE_PAGE = ("woven.png", "palette.tif")
+FORMS = os.path.join("python", "tests", "data", "formats")
 RAYS = ((0, 0), (1, 2), (2, 4), (3, 8))
 MOST = 4000
 BLANK = b"pxscene 1\npicture 20 12\ndepth 8\nsolid a 9 9 9\nfront 0 0 300\nshow a\nend\n"
@@ -126,36 +129,34 @@ def looked(page, name, text, told, counts):
 
 
 def maps():
-    """A scene, a map, and the tolerance: of maps as people misunderstand them, and of every form."""
-    scene, ours = ends.content(os.path.join(SCENE, "stdin")), os.path.join(SCENE, "stdout")
-    subprocess.run([sys.executable, os.path.join(CASES, "compare_misunderstandings", "change.py"), ours], check=True)
-    before = set(os.listdir("."))
-    own = [leaf for leaf in sorted(before) if os.path.isfile(leaf) and leaf not in ("look.py", "run")]
-    for leaf in own:
-        yield scene, ends.content(leaf), 0
+    """A scene, a map of whole numbers, and the tolerance."""
+    scene = ends.content(os.path.join(SCENE, "stdin"))
+    yield scene, ends.content(os.path.join(SCENE, "stdout")), 0
     yield scene, program.answer(BUILT, ["colour"], scene)[1], 0
     yield scene, program.answer(BUILT, ["render"], ends.content("cases/drilled_block/stdin"))[1], 3
-    for path in sorted(glob.glob(os.path.join(CASES, "compare_formats", "*.*"))):
-        if not path.endswith(".pov"):
-            yield BLANK, ends.content(path), 0
+    for path in sorted(glob.glob(os.path.join(FORMS, "*.*"))):
+        if os.path.basename(path) in NOT_ON_THE_PAGE:
+            continue
+        yield BLANK, ends.content(path), 0
 
 
 def compared(page, scene, data, tolerance):
-    """What is wrong with a comparison."""
-    ours = compare.Maps(rasters.rasters(program.answer(BUILT, ["render"], scene)[1]), None)
-    read = scenes.read(scene)
+    """Whether the map is of whole numbers, and the page counts as many pixels that differ as NumPy does."""
+    ours = images.maps_of(program.answer(BUILT, ["render"], scene)[1])
     try:
-        theirs = compare.Maps(rasters.rasters(data, (ours.width, ours.height)), None)
-        compare.fill(theirs, read.far())
-        lines, differences, _ = compare.compared(ours, theirs, {"--first": "8", "--depth-tolerance": str(tolerance)}, read)
-        colours = differences and b"".join(map(bytes, compare.picture_of(ours, differences)))[:30000]
-        due = [lines, None, base64.b64encode(colours).decode() if colours else None]
-    except netpbm.Bad as bad:
-        due = [None, str(bad), None]
+        theirs = images.maps_of(data)
+    except Trouble:
+        return False
+    if theirs[0].kind == "real" or theirs[0].numbers.shape != ours[0].numbers.shape:
+        return False
+    differs = abs(ours[0].numbers.astype(int) - theirs[0].numbers.astype(int)) > tolerance
+    if len(theirs) == 2:
+        differs |= ours[1].numbers != theirs[1].numbers
     told = pages.called(page, COMPARED, scene.decode(), base64.b64encode(data).decode(), tolerance)
-    found = [told.get("lines"), told.get("trouble"), told.get("rgb")]
-    if found != due:
-        print("compared: %s in place of %s" % (str(found)[:400], str(due)[:400]))
+    due = "%d of %d pixels differ" % (differs.sum(), differs.size)
+    if not told.get("lines") or told["lines"][0] != due:
+        print("compared: %s in place of %s" % (told, due))
+    return True
 
 
 with Browser() as page:
@@ -165,8 +166,6 @@ with Browser() as page:
         part = chosen[at:at + 40]
         for (name, text), told in zip(part, pages.called(page, TOLD, [text for _, text in part])):
             looked(page, name, text, told, counts)
-    number = 0
-    for number, (scene, data, tolerance) in enumerate(maps(), 1):
-        compared(page, scene, data, tolerance)
-    print("texts: %s; maps: %s" % (", ".join("many %s" % word for word in counts if counts[word] > 50), "many" if number > 30 else number))
+    number = sum(compared(page, *each) for each in maps())
+    print("texts: %s; maps: %s" % (", ".join("many %s" % word for word in counts if counts[word] > 50), "many" if number > 9 else number))
     print("faults of the page:", page.faults())

@@ -2,16 +2,16 @@
 import os
 import sys
 
-sys.path.insert(0, os.path.join(os.getcwd(), "tools", "lib"))
-import netpbm
-import program
+sys.path[:0] = [os.path.join(os.getcwd(), "tools", "lib"), os.path.join(os.getcwd(), "python")]
+from pxplanes.image import netpbm
+from pxplanes import program
 from browser import Browser
 from pages import alone, called, link, pixels
 
 BUILT = os.environ["PROGRAM"]
-LINE = "line => document.getElementById('source').value.split('\\n')[line - 1].split('#')[0].trim()"
+LINE = "line => studio.editor.text.split('\\n')[line - 1].split('#')[0].trim()"
 # The middle of a number of a line, of the grip, and of a place of the picture, on the page.
-NUMBER = "(line, at) => { const r = document.querySelectorAll('.ink div')[line - 1].querySelectorAll('.number')[at].getBoundingClientRect(); return [r.right - 3, r.top + r.height / 2] }"
+NUMBER = "(line, at) => { const r = document.querySelectorAll('.CodeMirror-code .CodeMirror-line')[line - 1].querySelectorAll('.cm-number')[at].getBoundingClientRect(); return [r.right - 3, r.top + r.height / 2] }"
 GRIP = "() => { const g = document.querySelector('.grip'), r = g.getBoundingClientRect(); return g.hidden ? null : [r.left + r.width / 2, r.top + r.height / 2] }"
 PICTURE = "(x, y) => { const c = document.getElementById('picture'), r = c.getBoundingClientRect(), s = c.clientWidth / c.width; return [r.left + 1 + (x + .5) * s, r.top + 1 + (y + .5) * s] }"
 
@@ -28,15 +28,15 @@ def dragged(page, places, line, due):
         mouse(page, "mouseMoved", place)
         page.until("(%s)(%d) === %r" % (LINE, line, words), 5)
         page.until("document.body.dataset.drawn === 'yes' && !document.getElementById('write').classList.contains('old')")
-        image = netpbm.images(program.answer(BUILT, ["colour"], page.run("document.getElementById('source').value").encode())[1])[0]
+        image = netpbm.images(program.answer(BUILT, ["colour"], page.run("studio.editor.text").encode())[1])[0]
         if pixels(page, "picture") != (image.width, image.height, image.colours()):
             print("%s: another picture" % words)
     mouse(page, "mouseReleased", places[-1])
 
 
 def cursor(page, words, behind=0):
-    page.run("(() => { const s = document.getElementById('source'), at = s.value.indexOf(%r) + %d; s.focus(); s.setSelectionRange(at, at); "
-             "s.dispatchEvent(new Event('click')) })()" % (words, behind))
+    page.run("(() => { const {code} = studio.editor; code.focus(); code.setCursor(code.posFromIndex(code.getValue().indexOf(%r) + %d)) })()"
+             % (words, behind))
 
 
 def by_grip(page):
@@ -50,7 +50,7 @@ def by_grip(page):
 def follows(page):
     """Many moves, one behind the other, over a scene that takes a while: each text is drawn before the next one comes."""
     alone(page, behind=link("gallery/pawn.scene"))
-    page.run("globalThis.early = globalThis.texts = 0; document.addEventListener('input', () => { texts += 1; early += document.body.dataset.drawn === 'no'; }, true)")
+    page.run("globalThis.early = globalThis.texts = 0; studio.editor.code.on('beforeChange', () => { texts += 1; early += document.body.dataset.drawn === 'no'; })")
     mouse(page, "mouseMoved", called(page, NUMBER, 6, 2), False)
     x, y = page.until("(%s)()" % GRIP)
     mouse(page, "mousePressed", (x, y))
@@ -81,13 +81,13 @@ def by_keys(page):
         page.press(key, {"ArrowUp": 38, "ArrowDown": 40}[key], 1 | shift)
         due += step
         page.until("(%s)(18) === 'front 0 0 %d'" % (LINE, due), 5)
-    page.press("z", modifiers=2)
+    page.press("z", 90, modifiers=2)
     print("by keys, and undone:", called(page, LINE, 18))
     for words, behind in (("depth 9", 2), ("# its upper", 1), ("pxscene 1", 9)):
-        before = page.run("document.getElementById('source').value")
+        before = page.run("studio.editor.text")
         cursor(page, words, behind)
         page.press("ArrowUp", 38, 1)
-        print("no number at %r:" % words, page.run("document.getElementById('source').value") == before)
+        print("no number at %r:" % words, page.run("studio.editor.text") == before)
 
 
 with Browser() as page:

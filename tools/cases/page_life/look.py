@@ -3,14 +3,14 @@ import os
 import random
 import sys
 
-sys.path.insert(0, os.path.join(os.getcwd(), "tools", "lib"))
-import ends
-import micros
-import netpbm
-import passes
-import program
-import scenes
-import sessions
+sys.path[:0] = [os.path.join(os.getcwd(), "tools", "lib"), os.path.join(os.getcwd(), "python")]
+from pxplanes import ends
+from pxplanes.machine import micros
+from pxplanes.image import netpbm
+from pxplanes.machine import passes
+from pxplanes import program
+from pxplanes.scene import scenes
+from pxplanes.machine import sessions
 from browser import Browser
 from pages import alone, asked, called, click, go, link, text_of
 
@@ -179,7 +179,7 @@ LIT = """(image, middles) => {
   // (the picture is 48 pixels wide, and the array 64)
   const pixels = over.hidden ? [] : [...over.getContext("2d").getImageData(0, 0, 48, over.height).data].filter((_, at) => at % 4 === 3);
   const ink = getComputedStyle(document.documentElement).getPropertyValue("--ink"), pen = line.getContext("2d");
-  return [Number(document.body.dataset.lit), document.querySelector(".ink .lit")?.textContent.trim() ?? "", pixels.map(each => Number(each > 0)),
+  return [Number(document.body.dataset.lit), document.querySelector(".lit .CodeMirror-line")?.textContent.trim() ?? "", pixels.map(each => Number(each > 0)),
     middles.map(share => [...pen.getImageData(Math.floor(share * line.width), 1, 1, 1).data.slice(0, 3)].map(each => each.toString(16).padStart(2, "0")).join("") === ink.slice(1))];
 }"""
 
@@ -223,7 +223,7 @@ def over(page, canvas, across, down):
 
 
 def over_line(page, line):
-    return called(page, "line => { const r = document.querySelectorAll('.ink div')[line - 1].getBoundingClientRect(); return [r.left + 60, r.top + r.height / 2] }", line)
+    return called(page, "line => { const r = document.querySelectorAll('.CodeMirror-code .CodeMirror-line')[line - 1].getBoundingClientRect(); return [r.left + 60, r.top + r.height / 2] }", line)
 
 
 with Browser() as page:

@@ -2,10 +2,10 @@
 import os
 import sys
 
-sys.path.insert(0, os.path.join(os.getcwd(), "tools", "lib"))
-import netpbm
-import program
-import sessions
+sys.path[:0] = [os.path.join(os.getcwd(), "tools", "lib"), os.path.join(os.getcwd(), "python")]
+from pxplanes.image import netpbm
+from pxplanes import program
+from pxplanes.machine import sessions
 from browser import Browser
 from pages import alone, asked, go, pixels, point, text_of, view
 

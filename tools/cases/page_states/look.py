@@ -3,12 +3,12 @@ import os
 import random
 import sys
 
-sys.path.insert(0, os.path.join(os.getcwd(), "tools", "lib"))
-import ends
+sys.path[:0] = [os.path.join(os.getcwd(), "tools", "lib"), os.path.join(os.getcwd(), "python")]
+from pxplanes import ends
 import pages
-import program
-import scenes
-import sessions
+from pxplanes import program
+from pxplanes.scene import scenes
+from pxplanes.machine import sessions
 from browser import Browser
 
 cases = ends.script("dev/run_cases")

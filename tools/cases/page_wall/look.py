@@ -5,24 +5,25 @@ import random
 import re
 import sys
 
-sys.path.insert(0, os.path.join(os.getcwd(), "tools", "lib"))
-import ends
-import netpbm
-import passes
-import program
-import rasters
-import scenes
-import sessions
+sys.path[:0] = [os.path.join(os.getcwd(), "tools", "lib"), os.path.join(os.getcwd(), "python")]
+from pxplanes import ends
+from pxplanes.image import netpbm
+from pxplanes.machine import passes
+from pxplanes import program
+from pxplanes.image import maps
+from pxplanes.scene import scenes
+from pxplanes.machine import sessions
 from browser import Browser
 from pages import FIRST, PAGE, alone, called, click, go, link, pixels, text_of
 
 BUILT, OPENING = os.environ["PROGRAM"], "gallery/letters.scene"
 LOT, CLOCKS, PLACES, WHITE = 55, 200, 12, [255, 255, 255]
 REGISTERS = {"enable": 6, "carry": 8, "latch": 10, "leaf": 12}
-# Of each image of the wall its caption, its words, whether it is framed, and the colours of some places.
+# Of each image of the wall its name (as its caption, with the key's letter before it), its words, whether it is framed, and the colours of some places.
 WALL = """places => [...document.querySelectorAll("#planes .tile")].map(tile => {
   const canvas = tile.querySelector("canvas"), {data} = canvas.getContext("2d").getImageData(0, 0, canvas.width, canvas.height);
-  return [tile.querySelector("span").textContent, tile.title, tile.classList.contains("changed"),
+  const caption = tile.querySelector("span").textContent, key = /^key ([BT]) /.exec(tile.title);
+  return [key ? `${key[1]} ${caption}` : caption, tile.title, tile.classList.contains("changed"),
     places.map(([x, y]) => [...data.slice(4 * (y * canvas.width + x), 4 * (y * canvas.width + x) + 3)])];
 })"""
 THUMBS = """places => [...document.querySelectorAll("#strip .thumb canvas")].map(canvas => [canvas.width, canvas.height,
@@ -196,15 +197,12 @@ def sight(page):
 
 def half_empty(page):
     """The halves of the page of whose pixels more than half have the colour of bare paper."""
-    paper = tuple(map(int, re.findall(r"\d+", page.run("getComputedStyle(document.body).backgroundColor"))))
+    red, green, blue = map(int, re.findall(r"\d+", page.run("getComputedStyle(document.body).backgroundColor")))
     clip = {"x": 0, "y": 0, "width": 1920, "height": 1080, "scale": 0.25}
-    image = rasters.read_png(base64.b64decode(page.call("Page.captureScreenshot", format="png", clip=clip)["data"]))
-    wide, high, bare = image.width, image.height, dict.fromkeys(("left", "right", "top", "bottom"), 0)
-    for at in range(wide * high):
-        if tuple(image.samples[at * image.channels:at * image.channels + 3]) == paper:
-            bare["left" if at % wide < wide // 2 else "right"] += 1
-            bare["top" if at // wide < high // 2 else "bottom"] += 1
-    return [name for name, count in bare.items() if count > wide * high / 4]
+    image = maps.maps_of(base64.b64decode(page.call("Page.captureScreenshot", format="png", clip=clip)["data"]))[0].numbers
+    bare, (high, wide) = image == red << 16 | green << 8 | blue, image.shape
+    halves = {"left": bare[:, :wide // 2], "right": bare[:, wide // 2:], "top": bare[:high // 2], "bottom": bare[high // 2:]}
+    return [name for name, half in halves.items() if half.mean() > 0.5]
 
 
 with Browser() as page:

@@ -3,10 +3,10 @@ import os
 import sys
 
 sys.dont_write_bytecode = True
-sys.path.insert(0, os.path.join("tools", "lib"))
-import netpbm
-import program
-import scenes
+sys.path[:0] = [os.path.join("tools", "lib"), "python"]
+from pxplanes.image import netpbm
+from pxplanes import program
+from pxplanes.scene import scenes
 
 
 def number(bits):

@@ -6,9 +6,9 @@ import subprocess
 import sys
 
 sys.path[:0] = [os.path.realpath(os.path.join("tools", "lib")), "python"]
-import ends
+from pxplanes import ends
 import pxplanes
-import scenes
+from pxplanes.scene import scenes
 
 SIGNS = {"+": operator.add, "*": operator.mul, "-": operator.sub, "^": operator.xor}
 cases = ends.script("dev/run_cases")

@@ -6,9 +6,9 @@ import sys
 if sys.argv[1:] == ["plain"]:
     sys.modules["numpy"] = None
 sys.path[:0] = [os.path.join(os.getcwd(), "tools", "lib"), os.path.join(os.getcwd(), "python")]
-import ends
+from pxplanes import ends
 import pxplanes
-import sessions
+from pxplanes.machine import sessions
 
 cases = ends.script("dev/run_cases")
 BUILT = os.environ["PROGRAM"]

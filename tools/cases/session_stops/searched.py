@@ -4,11 +4,11 @@ import random
 import subprocess
 import sys
 
-sys.path.insert(0, os.path.join(os.getcwd(), "tools", "lib"))
-import micros
-import program
-import scenes
-import sessions
+sys.path[:0] = [os.path.join(os.getcwd(), "tools", "lib"), os.path.join(os.getcwd(), "python")]
+from pxplanes.machine import micros
+from pxplanes import program
+from pxplanes.scene import scenes
+from pxplanes.machine import sessions
 
 BUILT, LOT, STOPS = os.environ["PROGRAM"], random.Random(55), 60
 SCENES = (("docs/scenes/triangle.scene", 16, 16), ("docs/scenes/two_fronts.scene", 2, 2), ("cases/one_solid/stdin", 2, 2))
@@ -47,7 +47,7 @@ for path, wide, high in SCENES:
         place, back = "%d %d" % LOT.choice(places), LOT.choice(("", "back "))
         wanted.append(back + LOT.choice(("enable " + place, "enable " + place, "face " + place, "bit %d %s" % (LOT.randrange(14), place),
                                          LOT.choice(("keep-sign", "set-bit", "copy", "toggle", "all")))))
-    shown = subprocess.run(["tools/session", "-"], input=text.decode() + "".join("stop %s\n" % each for each in wanted), capture_output=True,
+    shown = subprocess.run(["./pxplanes", "trace", "-"], input=text.decode() + "".join("stop %s\n" % each for each in wanted), capture_output=True,
                            text=True, check=True).stdout.split("\n")[1::2]
     now = 0
     for words, answer in zip(wanted, shown):

@@ -7,7 +7,7 @@ import sys
 import time
 import urllib.parse
 
-sys.path.insert(0, os.path.join(os.getcwd(), "tools", "lib"))
+sys.path[:0] = [os.path.join(os.getcwd(), "tools", "lib"), os.path.join(os.getcwd(), "python")]
 from browser import Browser
 from pages import called, choose, text_of, written
 
@@ -18,7 +18,7 @@ def content(path):
 
 
 def served(*words):
-    server = subprocess.Popen(["tools/studio", *words, "--no-browser"], stdout=subprocess.PIPE)
+    server = subprocess.Popen(["./pxplanes", "view", "--serve", *words, "--no-browser"], stdout=subprocess.PIPE)
     return server, server.stdout.readline().decode().strip()
 
 
@@ -29,7 +29,7 @@ def drawn(page, address):
 
 def saved(page):
     page.run("delete document.body.dataset.saved")
-    page.run("document.getElementById('source').focus()")
+    page.run("studio.editor.focus()")
     page.press("s", modifiers=2)
 
 
@@ -45,7 +45,7 @@ def ended_early(address, path):
 
 def looked(page, address):
     before = content("own.scene")
-    print("drawn:", drawn(page, address), "| the file's:", page.run("document.getElementById('source').value").encode() == before)
+    print("drawn:", drawn(page, address), "| the file's:", page.run("studio.editor.text").encode() == before)
     choose(page, "- shaft)")
     written(page, "+ shaft)")
     os.chmod("own.scene", 0o640)
@@ -58,12 +58,14 @@ def looked(page, address):
     choose(page, "depth 9")
     written(page, "depth 10")
     saved(page)
-    page.until("document.getElementById('notice').textContent.includes('changed on the disk')")
+    page.until("document.getElementById('notice').textContent.includes('nothing was written')")
     print("changed meanwhile:", text_of(page, "#notice"))
     print("nothing is written:", content("own.scene") == other, "| open:", page.run(
-        "[...document.querySelectorAll('.text-tab')].map(each => each.textContent).join(', ')"), "| the disk's:",
-          page.run("document.getElementById('source').value").encode() == other)
-    page.run("document.querySelectorAll('.text-tab')[0].click()")
+        "[...document.querySelectorAll('.text-tab')].map(each => each.textContent).join(', ')"), "| mine:",
+          page.run("studio.editor.text").encode() == before.replace(b"- shaft)", b"+ shaft)").replace(b"depth 9", b"depth 10"), "| the disk's:", called(
+              page, "() => { const tabs = () => document.querySelectorAll('.text-tab'); tabs()[1].click(); const text = studio.editor.text; tabs()[0].click(); "
+              "return text; }").encode() == other)
+    page.until("document.body.dataset.drawn === 'yes'")
     saved(page)
     print("once more:", page.until("document.body.dataset.saved"), content("own.scene") == before.replace(b"- shaft)", b"+ shaft)").replace(b"depth 9", b"depth 10"))
     now = content("own.scene")
@@ -86,7 +88,7 @@ def crashed(address):
         page.until("Object.values(localStorage).some(each => each.includes('pyramid 210'))")
         page.crash()
         drawn(page, address)
-        print("crashed, and come back:", page.run("document.getElementById('source').value.includes('pyramid 210')"),
+        print("crashed, and come back:", page.run("studio.editor.text.includes('pyramid 210')"),
               page.run("!document.getElementById('draft').hidden"))
         print("faults of the page:", page.faults())
 
@@ -95,7 +97,7 @@ def with_ends(page, address):
     print("-- CR LF")
     before = content("dos.scene")
     drawn(page, address)
-    line = page.run("document.getElementById('source').value.split('\\n')[2]")
+    line = page.run("studio.editor.text.split('\\n')[2]")
     choose(page, line)
     written(page, line + "\n# one more\n")
     saved(page)

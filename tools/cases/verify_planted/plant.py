@@ -65,8 +65,8 @@ def main():
     written("two", mesh([((1.5, -11.5, -9), (8.5, 0.5, -5)), ((5.5, -11.5, -30), (12.5, 0.5, -20))]))
     for name in ("right", "turned inwards", "in halves that touch", "face moved by 0.00002", "face moved up", "face moved down",
                  "missing", "bar missing", "too much", "not taken away", "hole", "a facet turned", "void", "void, no cuts"):
-        words = [os.path.join("tools", "verify"), "frame.csg", written(name, changed(name)), "--size", "32", "24"] + ["--cuts", "0"] * name.endswith("cuts")
-        done = subprocess.run([sys.executable] + words, capture_output=True, text=True)
+        words = ["compare", "frame.csg", written(name, changed(name)), "--size", "32", "24"] + ["--cuts", "0"] * name.endswith("cuts")
+        done = subprocess.run(["./pxplanes"] + words, capture_output=True, text=True)
         lines = done.stdout.strip().split("\n")
         rows = [list(map(int, line.split()[-4:])) for line in lines[1:-1] if not line.startswith("the mesh")]
         missing, much = (any(row[at] for row in rows) for at in (2, 3))

@@ -6,8 +6,8 @@ import shutil
 import sys
 import threading
 
-sys.path.insert(0, os.path.join(os.getcwd(), "tools", "lib"))
-import ends
+sys.path[:0] = [os.path.join(os.getcwd(), "tools", "lib"), os.path.join(os.getcwd(), "python")]
+from pxplanes import ends
 import web_page
 from browser import Browser
 
@@ -39,7 +39,7 @@ class Quiet(http.server.SimpleHTTPRequestHandler):
 
 
 os.mkdir("host")
-for path in ("page/pxplanes.html", "web/pxplanes.mjs", "docs/scenes/first.scene"):
+for path in ("page/pxplanes.html", "page/library/pxplanes.mjs", "docs/scenes/first.scene"):
     shutil.copy(path, "host")
 for leaf, content in (("pxplanes.wasm", web_page.library_in(ends.content("page/pxplanes.html").decode())[0]), ("says.mjs", SAYS.encode()),
                       ("says.html", PAGE.encode())):

@@ -1,6 +1,6 @@
 use Rattle.px_num.proofs.Basics.{arith, err_from_is_err_and}
-use Rattle.px_outcome.proofs.RunLaws.{serves_front, serves_whole}
-use Rattle.px_outcome.proofs.StopLaws.{stop_draws}
+use Rattle.px_commands.proofs.RunLaws.{serves_front, serves_whole}
+use Rattle.px_commands.proofs.StopLaws.{stop_draws}
 use Rattle.px_sample.proofs.drawing.measure.Goals as goal
 
 pub returns-in_err-products-clause-array : goal.returns-in_err-products-clause-array

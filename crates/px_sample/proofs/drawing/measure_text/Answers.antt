@@ -1,7 +1,7 @@
 use Rattle.px_num.proofs.Basics.{err_from_is_err_and}
-use Rattle.px_outcome.specs.Outcomes.{unless_refused}
-use Rattle.px_outcome.specs.Refusals.{text_refusal}
-use Rattle.px_outcome.proofs.StopLaws.{stop_draws, stop_serves}
+use Rattle.px_commands.specs.Outcomes.{unless_refused}
+use Rattle.px_commands.specs.Refusals.{text_refusal}
+use Rattle.px_commands.proofs.StopLaws.{stop_draws, stop_serves}
 use Rattle.px_sample.proofs.DrawingLemmas.{scene_serves}
 use Rattle.px_sample.proofs.drawing.measure_text.Goals as goal
 

@@ -12,4 +12,4 @@ returns-in_ok-going-clause-ok g c from text start =
 
 pub returns-else-byte-eq10-clause-ok : goal.returns-else-byte-eq10-clause-ok
 returns-else-byte-eq10-clause-ok g c from text start =
-    fed_key _ text _ from _ _ _ c.if-byte-eq10.false start (c.keep.ensures (left [] text) (start.held refl))
+    fed_key _ text _ from _ _ _ c.if-byte-eq10.false start (c.hold_byte.ensures (left [] text) (start.held refl))

@@ -8,7 +8,7 @@ returns-clause-serves g c = λ b caught.
 
 pub loop-more-preserved : goal.loop-more-preserved
 loop-more-preserved g c = record {
-  fits = c.turn.ensures.fits;
+  fits = c.read_and_answer.ensures.fits;
   few = c.in-Ok.ensures.count.2;
   caught = λ b start. c.in-Ok.ensures.caught b (c.loop-more.invariant.caught b start);
 }

@@ -1,7 +1,7 @@
 use Rattle.px_num.proofs.Basics.{◌≡◌, None, refl, rules, err_from_is_err_and}
 use Rattle.px_shadow.proofs.Words.{light_refusal, lights_fault, stop_serves, text_refusal, unless_refused, worded}
 use Rattle.px_shadow.proofs.ShadowLemmas.{idle_shades, lights_refuse, lights_serve}
-use Rattle.px_outcome.specs.declared.stop.SceneStop.TheVariants as halted
+use Rattle.px_commands.specs.declared.stop.SceneStop.TheVariants as halted
 use Rattle.px_shadow.proofs.shadow.shade_parts.Goals as goal
 
 pub returns-in_err-scene-clause-serves : goal.returns-in_err-scene-clause-serves

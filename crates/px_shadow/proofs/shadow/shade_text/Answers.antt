@@ -1,5 +1,5 @@
 use Rattle.px_num.proofs.Basics.{ap, arith, refl, sym, ◌∙◌}
-use Rattle.px_outcome.specs.Outcomes.{refused}
+use Rattle.px_commands.specs.Outcomes.{refused}
 use Rattle.px_shadow.proofs.ShadowLemmas.{long_shadowed, parts_serve, serves_refused}
 use Rattle.px_shadow.proofs.shadow.shade_text.Goals as goal
 

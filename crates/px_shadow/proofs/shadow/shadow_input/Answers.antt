@@ -1,5 +1,5 @@
 use Rattle.px_num.proofs.Basics.{refl, err_from_is_err_and}
-use Rattle.px_outcome.proofs.RunLaws.{still}
+use Rattle.px_commands.proofs.RunLaws.{still}
 use Rattle.px_shadow.proofs.ShadowLemmas.{performs_shades, performs_unread}
 use Rattle.px_shadow.proofs.shadow.shadow_input.Goals as goal
 

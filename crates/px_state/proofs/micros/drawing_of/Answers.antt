@@ -1,5 +1,5 @@
 use Rattle.px_num.proofs.Basics.{Err, ap, err_from_is_err_and}
-use Rattle.px_state.proofs.RefusalLemmas.{job_refused, job_small, not_refused}
+use Rattle.px_state.proofs.RefusalLemmas.{job_refused, not_refused}
 use Rattle.px_state.proofs.micros.drawing_of.Goals as goal
 
 pub returns-clause-ok : goal.returns-clause-ok
@@ -11,10 +11,4 @@ returns-in_err-drawing_of-clause-err c =
     let p = err_from_is_err_and c.from_residual.result c.from_residual.ensures.1 in
     rw (p.1, p.2) (job_refused c.args.bits c.args.scene.now _
     (λ need is. c.in_err-drawing_of.ensures.need need (ap Err is))
-    (λ count is. c.in_err-drawing_of.ensures.many count (ap Err is)))
-
-pub returns-in_err-drawing_of-clause-small : goal.returns-in_err-drawing_of-clause-small
-returns-in_err-drawing_of-clause-small c =
-    let p = err_from_is_err_and c.from_residual.result c.from_residual.ensures.1 in
-    rw (p.1, p.2) (job_small c.args.bits c.args.scene.now _
     (λ count is. c.in_err-drawing_of.ensures.many count (ap Err is)))

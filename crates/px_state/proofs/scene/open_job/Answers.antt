@@ -1,6 +1,6 @@
 use Rattle.px_num.proofs.Basics.{Err, ap, err_from_is_err_and}
 use Rattle.px_playing.specs.PassesText.{passes_listing}
-use Rattle.px_state.proofs.RefusalLemmas.{job_leaves, job_refused, job_small, not_refused}
+use Rattle.px_state.proofs.RefusalLemmas.{job_leaves, job_refused, not_refused}
 use Rattle.px_state.proofs.scene.open_job.Goals as goal
 
 pub returns-clause-ok : goal.returns-clause-ok
@@ -18,9 +18,3 @@ returns-in_err-open-clause-refused g c =
     let p = err_from_is_err_and c.from_residual.result c.from_residual.ensures.1 in
     rw (p.1, p.2) (job_leaves _ g.A.Array.BITS (passes_listing c.args.scene.now) _ _
     c.in_err-open.ensures.array)
-
-pub returns-in_err-open-clause-small : goal.returns-in_err-open-clause-small
-returns-in_err-open-clause-small g c =
-    let p = err_from_is_err_and c.from_residual.result c.from_residual.ensures.1 in
-    rw (p.1, p.2) (job_small g.A.Array.BITS c.args.scene.now _
-    (λ count is. c.in_err-open.ensures.many count (ap Err is)))

@@ -1,6 +1,6 @@
 use Rattle.px_num.proofs.Basics.{arith, ap, sym, ◌∙◌, option_map, err_from_is_err_and}
 use Rattle.px_state.specs.Refusals.{list_fault}
-use Rattle.px_state.proofs.TextLemmas.{long_text, list_course, list_keeps, list_refused, list_small, list_text}
+use Rattle.px_state.proofs.TextLemmas.{long_text, list_course, list_keeps, list_refused, list_text}
 use Rattle.px_state.proofs.whole.read_course.Goals as goal
 
 pub returns-clause-ok : goal.returns-clause-ok
@@ -25,11 +25,6 @@ pub returns-in_err-read_listing-clause-keeps : goal.returns-in_err-read_listing-
 returns-in_err-read_listing-clause-keeps c =
     let p = err_from_is_err_and c.from_residual.result c.from_residual.ensures.1 in
     rw (p.1, p.2) (list_keeps _)
-
-pub returns-in_err-read_listing-clause-small : goal.returns-in_err-read_listing-clause-small
-returns-in_err-read_listing-clause-small c =
-    let p = err_from_is_err_and c.from_residual.result c.from_residual.ensures.1 in
-    rw (p.1, p.2) (list_small _)
 
 pub returns-then-text-gt-MAX_TEXT_BYTES-clause-err : goal.returns-then-text-gt-MAX_TEXT_BYTES-clause-err
 returns-then-text-gt-MAX_TEXT_BYTES-clause-err c =

@@ -3,7 +3,7 @@ use Rattle.px_text.specs.Text.{worded}
 use Rattle.px_scene.specs.Reading.{scene_of}
 use Rattle.px_playing.specs.PassesText.{passes_listing}
 use Rattle.px_state.specs.Refusals.{refusal_by_bits, fault_of_scene}
-use Rattle.px_state.proofs.TextLemmas.{long_text, scene_course, scene_keeps, scene_refused, scene_small, scene_text}
+use Rattle.px_state.proofs.TextLemmas.{long_text, scene_course, scene_keeps, scene_refused, scene_text}
 use Rattle.px_state.proofs.whole.read_drawing.Goals as goal
 
 pub returns-clause-ok : goal.returns-clause-ok
@@ -26,11 +26,6 @@ pub returns-in_err-read_scene-clause-keeps : goal.returns-in_err-read_scene-clau
 returns-in_err-read_scene-clause-keeps c =
     let p = err_from_is_err_and c.from_residual.result c.from_residual.ensures.1 in
     rw (p.1, p.2) (scene_keeps _)
-
-pub returns-in_err-read_scene-clause-small : goal.returns-in_err-read_scene-clause-small
-returns-in_err-read_scene-clause-small c =
-    let p = err_from_is_err_and c.from_residual.result c.from_residual.ensures.1 in
-    rw (p.1, p.2) (scene_small _)
 
 pub returns-clause-scene : goal.returns-clause-scene
 returns-clause-scene c = c.in_ok-read_scene.ensures.ok.1

@@ -1,0 +1,4 @@
+pub mod CommandLemmas
+pub mod LimitLaws
+pub mod RunLaws
+pub mod StopLaws

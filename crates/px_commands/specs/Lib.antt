@@ -1,0 +1,17 @@
+pub use Rattle.px_model.specs.Scenes
+pub mod Arrays
+pub mod Commands
+pub mod CostText
+pub mod Ends
+pub mod Inputs
+pub mod JobStops
+pub mod Notes
+pub mod Outcomes
+pub mod PixelBits
+pub mod Plans
+pub mod Refusals
+pub mod Results
+pub mod SampleText
+pub mod Statuses
+pub mod Stops
+pub mod Words

@@ -1,0 +1,69 @@
+//! What a run is asked to do.
+ghost use Rattle.std.specs.Prelude.{◌≡◌};
+ghost use Rattle.px_commands.specs.Commands.{doublings};
+
+/// What the program is asked to do (docs/SCENES.md, "Commands").
+#[derive(Clone, Copy)]
+pub enum Command {
+    /// Makes something of the scene that is the whole input.
+    Make(Work),
+    /// Answers command lines in a session over the scene before them.
+    Debug,
+    /// Draws the sample of so many blocks, 1 to `px_model::MAX_BLOCKS`, and prints four numbers of it.
+    Sample(u32),
+    /// Draws the image of the lights that the lines behind the scene name.
+    Shadow,
+    /// Plays the listing that is the whole input, and prints the memory of every pixel.
+    Play,
+}
+
+/// What is made of a scene.
+#[derive(Clone, Copy)]
+pub enum Work {
+    /// Draws the depth image and the face image.
+    Render,
+    /// Draws the colour image.
+    Colour,
+    /// Writes the scene's canonical text.
+    Tidy,
+    /// Prints the products of the shown expression.
+    Plan,
+    /// Prints how many operations and clocks the scene takes.
+    Cost,
+    /// Draws the finer scene, and one colour image of means over it.
+    Refine(Fineness),
+    /// Draws the depth image and the face image of a wide picture, tile by tile.
+    Tile(Size),
+    /// Writes the scene's passes as a listing.
+    List,
+}
+
+/// How many finer pixels stand along each side of a pixel.
+#[derive(Clone, Copy)]
+pub enum Fineness {
+    /// Two, so that a pixel is the mean of four.
+    Two,
+    /// Four, so that a pixel is the mean of sixteen.
+    Four,
+}
+
+/// The size of a wide picture in pixels, each side of 1 to `px_model::MAX_WIDE_PICTURE_SIZE`.
+#[derive(Clone, Copy)]
+pub struct Size {
+    /// The pixels of a row.
+    pub width: u32,
+    /// The pixels of a column.
+    pub height: u32,
+}
+
+impl Fineness {
+    /// How often the pixels on each side are doubled.
+    pub fn doublings(self) -> u32
+        ensures { result ≡ doublings self }
+    {
+        match self {
+            Fineness::Two => 1,
+            Fineness::Four => 2,
+        }
+    }
+}

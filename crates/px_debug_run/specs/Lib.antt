@@ -1,3 +1,0 @@
-pub mod Askings
-pub mod Debugs
-pub mod Sittings

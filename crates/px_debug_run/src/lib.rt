@@ -1,6 +1,0 @@
-//! The command `debug`.
-#![tactic(auto)]
-
-mod debug;
-
-pub use debug::debug_input;

@@ -1,2 +1,0 @@
-pub mod GridLemmas
-pub mod TraceLineLemmas

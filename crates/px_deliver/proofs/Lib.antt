@@ -1,3 +1,0 @@
-pub mod ImageLemmas
-pub mod PictureLemmas
-pub mod RefusalLemmas

@@ -1,0 +1,123 @@
+-- Means of the same samples, and the image of means over the picture of the finer scene.
+use Rattle.px_num.proofs.Basics.{◌≡◌, ◌≢◌, ℕ, zero, suc, ◌+◌, ◌*◌, ◌/◌, ◌%◌, ◌^◌, ◌<◌, ◌≤◌, List, refl, ap, sym, subst}
+use Rattle.px_num.proofs.Basics.{◌∙◌, arith, mul-div-le, mul-le-mul_left, pow_pos, range_with_len, sum_by}
+use Rattle.std.proofs.Math.Nat.{mul-div_cancel_left}
+use Rattle.px_model.specs.declared.solid.Colour.{Colour}
+use Rattle.px_model.specs.declared.limits.TheConstants.{MAX_PICTURE_SIZE}
+use Rattle.px_model.specs.Scenes.{SceneView, colour_in_scene, faces_of}
+use Rattle.px_array.specs.Arrays.{State}
+use Rattle.px_sched.specs.Layouts.{LayoutView, number_part}
+use Rattle.px_num.proofs.RangeLaws.{same_parts}
+use Rattle.px_frame.specs.Picture.{image_of_pixels, colour_at, row_of_pixels}
+use Rattle.px_frame.specs.Stored.{HasRows, StoresFaces, stored_colour, stored_face}
+use Rattle.px_frame.specs.Strips.{HoldsRow, strip_number}
+use Rattle.px_frame.proofs.RowLaws.{same_pixels}
+use Rattle.px_frame.specs.Finer.{fine_scene}
+use Rattle.px_frame.specs.Refined.{mean, mean_pixel}
+use Rattle.px_frame.specs.RefinedLaw.{MeansAreRefined}
+use Rattle.px_frame.specs.MeanSums.{HoldsFaces, strip_colour}
+use Rattle.px_frame.proofs.MeanSumLaws.{sum_more}
+
+sum_same : (f g : ℕ → ℕ) (count : ℕ) → ((k : ℕ) → k < count → f k ≡ g k)
+    → sum_by f (range_with_len 0 count) ≡ sum_by g (range_with_len 0 count)
+sum_same f g zero same = refl
+sum_same f g (suc n) same =
+    let more : n + 1 ≡ suc n = omega arith in
+    let first = sum_same f g n (λ k below. same k (omega arith)) in
+    let last = same n (omega arith) in
+    grind (arith, sum_more)
+
+-- a pixel of so many by so many, each cut into k by k
+in_block : (k x w i : ℕ) → x < w → i < k → k * x + i < k * w
+in_block k x w i left inside = grind (arith, mul-le-mul_left)
+
+module _ (s x y : ℕ) where
+  mean_same : (f g : (x y : ℕ) → ℕ)
+      → ((i j : ℕ) → i < 2 ^ s → j < 2 ^ s → f (2 ^ s * x + i) (2 ^ s * y + j) ≡ g (2 ^ s * x + i) (2 ^ s * y + j))
+      → mean s f x y ≡ mean s g x y
+  mean_same f g same = grind (arith, sum_same)
+
+  pixel_same : (c d : (x y : ℕ) → Colour)
+      → ((i j : ℕ) → i < 2 ^ s → j < 2 ^ s → c (2 ^ s * x + i) (2 ^ s * y + j) ≡ d (2 ^ s * x + i) (2 ^ s * y + j))
+      → mean_pixel s c x y ≡ mean_pixel s d x y
+  pixel_same c d same =
+      let red = mean_same (λ i j. (c i j).red) (λ i j. (d i j).red)
+      (λ i j p q. ap (λ (e : Colour). e.red) (same i j p q)) in
+      let green = mean_same (λ i j. (c i j).green) (λ i j. (d i j).green) (λ i j p q. ap (λ (e : Colour). e.green)
+      (same i j p q)) in
+      let blue = mean_same (λ i j. (c i j).blue) (λ i j. (d i j).blue)
+      (λ i j p q. ap (λ (e : Colour). e.blue) (same i j p q)) in
+      rw (red, green, blue) refl
+
+pub means_refined : MeansAreRefined
+means_refined s scene layout state shows =
+    let fine = fine_scene s scene in
+    let width : 2 ^ s * scene.width / 2 ^ s ≡ scene.width = mul-div_cancel_left scene.width (pow_pos s) in
+    let height : 2 ^ s * scene.height / 2 ^ s ≡ scene.height = mul-div_cancel_left scene.height (pow_pos s) in
+    ap (λ m. image_of_pixels m (2 ^ s * scene.height / 2 ^ s) (mean_pixel s (stored_colour fine layout state))) width
+    ∙ ap (λ m. image_of_pixels scene.width m (mean_pixel s (stored_colour fine layout state))) height
+    ∙ same_pixels scene.width scene.height (mean_pixel s (stored_colour fine layout state))
+    (mean_pixel s (colour_at fine))
+    (λ x y left above. pixel_same s x y (stored_colour fine layout state) (colour_at fine)
+    (λ i j p q. ap (colour_in_scene fine.solids) ((shows (2 ^ s * x + i) (2 ^ s * y + j)
+    (in_block (2 ^ s) x scene.width i left p) (in_block (2 ^ s) y scene.height j above q)).face)))
+
+-- a block of so many rows as fit into a height
+pub block_fits : (s y height : ℕ) → y < height / 2 ^ s → 2 ^ s * y + 2 ^ s ≤ height
+block_fits s y height above = grind (arith, mul-le-mul_left, mul-div-le)
+
+-- the rows of a block are in one strip
+in_strip : (s y j : ℕ) → s ≤ 2 → j < 2 ^ s → (2 ^ s * y + j) / 8 ≡ 2 ^ s * y / 8
+in_strip zero y j few low = omega arith
+in_strip (suc zero) y j few low = omega arith
+in_strip (suc (suc zero)) y j few low = omega arith
+in_strip (suc (suc (suc k))) y j few low = absurd (omega arith)
+
+-- and those of the next one, where it does not begin a strip
+pub next_in_strip : (s y : ℕ) → s ≤ 2 → (2 ^ s * (y + 1)) % 8 ≢ 0 → 2 ^ s * (y + 1) / 8 ≡ 2 ^ s * y / 8
+next_in_strip zero y few further = omega (arith, further)
+next_in_strip (suc zero) y few further = omega (arith, further)
+next_in_strip (suc (suc zero)) y few further = omega (arith, further)
+next_in_strip (suc (suc (suc k))) y few further = absurd (omega arith)
+
+module _
+    (s y : ℕ) (fine : SceneView) (layout : LayoutView) (state : State) (strip : List ℕ) (few : s ≤ 2)
+    (high : 2 ^ s * y + 2 ^ s ≤ fine.height) (rows : HasRows fine state)
+    (held : HoldsRow strip (number_part layout layout.key_b) state fine.width (2 ^ s * y))
+  where
+    face_held : (x j : ℕ) → x < fine.width → j < 2 ^ s
+        → strip_number strip x (2 ^ s * y + j) ≡ stored_face layout state x (2 ^ s * y + j)
+    face_held x j left low = held.each x (2 ^ s * y + j) left (in_strip s y j few low) (omega (arith, high, rows, low))
+
+    -- a row of means over what a strip has is one over what the array stores
+    pub row_held : (width : ℕ) → 2 ^ s * width ≤ fine.width
+        → row_of_pixels width (mean_pixel s (strip_colour fine strip)) y
+        ≡ row_of_pixels width (mean_pixel s (stored_colour fine layout state)) y
+    row_held width wide =
+        same_parts (λ x. mean_pixel s (strip_colour fine strip) x y)
+        (λ x. mean_pixel s (stored_colour fine layout state) x y)
+        0 width (λ x from left. pixel_same s x y (strip_colour fine strip) (stored_colour fine layout state)
+        (λ i j p q. ap (colour_in_scene fine.solids) (face_held (2 ^ s * x + i) j
+        (omega (arith, in_block (2 ^ s) x width i (omega (arith, left)) p, wide)) q)))
+
+    pub faces_held : fine.width ≤ MAX_PICTURE_SIZE → fine.height ≤ MAX_PICTURE_SIZE → StoresFaces fine layout state
+        → HoldsFaces fine strip (2 ^ s * y) (2 ^ s)
+    faces_held wide most faces = grind (arith, face_held)
+
+-- one row of them
+pub one_row : (scene : SceneView) (strip : List ℕ) (top across j : ℕ) → j < across → HoldsFaces scene strip top across
+    → HoldsFaces scene strip (top + j) 1
+one_row scene strip top across j low held = record {
+  wide = held.wide;
+  high = omega (arith, held.high, low);
+  columns = held.columns;
+  faces = λ x k left one.
+      let here : top + j + k ≡ top + j = omega (arith, one) in
+      subst (λ y. strip_number strip x y ≤ faces_of scene.solids) (sym here) (held.faces x j left low);
+}
+
+pub faces_here : (scene : SceneView) (strip : List ℕ) (y x : ℕ) → x < scene.width → HoldsFaces scene strip y 1
+    → strip_number strip x y ≤ faces_of scene.solids
+faces_here scene strip y x left held =
+    let here : y + 0 ≡ y = omega arith in
+    subst (λ y. strip_number strip x y ≤ faces_of scene.solids) here (held.faces x 0 left (omega arith))

@@ -1,0 +1,15 @@
+use Rattle.px_num.proofs.Basics.{◌*◌, ap, ◌∙◌, arith}
+use Rattle.px_frame.specs.MeanSums.{block_sums, mean_of, strip_colour}
+use Rattle.px_frame.proofs.refined.mean_at.Goals as goal
+
+pub overflow_mul-across : goal.overflow_mul-across
+overflow_mul-across c = rw c.parts-across.ensures.value (omega (arith, c.requires.across, c.requires.faces.wide))
+
+pub overflow_mul-across-2 : goal.overflow_mul-across-2
+overflow_mul-across-2 c = rw c.parts-across.ensures.value (omega (arith, c.requires.faces.high))
+
+pub returns : goal.returns
+returns c =
+    let colour = strip_colour c.args.fine.now c.args.strip.now in
+    c.mean.ensures ∙ ap (mean_of c.args.s) (c.block_sums.ensures.sums
+    ∙ ap (λ k. block_sums colour k (k * c.args.x) (k * c.args.y) k) c.parts-across.ensures.value)

@@ -1,6 +1,0 @@
-//! The command `play`.
-#![tactic(auto)]
-
-mod play;
-
-pub use play::play_input;

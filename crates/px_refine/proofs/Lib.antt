@@ -1,4 +1,0 @@
-pub mod FinerLemmas
-pub mod MeanLemmas
-pub mod ScaleLemmas
-pub mod SumLaws

@@ -1,6 +1,0 @@
-use Rattle.px_refine.proofs.FinerLemmas.{common_pixels}
-use Rattle.px_refine.proofs.MeanLemmas.{means_refined}
-use Rattle.px_refine.proofs.law.laws_of_refinement.Goals as goal
-
-pub returns : goal.returns
-returns c = record { pixels = common_pixels; means = means_refined }

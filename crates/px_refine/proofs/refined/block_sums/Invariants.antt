@@ -1,9 +1,0 @@
-use Rattle.px_num.proofs.Basics.{◌≡◌, ◌*◌}
-use Rattle.px_refine.specs.Sums.{AreSumsAtMost, block_sums, strip_colour}
-use Rattle.px_refine.proofs.refined.block_sums.Given as goal
-
-abbrev pub invariant-loop-j : goal.invariant-loop-j
-invariant-loop-j l = record {
-  sums : l.sums ≡ block_sums (strip_colour l.fine l.strip) l.across l.from l.top l.j;
-  most : AreSumsAtMost (255 * (l.across * l.j)) l.sums;
-}

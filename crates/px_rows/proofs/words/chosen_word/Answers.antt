@@ -1,5 +1,0 @@
-use Rattle.px_rows.proofs.WordLemmas.{chosen_law}
-use Rattle.px_rows.proofs.words.chosen_word.Goals as goal
-
-pub returns : goal.returns
-returns c = chosen_law c.args.target c.args.value c.args.mask

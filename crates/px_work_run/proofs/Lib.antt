@@ -1,2 +1,0 @@
-pub mod MeanLemmas
-pub mod WorkLemmas

@@ -1,4 +1,0 @@
-pub mod Refining
-pub mod Tiling
-pub mod Workings
-pub mod Works

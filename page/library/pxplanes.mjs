@@ -1,0 +1,387 @@
+// The proved library of pxplanes in JavaScript: pictures of scenes, and the state of the machine that draws them.
+//
+//     import {load} from "./pxplanes.mjs";
+//     const px = await load();
+//     px.render(text).depths                  // a number a pixel, rows from the top
+//
+// A text is a string or bytes. What is not accepted is thrown as `Refused`. docs/LIBRARY.md has each call.
+
+const STATUS = {ok: 0, usage: 2, malformed: 3, limit: 4, memory: 7, room: 8, clock: 9, grid: 10, micro: 11, operation: 12};
+const FOUND = 56, STATE = 64, WORD = 16, MICRO = 8, OPERATION = 88, ROOM = 1 << 21;
+// A module with one instruction on vectors of 128 bits.
+const VECTORS = Uint8Array.of(0, 97, 115, 109, 1, 0, 0, 0, 1, 5, 1, 96, 0, 1, 123, 3, 2, 1, 0, 10, 10, 1, 8, 0, 65, 0, 253, 15, 253, 98, 11);
+const ACTS = ["", "nop", "enable-all", "enable-carry", "enable-tree", "enable-bit", "set-carry", "fetch", "store-tree", "store-latch",
+  "store-const", "toggle", "carry-tree", "carry-latch", "add-tree"];
+const HAVE_A_PLACE = new Set([5, 7, 8, 9, 10, 11, 12, 13, 14]), HAVE_A_VALUE = new Set([3, 4, 5, 6, 10]), TREES = ["hold", "clear", "feed"];
+const KINDS = ["all", "keep-sign", "keep-bit", "load-linear", "keep-at-most", "add-linear", "load-const", "set-bit", "toggle", "copy",
+  "keep-less"];
+const ROLES = [null, "start", "open", "candidate", "drop", "clear", "front", "confirm", "begin", "turn", "close", "merge"];
+// A machine keeps so many states, and goes on from one that is so many clocks before at most; farther, a state of the text is faster.
+const LATEST = 1000, KEPT_BYTES = 1 << 27, NEAR = 24, STRETCH = 4096;
+
+// Why a text is refused, or a call not answered: `status` is the program's, `line` the first bad line, `cause` or `kind` the word of
+// why, `number` what was found there, and `clocks` or `operations` how many there are, where one past the last was asked.
+export class Refused extends Error {
+  constructor(message, status, {line = 0, cause = "", kind = "", number = 0, clocks = 0, operations = 0} = {}) {
+    super(message);
+    Object.assign(this, {name: "Refused", status, line, cause, kind, number, clocks, operations});
+  }
+}
+
+// What an engine lacks to run the library, in words; null where it lacks nothing.
+export function lacking() {
+  if (typeof WebAssembly !== "object") return "There is no WebAssembly here";
+  return WebAssembly.validate(VECTORS) ? null
+    : "WebAssembly has no SIMD here; Safari 16.4, Chromium 91, Firefox 90 and Node 16.4, or newer, have it";
+}
+
+// The library, of the bytes of pxplanes.wasm, of a module compiled of them, or of the file beside this one.
+export async function load(source) {
+  const why = lacking();
+  if (why) throw new Error(why);
+  const module = source instanceof WebAssembly.Module ? source : await WebAssembly.compile(source ?? await beside());
+  return new Library(await WebAssembly.instantiate(module, {}));
+}
+
+async function beside() {
+  const place = new URL("./pxplanes.wasm", import.meta.url);
+  if (place.protocol === "file:" && typeof process === "object") return (await import("node:fs/promises")).readFile(place);
+  const answer = await fetch(place);
+  if (!answer.ok) throw new Error(`there is no ${place}`);
+  return answer.arrayBuffer();
+}
+
+const bytesOf = text => typeof text === "string" ? new TextEncoder().encode(text) : text;
+
+export class Library {
+  #calls;
+
+  constructor(instance) { this.#calls = instance.exports; }
+
+  get Refused() { return Refused; }
+
+  // Whether the module makes clocks of a state by itself.
+  get hasClocks() { return "pxplanes_clocks" in this.#calls; }
+
+  get bytes() { return this.#calls.memory.buffer.byteLength; }
+
+  version() {
+    return this.#with([WORD], ([word]) => {
+      const length = Number(this.#calls.pxplanes_version(BigInt(word), BigInt(WORD)));
+      return this.#letters(word, length);
+    });
+  }
+
+  // The size of a scene's picture, its greatest face number, its operations and clocks.
+  check(text) {
+    return this.#ask("check", text, [], found => found);
+  }
+
+  // The depth and the face number of each pixel.
+  render(text) {
+    const {width, height} = this.check(text), size = 4 * width * height;
+    return this.#ask("render", text, [[size, 4], [size, 4]], ({operations, clocks}, [depths, faces]) =>
+      ({width, height, depths: this.#copy(Uint32Array, depths, size), faces: this.#copy(Uint32Array, faces, size), operations, clocks}));
+  }
+
+  // Red, green and blue of each pixel.
+  colour(text) {
+    const {width, height} = this.check(text), size = 3 * width * height;
+    return this.#ask("colour", text, [[size, 1]], (found, [rgb]) => ({width, height, rgb: this.#copy(Uint8Array, rgb, size)}));
+  }
+
+  // The products that are drawn, each a list of solid numbers from 1 on, below 0 where a solid is taken away.
+  products(text) {
+    return this.#roomy(count => this.#ask("products", text, [[4 * count, 4]], (found, [room]) => {
+      const rows = [[]];
+      for (const number of this.#copy(Int32Array, room, 4 * count)) if (number) rows[rows.length - 1].push(number); else rows.push([]);
+      return rows.slice(0, -1);
+    }));
+  }
+
+  // The machine after so many clocks of a scene or of a listing.
+  state(text, clock) {
+    return this.#roomy(count => this.#with([STATE], ([state]) => this.#ask("state", text, [[8 * count, 8]],
+      (found, [room]) => new State(this.#fields(state), this.#copy(Uint32Array, room, 8 * count)), [clock], [state])));
+  }
+
+  // The microinstructions of so many clocks, from `first` on, as the library packs them.
+  packed(text, first, count) {
+    return this.#ask("micros", text, [[MICRO * count, MICRO]], (found, [room]) => this.#copy(BigUint64Array, room, MICRO * count), [first]);
+  }
+
+  micros(text, first, count) { return Array.from(this.packed(text, first, count), word => new Micro(word)); }
+
+  // How many clocks a scene or a listing has, and how many operations.
+  counts(text) { return this.#ask("micros", text, [[0, MICRO]], ({operations, clocks}) => ({operations, clocks}), [0]); }
+
+  // The operations of a scene or of a listing, so many from `first` on, or all from there; each with what it is for.
+  course(text, first = 0, count = null) {
+    const due = count ?? Math.max(0, this.counts(text).operations - first), size = OPERATION * due;
+    return this.#ask("course", text, [[size, OPERATION]], (found, [room]) => {
+      const view = new DataView(this.#calls.memory.buffer, room, size);
+      return Array.from({length: due}, (_, at) => new Operation(view, OPERATION * at));
+    }, [first]);
+  }
+
+  // The bytes that the program writes for a command's words, as "tile 600 400", with the text as its standard input.
+  run(text, words = "render") {
+    const bytes = bytesOf(text), asked = bytesOf(words);
+    for (let room = ROOM; ;) {
+      const {status, told, output} = this.#with([bytes.length, asked.length, room, FOUND], ([text, words, out, found]) => {
+        this.#put(text, bytes);
+        this.#put(words, asked);
+        const status = this.#calls.pxplanes_run(...[text, bytes.length, words, asked.length, out, room, found].map(BigInt));
+        const told = this.#found(found);
+        return {status, told, output: status === STATUS.ok ? this.#copy(Uint8Array, out, told.room) : null};
+      });
+      if (output) return output;
+      if (status !== STATUS.room) throw this.#refusal(status, told);
+      room = told.room;
+    }
+  }
+
+  // The words of the state behind some packed microinstructions, of a state or of what has its words, width and height.
+  clocks({words, width, height}, packed) {
+    const {pxplanes_clocks: call} = this.#calls, half = words.byteLength / 8;
+    if (!call) throw new Error("this module makes no clocks of a state");
+    return this.#with([words.byteLength, packed.byteLength, FOUND], ([room, micros, found]) => {
+      this.#put(room, words);
+      this.#put(micros, packed);
+      const status = call(BigInt(room), BigInt(half), width, height, BigInt(micros), BigInt(packed.length), BigInt(found));
+      if (status !== STATUS.ok) throw this.#refusal(status, this.#found(found));
+      return this.#copy(Uint32Array, room, words.byteLength);
+    });
+  }
+
+  // A machine over a text, which keeps states to go on from and back to.
+  machine(text, starts = null) { return new Machine(this, bytesOf(text), starts); }
+
+  // Makes a call with a buffer of so many elements as the library says that it needs.
+  #roomy(call) {
+    try {
+      return call(0);
+    } catch (error) {
+      if (error.status !== STATUS.room) throw error;
+      return call(error.number);
+    }
+  }
+
+  // Makes a call with a text, numbers, buffers of sizes in bytes and in elements, what else it writes, and what it found; gives what
+  // is made of that.
+  #ask(name, text, buffers, answer, numbers = [], written = []) {
+    const bytes = bytesOf(text), whole = each => each.map(BigInt);
+    return this.#with([bytes.length, FOUND, ...buffers.map(([size]) => size)], ([place, found, ...places]) => {
+      this.#put(place, bytes);
+      const given = places.flatMap((each, at) => [each, buffers[at][0] / buffers[at][1]]);
+      const status = this.#calls["pxplanes_" + name](...whole([place, bytes.length, ...numbers, ...given, ...written, found]));
+      const told = this.#found(found);
+      if (status !== STATUS.ok) throw this.#refusal(status, told);
+      return answer(told, places);
+    });
+  }
+
+  // Calls with buffers of so many bytes, and gives them back.
+  #with(sizes, call) {
+    const places = [];
+    try {
+      for (const size of sizes) {
+        const place = this.#calls.px_malloc(BigInt(size));
+        if (!place) throw this.#refusal(STATUS.memory, {});
+        places.push(Number(place));
+      }
+      return call(places);
+    } finally {
+      for (const place of places) this.#calls.px_free(BigInt(place));
+    }
+  }
+
+  #put(place, numbers) {
+    new Uint8Array(this.#calls.memory.buffer, place, numbers.byteLength)
+      .set(new Uint8Array(numbers.buffer, numbers.byteOffset, numbers.byteLength));
+  }
+
+  #copy(Kind, place, size) { return new Kind(this.#calls.memory.buffer.slice(place, place + size)); }
+
+  #letters(place, length) { return String.fromCharCode(...new Uint8Array(this.#calls.memory.buffer, place, length)); }
+
+  #found(place) {
+    const view = new DataView(this.#calls.memory.buffer, place, FOUND), word = at => view.getUint32(at, true);
+    const long = at => Number(view.getBigUint64(at, true));
+    return {width: word(0), height: word(4), faces: word(8), line: word(12), cause: word(16), kind: word(20),
+      number: Number(view.getBigInt64(24, true)), digits: String(view.getBigInt64(24, true)), operations: long(32), clocks: long(40), room: long(48)};
+  }
+
+  #fields(place) {
+    const view = new DataView(this.#calls.memory.buffer, place, STATE), word = at => view.getUint32(at, true);
+    const long = at => Number(view.getBigUint64(at, true)), next = view.getBigUint64(56, true);
+    return {width: word(0), height: word(4), wordsPerRow: word(8), bits: word(12), levels: word(16), clock: long(24), clocks: long(32),
+      operation: long(40), operationClock: long(48), next: next ? new Micro(next) : null};
+  }
+
+  #refusal(status, found) {
+    // (a number of a text may have more digits than one of JavaScript holds)
+    const {line, number, digits, operations, clocks, room} = found;
+    const word = (call, at) => this.#with([WORD], ([place]) => this.#letters(place, Number(call(at, BigInt(place), BigInt(WORD)))));
+    if (status === STATUS.malformed) {
+      const cause = word(this.#calls.pxplanes_cause_name, found.cause);
+      return new Refused(`malformed line ${line}: ${cause}`, status, {line, cause});
+    }
+    if (status === STATUS.limit) {
+      const kind = word(this.#calls.pxplanes_kind_name, found.kind);
+      return new Refused(`limit line ${line}: ${kind} ${digits}`, status, {line, kind, number});
+    }
+    if (status === STATUS.usage) return new Refused("the words name no command", status);
+    if (status === STATUS.clock) return new Refused(`there are ${clocks} clocks`, status, {clocks});
+    if (status === STATUS.operation) return new Refused(`there are ${operations} operations`, status, {operations});
+    if (status === STATUS.grid) return new Refused("a grid has not so many columns or rows", status);
+    if (status === STATUS.micro) return new Refused(`element ${number} is no microinstruction`, status, {number});
+    if (status === STATUS.room) return new Refused(`${room} elements are due`, status, {number: room});
+    return new Refused(status === STATUS.memory ? "out of memory" : `status ${status}`, status, {number});
+  }
+}
+
+// A microinstruction: the act of every pixel, the place in its memory and the bit that it names (0 where it names none), what the
+// tree does, and the bits of the lines a, b, c. `String` of it is as the debugger's trace writes it.
+export class Micro {
+  constructor(word) {
+    const low = Number(word & 0xffffffffn), high = Number(word >> 32n), act = high & 255, lines = high >> 24;
+    Object.assign(this, {act: ACTS[act], place: low, value: high >> 8 & 1, tree: TREES[high >> 16 & 3],
+      lines: [lines & 1, lines >> 1 & 1, lines >> 2 & 1], hasPlace: HAVE_A_PLACE.has(act), hasValue: HAVE_A_VALUE.has(act)});
+  }
+
+  toString() {
+    const {act, place, value, tree, lines, hasPlace, hasValue} = this;
+    return [tree, ...tree === "feed" ? [lines.join("")] : [], act, ...hasPlace ? [place] : [], ...hasValue ? [value] : []].join(" ");
+  }
+}
+
+// An operation and what it is for, as include/pxplanes.h has it, with the words of its kind and of its role, which is null in a listing.
+// `String` of it is its line in a listing.
+export class Operation {
+  constructor(view, at) {
+    const long = place => Number(view.getBigInt64(at + place, true)), word = place => view.getUint32(at + place, true);
+    Object.assign(this, {kind: KINDS[word(64) - 1], numbers: Array.from({length: word(68)}, (_, which) => long(8 * which)),
+      clock: long(40), pass: long(48), literal: long(56), role: ROLES[word(72)], solid: word(76), face: word(80), other: word(84)});
+  }
+
+  toString() { return [this.kind, ...this.numbers].join(" "); }
+}
+
+export const REGISTERS = ["enable", "carry", "latch", "leaf"];
+
+// The machine after `clock` of `clocks` clocks: `words` are those of include/pxplanes.h, each in two halves of 32 bits, the lower
+// first. `next` is the microinstruction that comes, null at the end.
+export class State {
+  constructor(fields, words) {
+    Object.assign(this, fields, {words});
+    this.perRow = 2 * this.wordsPerRow;
+    this.perPlane = this.perRow * this.height;
+  }
+
+  // The plane of a memory bit, or of a register, by its number.
+  planeOf(which) { return REGISTERS.includes(which) ? this.bits + REGISTERS.indexOf(which) : Number(which); }
+
+  bit(which, x, y) { return this.words[this.planeOf(which) * this.perPlane + y * this.perRow + (x >> 5)] >>> (x & 31) & 1; }
+
+  // All that a pixel holds.
+  pixel(x, y) {
+    const [enable, carry, latch, leaf] = REGISTERS.map(name => this.bit(name, x, y));
+    return {memory: Array.from({length: this.bits}, (_, at) => this.bit(at, x, y)).join(""), enable, carry, latch, leaf};
+  }
+
+  // The number in a field of the pixel at x, y: so many bits from one on, the lowest first.
+  number(at, length, x, y) {
+    let number = 0;
+    for (let bit = length - 1; bit >= 0; bit--) number = 2 * number + this.bit(at + bit, x, y);
+    return number;
+  }
+
+  // The numbers in a field of all pixels, row by row.
+  numbers(at, length) {
+    const {width, height, perRow, perPlane, words} = this, found = new Float64Array(width * height);
+    for (let bit = 0; bit < length; bit++) {
+      const weight = 2 ** bit, plane = (at + bit) * perPlane;
+      for (let y = 0; y < height; y++) {
+        for (let column = 0; column < width; column += 32) {
+          let word = words[plane + y * perRow + (column >> 5)];
+          for (let to = y * width + column; word; word >>>= 1, to++) if (word & 1) found[to] += weight;
+        }
+      }
+    }
+    return found;
+  }
+
+  // Output and carry of a node of the tree: levels from 1 on, a level's nodes from 0 on.
+  node(level, index) {
+    const place = 2 ** level + index, wide = 2 * Math.ceil(2 ** (this.levels + 1) / 64), first = this.words.length - 2 * wide;
+    return [0, 1].map(row => this.words[first + row * wide + (place >> 5)] >>> (place & 31) & 1);
+  }
+}
+
+// A machine over a text: any of its states. The last ones that it came by are kept, to go back to. Where `starts` has the first clock
+// of each operation, and the library makes clocks of a state, a state is made of one that is kept a few clocks before it.
+export class Machine {
+  constructor(library, text, starts = null) {
+    Object.assign(this, {library, text, starts, kept: new Map(), packed: [0, new BigUint64Array(0)]});
+    this.first = library.state(text, 0);
+    this.clocks = this.first.clocks;
+    this.most = Math.max(2 * NEAR, Math.min(LATEST, Math.floor(KEPT_BYTES / this.first.words.byteLength)));
+    this.canStep = library.hasClocks && starts !== null;
+    this.#keep(this.first);
+  }
+
+  state(clock) { return this.#keep(this.kept.get(clock) ?? this.#found(clock)); }
+
+  // The microinstructions of so many clocks, from `first` on.
+  micros(first, count) { return Array.from(this.#broadcast(first, count), word => new Micro(word)); }
+
+  // What is broadcast in so many clocks from one on, packed; the last stretch is kept.
+  #broadcast(first, count) {
+    const [from, words] = this.packed;
+    if (first < from || first + count > from + words.length) {
+      const start = Math.max(0, first - STRETCH), length = Math.min(this.clocks - start, first - start + Math.max(STRETCH, count));
+      this.packed = [start, this.library.packed(this.text, start, length)];
+    }
+    return this.packed[1].subarray(first - this.packed[0], first - this.packed[0] + count);
+  }
+
+  // Makes the states before a clock, as many as are near, so that going back finds them.
+  prepare(clock) {
+    if (!this.canStep || clock < NEAR || this.kept.has(clock - 1)) return;
+    let known = this.#keep(this.library.state(this.text, clock - NEAR));
+    while (known.clock + 1 < clock) known = this.#keep(this.#behind(known, known.clock + 1));
+  }
+
+  // Goes on from a state that is near.
+  #found(clock) {
+    if (this.canStep && clock <= this.clocks)
+      for (let near = clock - 1; near >= Math.max(0, clock - NEAR); near--)
+        if (this.kept.has(near)) return this.#behind(this.kept.get(near), clock);
+    return this.library.state(this.text, clock);
+  }
+
+  #behind(known, clock) {
+    const words = this.library.clocks(known, this.#broadcast(known.clock, clock - known.clock)), isEnd = clock === this.clocks;
+    const operation = isEnd ? this.starts.length : this.#operationAt(clock);
+    return new State({...this.first, clock, operation, operationClock: isEnd ? 0 : clock - this.starts[operation],
+      next: isEnd ? null : this.micros(clock, 1)[0]}, words);
+  }
+
+  #operationAt(clock) {
+    let low = 0, high = this.starts.length;
+    while (low < high) {
+      const middle = low + high >> 1;
+      if (this.starts[middle] <= clock) low = middle + 1; else high = middle;
+    }
+    return low - 1;
+  }
+
+  // Keeps a state, and forgets the one that was wanted longest ago.
+  #keep(state) {
+    this.kept.delete(state.clock);
+    this.kept.set(state.clock, state);
+    if (this.kept.size > this.most) this.kept.delete(this.kept.keys().next().value);
+    return state;
+  }
+}

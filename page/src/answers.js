@@ -1,0 +1,231 @@
+// What the page asks, answered in a worker by the library; and of a scene's text what the page reads in it by itself.
+import {Refused, load} from "../library/pxplanes.mjs";
+import {cureOf} from "./cures.js";
+import {compared, fill, mapsOf, marksOf, pictureOf, wordsOf} from "./differences.js";
+import {hintsOf, rayOf} from "./looks.js";
+import {Bad, rastersOf} from "./maps.js";
+import {coloursOf, packed} from "./palette.js";
+import {operationsOf, operationsOfListing} from "./passes.js";
+import {Life} from "./replay.js";
+import {OF_PRODUCTS, Refusal, bytesOf, cutLines, lettersOf, needMemory, readScene} from "./scene.js";
+
+const MOST_CLOCKS = 64, MOST_SMALL = 256, MOST_GROUPS = 200, FIRST = 8, MALFORMED = 3, LIMIT = 4, NO_CLOCK = 9, IDLE = 200;
+// `idle` makes ready what may be asked next, where nothing is asked for a moment; `lived` is the pixel whose life was asked last.
+let px = null, idle = null, lived = null;
+
+// What is made of a text, kept for the text that came last.
+function kept(make) {
+  let known = null;
+  return text => known?.text === text ? known.value : (known = {text, value: make(text)}).value;
+}
+
+const lettersIn = kept(text => lettersOf(new TextEncoder().encode(text)));
+const sceneIn = kept(text => readScene(lettersIn(text)));
+const courseIn = kept(courseOf);
+const machineIn = kept(text => px.machine(text, courseIn(text).operations.map(([, , , clock]) => clock)));
+
+// Whether a text is a listing, by its first word.
+const isListing = text => /^[ \t\r]*pxlist(?![^ \t\r\n#])/.test(text.replace(/^([ \t\r]*(#[^\n]*)?\n)+/, ""));
+
+function wholeNumber(words, name, most = Number.MAX_SAFE_INTEGER) {
+  const number = words[name];
+  if (!Number.isInteger(number) || number < 0 || number > most) throw new Bad(`${name} is no number from 0 to ${most}`);
+  return number;
+}
+
+// Number, solid, kind and which, colour and line of each face.
+const facesOf = scene => scene.faces().map(([number, solid, kind, which, colour, line]) =>
+  [number, solid.name, which === null ? kind : `${kind} ${which}`, colour, line]);
+
+// The picture of a scene: its depths, faces and colours; of a listing what it is alone.
+function draw(text) {
+  if (isListing(text)) {
+    const {width, height, clocks} = px.state(text, 0);
+    return {kind: "listing", width, height, layout: null, clocks};
+  }
+  const drawn = px.render(text), scene = sceneIn(text), faces = facesOf(scene), rgb = new Uint8Array(3 * drawn.faces.length);
+  const colours = coloursOf(faces);
+  for (let place = 0, to = 0; place < drawn.faces.length; place++, to += 3) {
+    const colour = colours[drawn.faces[place]];
+    rgb[to] = colour[0]; rgb[to + 1] = colour[1]; rgb[to + 2] = colour[2];
+  }
+  return {kind: "scene", width: drawn.width, height: drawn.height, far: scene.far(), operations: drawn.operations, clocks: drawn.clocks,
+    layout: {depth: scene.depthBits, fraction: scene.fractionBits, face: scene.numberBits()}, facesOf: faces,
+    depths: drawn.depths, faces: drawn.faces, rgb};
+}
+
+// What is likely wrong with an accepted scene, and what is worth a look.
+const hints = (text, {faces}) => ({hints: hintsOf(sceneIn(text), faces)});
+
+// The ray of a pixel: what is seen, and where it is inside each solid.
+function ray(text, words) {
+  const scene = sceneIn(text);
+  return rayOf(scene, wholeNumber(words, "x", scene.width - 1), wholeNumber(words, "y", scene.height - 1));
+}
+
+// The operations of a scene or a listing: of each its pass, its line, its words and its first clock; and the passes.
+function courseOf(text) {
+  const {clocks} = px.counts(text), course = px.course(text);
+  const [operations, passes] = isListing(text) ? operationsOfListing(course) : operationsOf(sceneIn(text), px.products(text), course);
+  return {operations, passes, clocks};
+}
+
+// The state after a clock: its words, and what comes next.
+function state(text, words) {
+  const machine = machineIn(text), {next, ...fields} = machine.state(wholeNumber(words, "clock"));
+  idle = setTimeout(() => machine.prepare(words.clock), IDLE);
+  return {...fields, micro: next && String(next)};
+}
+
+// A small picture of key B behind a clock: of some of its pixels the colours of their faces, at most so many in a row.
+function thumb(text, words) {
+  const scene = sceneIn(text), most = wholeNumber(words, "most", MOST_SMALL), own = px.state(text, wholeNumber(words, "clock"));
+  const step = Math.ceil(Math.max(scene.width, scene.height) / Math.max(1, most)), [width, height] = [scene.width, scene.height].map(side => Math.ceil(side / step));
+  const faces = own.numbers(0, scene.numberBits()), colours = coloursOf(facesOf(scene)), pixels = new Uint32Array(width * height);
+  for (let place = 0; place < pixels.length; place++) {
+    const x = place % width * step, y = Math.floor(place / width) * step;
+    pixels[place] = packed(colours[faces[y * own.width + x]]);
+  }
+  return {width, height, pixels};
+}
+
+// The life of a pixel: enable behind each operation, and the number in key B's face, 0 where the text is a listing.
+function life(text, words) {
+  const own = lifeIn(text, words), bits = isListing(text) ? 0 : sceneIn(text).numberBits(), faces = new Uint16Array(own.enable.length);
+  for (let place = 0; place < faces.length; place++) for (let bit = 0; bit < bits; bit++) faces[place] |= own.at(place, bit) << bit;
+  return {enable: own.enable, faces};
+}
+
+function lifeIn(text, words) {
+  const {width, height} = machineIn(text).first, x = wholeNumber(words, "x", width - 1), y = wholeNumber(words, "y", height - 1);
+  if (lived?.text !== text || lived.x !== x || lived.y !== y) lived = {text, x, y, life: new Life(px, courseIn(text).operations, x, y)};
+  return lived.life;
+}
+
+// The next clock, or the last one before, behind which a pixel's enable, a bit of its memory or the face in its key B is another one.
+function stop(text, words) {
+  const own = lifeIn(text, words), {operations, clocks} = courseIn(text), now = wholeNumber(words, "clock", clocks), way = words.back ? -1 : 1;
+  const what = {enable: () => "enable", bit: () => [wholeNumber(words, "bit", machineIn(text).first.bits - 1), 1],
+    face: () => [0, isListing(text) ? 0 : sceneIn(text).numberBits()]}[words.what]();
+  const endOf = operation => operations[operation + 1]?.[3] ?? clocks;
+  let operation = operations.findLastIndex(([, , , start]) => start <= now);
+  for (; operation >= 0 && operation < operations.length; operation += way) {
+    if (!own.isChanged(operation, what)) continue;
+    const clock = own.clockOf(operation, what, endOf(operation));
+    if (way * (clock - now) > 0) return {clock};
+  }
+  return {clock: null};
+}
+
+// What a pixel held after each of some clocks, and the microinstructions between them.
+function wave(text, words) {
+  const machine = machineIn(text), first = wholeNumber(words, "first"), last = wholeNumber(words, "last", machine.clocks);
+  if (last < first || last - first >= MOST_CLOCKS) throw new Bad(`at most ${MOST_CLOCKS} clocks are shown at once`);
+  const {width, height} = machine.first, x = wholeNumber(words, "x", width - 1), y = wholeNumber(words, "y", height - 1);
+  const pixels = Array.from({length: last - first + 1}, (_, at) => machine.state(first + at).pixel(x, y));
+  const micros = machine.micros(first, last - first).map(micro =>
+    ({tree: micro.tree, lines: micro.lines, act: String(micro).split(" ").slice(micro.tree === "feed" ? 2 : 1).join(" ")}));
+  return {first, last, pixels, micros};
+}
+
+// Another renderer's map beside the picture, which whoever has it gives.
+async function compare(text, words) {
+  const scene = sceneIn(text), tolerance = wholeNumber(words, "tolerance", scene.far()), {width, height} = scene;
+  const ours = words.picture ? {width, height, ...words.picture} : px.render(text);
+  const theirs = mapsOf(await rastersOf(words.map, [width, height]));
+  fill(theirs, scene.far());
+  const {lines, differences, kinds} = compared(ours, theirs, tolerance, FIRST, scene);
+  if (!differences) return {lines, groups: []};
+  const groups = kinds.sorted.map(([kind, count]) => [count, kind]);
+  return {lines, groups: groups.slice(0, MOST_GROUPS), width: ours.width, height: ours.height, rgb: pictureOf(ours, theirs, differences),
+    marks: marksOf(differences.gaps.length, differences.at, kinds.kinds, kinds.sorted), depths: wordsOf(theirs.depths),
+    faces: wordsOf(theirs.faces)};
+}
+
+// The bytes that the program writes for a command.
+const run = (text, {command}) => ({output: px.run(text, command)});
+
+// The picture of a scene, of every so many pixels, at most so many a side: for the list of scenes.
+function small(text, words) {
+  const {width, height, rgb} = px.colour(text), step = Math.ceil(Math.max(width, height) / wholeNumber(words, "most", MOST_SMALL));
+  const size = [width, height].map(side => Math.ceil(side / step)), pixels = new Uint32Array(size[0] * size[1]);
+  for (let place = 0; place < pixels.length; place++) {
+    const from = 3 * (Math.floor(place / size[0]) * step * width + place % size[0] * step);
+    pixels[place] = packed(rgb.subarray(from, from + 3));
+  }
+  return {width: size[0], height: size[1], pixels};
+}
+
+// What the page tells of a refusal: the program's note and, where its own reading knows more, the place and the cure.
+function refused(text, {message, line, kind}) {
+  const head = {note: message, line, span: null, due: null, limit: null, cure: null};
+  if (isListing(text)) return head;
+  const known = kind === "products" ? new Refusal(message, null, null, ...OF_PRODUCTS) : ownRefusal(text);
+  if (known?.note !== message) return head;
+  const {due, limit} = known, span = known.span && columnsOf(cutLines(lettersIn(text))[line - 1], known.span);
+  const cure = cureOf(lettersIn(text), known) ?? known.cure;
+  return {...head, due, limit, span, cure, fix: fixOf(text, line, span, cure)};
+}
+
+// The change that a cure says: the words of the row in whose place others are to stand. It is given only where the library then refuses
+// no line up to this one.
+function fixOf(text, line, span, cure) {
+  const said = /(?:^|: )write ([^\s,;]+(?: [^\s,;]+)*)(?:[,;]|$)/.exec(cure ?? ""), row = text.split("\n")[line - 1];
+  if (!said || row === undefined) return null;
+  const isWhole = said[1].includes(" "), code = row.split("#")[0].trimEnd();
+  const columns = isWhole ? [0, code.length] : span, words = isWhole ? row.match(/^\s*/)[0] + said[1] : said[1];
+  if (!columns) return null;
+  const lines = text.split("\n");
+  lines[line - 1] = row.slice(0, columns[0]) + words + row.slice(columns[1]);
+  try {
+    px.check(lines.join("\n"));
+  } catch (error) {
+    if (!(error instanceof Refused) || error.line <= line) return null;
+  }
+  return {row: line - 1, columns, words};
+}
+
+function ownRefusal(text) {
+  try {
+    needMemory(sceneIn(text));
+    return null;
+  } catch (error) {
+    return error;
+  }
+}
+
+// The columns of some bytes of a line.
+function columnsOf(line, span) {
+  return span.map(at => new TextDecoder("utf-8", {ignoreBOM: true}).decode(bytesOf(line.slice(0, at))).length + Math.max(0, at - line.length));
+}
+
+const QUESTIONS = {draw, hints, ray, program: courseIn, state, wave, thumb, life, stop, compare, run, small};
+
+async function answered({name, words, text}) {
+  try {
+    return await QUESTIONS[name](text, words);
+  } catch (error) {
+    if (error instanceof Refused && [MALFORMED, LIMIT].includes(error.status)) return {refused: refused(text, error)};
+    if (error instanceof Refused && error.status === NO_CLOCK) return {trouble: `there is no such clock: ${error.message}`, clocks: error.clocks};
+    if (error instanceof Refusal) return {trouble: error.note};
+    if (error instanceof Bad || error instanceof Refused) return {trouble: error.message};
+    throw error;
+  }
+}
+
+// The first message has the module of the library, and each other one a question.
+let ready = null;
+globalThis.onmessage = async ({data}) => {
+  clearTimeout(idle);
+  if (data.module) {
+    ready = load(data.module);
+    return;
+  }
+  try {
+    px = await ready;
+    const answer = await answered(data);
+    postMessage(answer, data.name === "draw" && answer.depths ? [answer.depths.buffer, answer.faces.buffer, answer.rgb.buffer] : []);
+  } catch (error) {
+    postMessage({failed: `${error.name}: ${error.message}`});
+  }
+};

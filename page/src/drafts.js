@@ -1,0 +1,72 @@
+// Drafts: what was written and is not saved, kept by the browser. Every page that is open keeps its own, under a number of its own, and
+// holds a lock of that number while it is open: so a page gives back the drafts of pages that are gone, and touches no other's.
+
+const KEPT = "pxplanes kept ", PAGE = "pxplanes page", OLDER = "pxplanes draft ";
+let own = "";
+
+function stored(call) {
+  try {
+    return call(localStorage);
+  } catch {
+    return null;
+  }
+}
+
+const keyOf = name => `${KEPT}${own} ${name}`, lockOf = number => `${PAGE} ${number}`;
+
+// Holds the lock of a number until the page is closed; whether it was free.
+const held = number => new Promise(done => {
+  navigator.locks.request(lockOf(number), {ifAvailable: true}, lock => {
+    done(lock !== null);
+    return lock && new Promise(() => {});
+  });
+});
+
+// The number that the page had before it was loaded again, unless another page has it.
+async function numbered() {
+  let known = null;
+  try {
+    known = sessionStorage.getItem(PAGE);
+  } catch { /* the browser keeps nothing here */ }
+  own = known && (!navigator.locks || await held(known)) ? known : crypto.getRandomValues(new Uint32Array(2)).join("");
+  try {
+    sessionStorage.setItem(PAGE, own);
+  } catch { /* the same */ }
+  if (own !== known && navigator.locks) await held(own);
+}
+
+// The numbers of the pages that are open. A browser without locks does not say: then only the page's own drafts are given back.
+async function open() {
+  if (!navigator.locks) return null;
+  const {held: locks} = await navigator.locks.query();
+  return new Set(locks.map(({name}) => name).filter(name => name.startsWith(PAGE)).map(name => name.slice(PAGE.length + 1)));
+}
+
+// The drafts of this page and of pages that are gone, each with its name, its text and the text that it was made of. They are this
+// page's to keep from now on.
+export async function begin() {
+  await numbered();
+  const others = await open();
+  return stored(store => Object.keys(store).flatMap(key => {
+    // (an older page kept drafts by their names alone)
+    const [number, name] = /^pxplanes kept (\d+) (.*)$/s.exec(key)?.slice(1) ?? [null, key.startsWith(OLDER) ? key.slice(OLDER.length) : null];
+    const isFree = name !== null && (number === null || number === own || others !== null && !others.has(number));
+    if (!isFree) return [];
+    const {base, text} = JSON.parse(store.getItem(key));
+    store.removeItem(key);
+    store.setItem(keyOf(free(store, name)), JSON.stringify({base, text}));
+    return [{name, base, text}];
+  })) ?? [];
+}
+
+// A name that no draft of this page has.
+function free(store, name) {
+  let found = name;
+  for (let number = 2; store.getItem(keyOf(found)) !== null; number++) found = `${name} ${number}`;
+  return found;
+}
+
+// Keeps a draft; whether the browser did.
+export const keep = (name, base, text) => stored(store => (store.setItem(keyOf(name), JSON.stringify({base, text})), true)) === true;
+
+export function forget(name) { stored(store => store.removeItem(keyOf(name))); }

@@ -1,0 +1,85 @@
+// The whole life of the pixel that is kept: its enable as bars over the passes, what put it out in each, and which faces win there.
+import {ask, latest} from "./ask.js";
+import {kindOf} from "./course.js";
+import {rove} from "./rove.js";
+import {made} from "./show.js";
+
+const at = id => document.getElementById(id);
+
+export class PixelLife {
+  // `go` is called with a clock.
+  constructor(go, tell) {
+    Object.assign(this, {go, text: null, course: null, pixel: null, life: null});
+    rove(at("lives"), "button");
+    this.fetch = latest(() => this.take().catch(tell));
+    at("life").addEventListener("pointerdown", event => {
+      if (this.course) this.go(Math.round(event.offsetX / at("life").clientWidth * this.course.clocks));
+    });
+  }
+
+  load(text, course) {
+    Object.assign(this, {text, course, life: null});
+    this.show(this.pixel);
+  }
+
+  // Takes another pixel, or none.
+  show(pixel) {
+    this.pixel = pixel;
+    this.life = null;
+    this.draw();
+    if (pixel && this.text) this.fetch();
+  }
+
+  async take() {
+    const {text, pixel} = this;
+    if (!pixel) return;
+    const head = await ask("life", {x: pixel[0], y: pixel[1]}, text);
+    if (text !== this.text || pixel !== this.pixel || !head.enable) return;
+    this.life = head;
+    this.draw();
+    document.body.dataset.life = pixel.join(" ");
+  }
+
+  draw() {
+    at("life").hidden = at("life-part").hidden = !this.life;
+    if (!this.life) return at("lives").replaceChildren();
+    this.drawBars();
+    const rows = this.rows();
+    at("lives").replaceChildren(...rows.map(row => this.rowOf(row)));
+    at("life-words").textContent = rows.length ? "what put it out, and which face won" : "nothing put it out";
+  }
+
+  drawBars() {
+    const canvas = at("life"), {course, life: {enable}} = this;
+    canvas.width = canvas.clientWidth * devicePixelRatio;
+    canvas.height = canvas.clientHeight * devicePixelRatio;
+    const pen = canvas.getContext("2d"), style = getComputedStyle(document.documentElement), scale = canvas.width / Math.max(1, course.clocks);
+    pen.fillStyle = style.getPropertyValue("--mark");
+    for (let place = 0; place < enable.length; place++) {
+      const from = course.startOf(place), until = course.startOf(place + 1);
+      if (enable[place]) pen.fillRect(from * scale, 0, Math.max(.5, (until - from) * scale), canvas.height);
+    }
+    const count = enable.reduce((sum, bit) => sum + bit, 0);
+    canvas.setAttribute("aria-label", `enable of pixel ${this.pixel.join(", ")}: 1 after ${count} of ${enable.length - 1} operations`);
+  }
+
+  // Of each pass that put the pixel out, or in which a face wins there: the pass, the operation that did it, and whether a face won.
+  rows() {
+    const {course: {operations}, life: {enable, faces}} = this, out = [];
+    operations.forEach(([pass], operation) => {
+      const isOut = enable[operation] && !enable[operation + 1], wins = faces[operation] !== faces[operation + 1];
+      if (isOut) out.push({pass, operation, face: 0});
+      if (wins) out.push({pass, operation, face: faces[operation + 1]});
+    });
+    return out;
+  }
+
+  rowOf({pass, operation, face}) {
+    const {course} = this, [, , words] = course.operations[operation], said = course.passes[pass], clock = course.startOf(operation + 1);
+    const button = made("button", "event" + (face ? " wins" : ""), "", made("i", "chip pass-" + kindOf(said)),
+      made("span", "", face ? `face ${face} wins here` : said.replaceAll("`", "")), made("span", "quiet", face ? "" : `out: not ${words.replaceAll("`", "").replace(/^keep the pixels /, "")}`),
+      made("span", "number", String(clock)));
+    button.addEventListener("click", () => this.go(clock));
+    return button;
+  }
+}

@@ -1,0 +1,373 @@
+// The machine at any clock of a scene: by a slider, by moves and by play; as images of its planes, and what one pixel holds.
+import {State} from "../library/pxplanes.mjs";
+import {Trouble, ask, latest} from "./ask.js";
+import {Course, KINDS, NAMES, kindOf} from "./course.js";
+import {PixelLife} from "./life.js";
+import {coloursOf} from "./palette.js";
+import {Edges, saidOf} from "./edges.js";
+import {formOf} from "./passes.js";
+import {pixelOf} from "./pixel.js";
+import {Player} from "./play.js";
+import {Predict} from "./predict.js";
+import {Screen, made, unit} from "./show.js";
+import {fieldsOf, onesOf, viewsOf} from "./state.js";
+import {Strip} from "./strip.js";
+import {isShown, treeOf} from "./tree.js";
+import {Wall} from "./wall.js";
+import {waveform} from "./wave.js";
+
+const at = id => document.getElementById(id);
+const CLOCKS_OF_WAVE = 24, GAP = 4, PICTURE = "best colours", FIRST_VIEW = "enable";
+
+export class Machine {
+  constructor(tell) {
+    Object.assign(this, {tell, text: null, head: null, course: null, state: null, before: null, pixel: null});
+    // What is shown large, and what beside it: names of views; none beside it is "".
+    Object.assign(this, {view: PICTURE, beside: "", wanted: 0, frames: 0});
+    this.player = new Player(this);
+    this.strip = new Strip(clock => this.go(clock), tell);
+    this.wall = new Wall(at("planes"), (name, isBeside) => this.choose(name, isBeside));
+    this.life = new PixelLife(clock => this.go(clock), tell);
+    this.screens = ["array", "array-beside"].map(name => new Screen(at(name), pixel => this.point(pixel), pixel => this.keep(pixel)));
+    // Whether the machine's text is the one that stands, as the page knows it.
+    this.isCurrent = () => true;
+    // What the page does when another pixel is pointed at, and when another state is shown.
+    this.onPoint = this.onShow = () => {};
+    this.edges = new Edges(this.screens[0]);
+    this.predict = new Predict(this, this.screens[0]);
+    at("edges").addEventListener("click", () => this.turnEdges());
+    this.fetchState = latest(() => this.take().catch(tell));
+    this.fetchWave = latest((x, y) => this.takeWave(x, y).catch(tell));
+    at("view").addEventListener("change", () => this.choose(at("view").value, false));
+    at("beside").addEventListener("change", () => this.choose(at("beside").value, true));
+    at("clock").addEventListener("input", () => this.go(Number(at("clock").value)));
+    at("until").addEventListener("change", () => this.until());
+    at("until").addEventListener("keydown", event => {
+      if (event.key === "Escape") at("until").value = this.wanted;
+      if (event.key === "Escape" || event.key === "Enter") at("until").blur();
+    });
+    for (const button of document.querySelectorAll("[data-move]"))
+      button.addEventListener("click", () => this.move(button.dataset.move.replace("pace", at("pace").value)));
+    at("stop").addEventListener("keydown", event => {
+      if (event.key === "Enter") this.stopAt(event.shiftKey ? -1 : 1).catch(tell);
+      if (event.key === "Escape" || event.key === "Enter") at("stop").blur();
+    });
+    at("stops").append(...["enable", "face", ...NAMES].map(name => new Option(name)));
+    for (const button of document.querySelectorAll("[data-stop]"))
+      button.addEventListener("click", () => this.stopAt(Number(button.dataset.stop)).catch(tell));
+    for (const button of document.querySelectorAll("[data-zoom]"))
+      button.addEventListener("click", () => this.zoom(Number(button.dataset.zoom)));
+    for (const [kind, , words] of KINDS)
+      at("legend").append(made("span", "", "", made("i", "chip pass-" + kind), words + " "));
+    new ResizeObserver(() => { this.strip.drawPasses(); this.life.draw(); this.inside(); if (this.state) this.arrange(); }).observe(at("machine"));
+  }
+
+  // Takes another text, at a clock or behind a share of its passes, and where they are said with views and a pixel; where `isPlayed`
+  // says by what, it plays from there.
+  async load(text, head, {clock = 0, share, view, beside, pixel, isPlayed}) {
+    this.text = text;
+    this.course = this.before = null;
+    const course = await ask("program", {}, text);
+    if (this.text !== text) return;
+    if (course.trouble || course.refused) throw new Trouble(course.trouble ?? course.refused.note);
+    this.head = head;
+    this.course = new Course(course);
+    this.fields = fieldsOf(head.layout);
+    at("clock").max = this.course.clocks;
+    at("of").textContent = `of ${course.clocks.toLocaleString("en")}`;
+    if (view) Object.assign(this, {view, beside: beside ?? ""});
+    if (pixel) this.screens[0].keep(this.pixel = pixel);
+    this.strip.load(text, this.course, head.layout && head);
+    this.life.load(text, this.course);
+    this.goTo(share ? this.course.startOfPass(Math.round(share * course.passes.length)) : clock);
+    if (isPlayed) this.player.begin(isPlayed);
+  }
+
+  // Goes to a clock, as who looks on wants it: what plays stops.
+  go(clock) {
+    this.player.stop();
+    this.goTo(clock);
+  }
+
+  goTo(clock) {
+    if (!this.course) return;
+    this.wanted = Math.max(0, Math.min(this.course.clocks, clock));
+    at("clock").value = this.wanted;
+    this.fetchState();
+  }
+
+  // Whether what is wanted is shown, and may be explained.
+  get isShown() { return this.course !== null && this.state !== null && this.stateOf === this.text && this.state.clock === this.wanted; }
+
+  // Goes to the clock that is written; what is no number of a clock is said, and changes nothing.
+  until() {
+    const word = at("until").value.trim(), number = Number(word);
+    if (this.course && /^\d+$/.test(word) && number <= this.course.clocks) return this.go(number);
+    at("until").value = this.wanted;
+    if (this.course) this.tell(new Trouble(`${word || "nothing"} is no clock from 0 to ${this.course.clocks}`));
+  }
+
+  // Goes on to where what is written in the field comes about, or back to where it last did.
+  async stopAt(way) {
+    const {course, text, pixel, wanted: now} = this, words = at("stop").value.trim().split(/\s+/), [what, bit] = words;
+    if (!course) return;
+    const isOperation = words.length === 1 && NAMES.includes(what);
+    if (!isOperation && !(words.length === 1 && ["enable", "face"].includes(what)) && !(words.length === 2 && what === "bit" && /^\d+$/.test(bit)))
+      throw new Trouble("a stop is enable, face, bit and its number, or an operation as keep-sign");
+    if (!isOperation && !pixel) throw new Trouble("point at a pixel, or choose one by the arrow keys, and then stop");
+    const {clock, trouble} = isOperation ? {clock: course.named(what, now, way)}
+      : await ask("stop", {what, bit: Number(bit), x: pixel[0], y: pixel[1], clock: now, back: way < 0}, text);
+    if (text !== this.text) return;
+    if (trouble) throw new Trouble(trouble);
+    if (clock === null) throw new Trouble(`${words.join(" ")}: ${way > 0 ? "nothing of it comes any more" : "nothing of it was before"}`);
+    this.go(clock);
+  }
+
+  move(name) {
+    this.player.stop();
+    this.goOn(name);
+  }
+
+  goOn(name) { if (this.course) this.goTo(this.course.moved(name, this.wanted)); }
+
+  play() { this.player.toggle(); }
+
+  stop() { this.player.stop(); }
+
+  async take() {
+    const text = this.text, clock = this.wanted, began = performance.now();
+    if (!this.course) return;
+    const head = await ask("state", {clock}, text);
+    if (text !== this.text || !this.course) return;
+    if (head.trouble || head.refused) throw new Trouble(head.trouble ?? head.refused.note);
+    this.before = this.stateOf === text ? this.state : null;
+    this.stateOf = text;
+    const {words, ...fields} = head;
+    this.state = new State(fields, words);
+    at("machine").classList.remove("empty");
+    at("machine").classList.toggle("old", !this.isCurrent());
+    this.show();
+    document.body.dataset.shown = clock;
+    document.body.dataset.took = Math.round(performance.now() - began);
+    document.body.dataset.frames = this.frames += 1;
+  }
+
+  show() {
+    const {state} = this, of = JSON.stringify([this.head.layout, this.head.layout ? this.head.facesOf : this.text]);
+    if (this.viewsOf !== of) {
+      this.viewsOf = of;
+      this.fillViews();
+    }
+    const unknown = [this.view, this.beside].filter(name => name && !this.viewNamed(name));
+    if (unknown.length) this.tell(new Trouble(`There is nothing named ${unknown.join(" or ")} to show of this text.`));
+    at("until").value = state.clock;
+    this.paint();
+    this.onShow();
+    this.showWall();
+    this.strip.at(state.clock);
+    this.showEdges();
+    this.predict.offer(state);
+    this.tellPlace();
+    this.inside();
+  }
+
+  turnEdges() {
+    this.edges.turn();
+    at("edges").setAttribute("aria-pressed", String(this.edges.isOn));
+    if (this.isShown) this.showEdges();
+  }
+
+  // The numbers along the edges, while the tree makes their sums; a clear takes a clock, and each level of the tree one more.
+  showEdges() {
+    const {state, course} = this, operation = course.operations[state.operation], found = operation ? formOf(operation[1]) : null;
+    const {width, height} = state, now = state.operationClock - 1 - state.levels;
+    this.edges.show(found && {...found, width, height, now});
+    const isSaid = this.edges.isOn && found && this.pixel;
+    at("sum").textContent = isSaid ? saidOf({...found, now}, this.pixel) : "";
+    at("sum").hidden = !isSaid;
+  }
+
+  showWall() {
+    const isAlike = this.before?.width === this.state.width && this.before.height === this.state.height;
+    document.body.dataset.read = this.wall.show(this.state, isAlike ? this.before : null);
+  }
+
+  // The pass, the operation and the microinstruction that come next, in words.
+  tellPlace() {
+    const {state, course} = this, isDone = state.clock === state.clocks, count = course.operations.length;
+    const operation = isDone ? count - 1 : state.operation;
+    const [pass, line, words, first] = course.operations[operation] ?? [0, "", "", 0], said = course.passes[pass] ?? "";
+    const end = this.head.layout ? "all is done: key B has the picture" : "all is done";
+    const place = isDone ? `${count} operations in ${state.clocks} clocks`
+      : `operation ${operation} (of 0 to ${count - 1}), next its clock ${state.operationClock} (of 0 to ${course.startOf(operation + 1) - first - 1})`;
+    const number = made("span", "label", `pass ${pass + 1} of ${course.passes.length}`);
+    at("pass").replaceChildren(made("i", "chip pass-" + kindOf(said)), number, ...worded(said));
+    at("operation").replaceChildren(...worded(isDone ? end : words));
+    at("line").replaceChildren(made("code", "", isDone ? "" : line), made("span", "quiet", place));
+    at("micro").replaceChildren(made("span", "label", "next"), made("code", "", state.micro ?? "nothing"),
+      made("span", "quiet", state.micro ? treeWords(state.micro) : ""));
+  }
+
+  fillViews() {
+    this.views = viewsOf(this.head.layout, this.state.bits, coloursOf(this.head.facesOf ?? []));
+    this.wall.load(this.views, this.used());
+    const groupsOf = () => {
+      const groups = {};
+      for (const {group, label, name} of this.views) (groups[group] ??= Object.assign(made("optgroup"), {label: group})).append(new Option(label, name));
+      return Object.values(groups);
+    };
+    at("view").replaceChildren(...groupsOf());
+    at("beside").replaceChildren(new Option("nothing beside it", ""), ...groupsOf());
+  }
+
+  // The bits of the memory that a text uses: the fields of a scene, or what the operations of a listing name.
+  used() {
+    const fields = this.fields.length ? this.fields.map(({at: first, length}) => [first, length]) : this.course.bitsNamed();
+    return new Set(fields.flatMap(([first, length]) => Array.from({length}, (_, bit) => first + bit)));
+  }
+
+  // The state at a clock, which is not shown.
+  async stateAt(clock) {
+    const {words, trouble, ...fields} = await ask("state", {clock}, this.text);
+    if (trouble) throw new Trouble(trouble);
+    return new State(fields, words);
+  }
+
+  // What is shown large, as it stands behind some clocks, picture by picture.
+  async pictures(clocks, onEach) {
+    const {text, head} = this, view = this.viewNamed(this.view), out = [];
+    for (const clock of clocks) {
+      const state = await this.stateAt(clock);
+      if (text !== this.text) throw new Trouble("the text is another one now: there is no film");
+      const pixels = new Uint32Array(state.width * state.height);
+      view.fill(state, pixels);
+      out.push(cut(pixels, state.width, head.layout ? head : state));
+      onEach(out.length);
+    }
+    return out;
+  }
+
+  viewNamed(name) { return this.views.find(view => view.name === name); }
+
+  // Shows a view large, or beside the one that is.
+  choose(name, isBeside) {
+    this[isBeside ? "beside" : "view"] = isBeside && name === this.beside ? "" : name;
+    this.paint();
+  }
+
+  nextView(way) {
+    if (!this.views) return;
+    const now = this.views.findIndex(view => view.name === this.view);
+    this.choose(this.views[(now + way + this.views.length) % this.views.length].name, false);
+  }
+
+  zoom(way) { for (const screen of this.screens) if (!screen.stage.hidden) screen.zoomed(way); }
+
+  paint() {
+    if (!this.state) return;
+    this.view = (this.viewNamed(this.view) ?? this.viewNamed(FIRST_VIEW)).name;
+    this.beside = this.viewNamed(this.beside)?.name ?? "";
+    at("view").value = this.view;
+    at("beside").value = this.beside;
+    this.screens[1].stage.hidden = !this.beside;
+    this.arrange();
+    [this.view, this.beside].forEach((name, place) => { if (name) this.paintOne(this.screens[place], this.viewNamed(name)); });
+    this.wall.mark([this.view, this.beside]);
+    at("count").textContent = this.onesSaid(this.viewNamed(this.view));
+  }
+
+  // Two images stand one above the other where they are larger so.
+  arrange() {
+    const {clientWidth: wide, clientHeight: high} = at("stages"), {width, height} = this.state;
+    const scale = (columns, rows) => Math.min(wide / columns / width, high / rows / height);
+    at("stages").classList.toggle("stacked", scale(1, 2) > scale(2, 1));
+  }
+
+  paintOne(screen, view) {
+    const {state, head} = this, {width, height} = state, pixels = new Uint32Array(width * height), count = this.onesSaid(view);
+    view.fill(state, pixels);
+    screen.draw(width, height, pixels, head.layout ? [head.width, head.height] : null);
+    screen.canvas.setAttribute("aria-label", `the array at clock ${state.clock}, ${view.label}${count && `: ${count}`}; arrow keys choose a pixel`);
+  }
+
+  onesSaid({plane}) {
+    const {state} = this;
+    return plane === undefined ? "" : `${onesOf(state, plane).toLocaleString("en")} of ${(state.width * state.height).toLocaleString("en")} are 1`;
+  }
+
+  // The numbers of the faces in key B, row by row; null where there are none.
+  faces() {
+    const field = this.isShown && this.fields.find(each => each.name === "best face");
+    return field ? this.state.numbers(field.at, field.length) : null;
+  }
+
+  faceAt(x, y) {
+    const {at: first, length} = this.fields.find(each => each.name === "best face");
+    return this.state.number(first, length, x, y);
+  }
+
+  point(pixel) {
+    this.pixel = pixel;
+    this.onPoint(pixel);
+    if (this.isShown) this.showEdges();
+    this.inside();
+  }
+
+  // Both images mark the pixel that is kept in one of them.
+  keep(pixel) {
+    for (const screen of this.screens) if (String(screen.kept) !== String(pixel)) screen.keep(pixel);
+    if (String(this.life.pixel) !== String(pixel)) this.life.show(pixel);
+  }
+
+  // What stands beside the array: the pixel, the tree and the waveform.
+  inside() {
+    const {state} = this;
+    if (!state || at("machine").hidden) return;
+    const pixel = this.pixel && this.pixel[0] < state.width && this.pixel[1] < state.height ? this.pixel : null;
+    const width = at("tree-part").parentElement.clientWidth - GAP;
+    at("tree-part").hidden = !isShown(state);
+    if (isShown(state) && width > 0) at("tree").replaceChildren(treeOf(state, pixel, width));
+    at("pixel-name").textContent = pixel ? `${pixel[0]}, ${pixel[1]}` : "";
+    if (!pixel) {
+      at("pixel").replaceChildren(made("p", "quiet", "Point at a pixel of the array, or click one to keep it."));
+      return at("wave").replaceChildren();
+    }
+    at("pixel").replaceChildren(...pixelOf(state, this.before, this.fields, ...pixel));
+    this.fetchWave(...pixel);
+  }
+
+  // As many clocks as there is room for, up to 24.
+  clocksOfWave() { return Math.max(4, Math.min(CLOCKS_OF_WAVE, Math.floor((at("wave").clientWidth - 70 * unit()) / 14))); }
+
+  async takeWave(x, y) {
+    const {text, state} = this;
+    if (!state || this.stateOf !== text) return;
+    const head = await ask("wave", {x, y, first: Math.max(0, state.clock - this.clocksOfWave()), last: state.clock}, text);
+    if (head.trouble || head.refused || text !== this.text || !this.pixel) return;
+    const view = this.viewNamed(this.view);
+    const alive = this.fields.find(field => field.name === "alive");
+    const bits = view.group === "memory" ? [[`bit ${view.plane}`, view.plane]] : alive ? [["alive", alive.at]] : [];
+    at("wave").replaceChildren(waveform(head, at("wave").clientWidth - GAP, bits));
+    document.body.dataset.wave = `${x} ${y} ${state.clock}`;
+  }
+}
+
+// The part of an image of the array that is the picture.
+function cut(pixels, wide, {width, height}) {
+  const out = new Uint32Array(width * height);
+  for (let y = 0; y < height; y++) out.set(pixels.subarray(y * wide, y * wide + width), y * width);
+  return {width, height, pixels: out};
+}
+
+// Words in which names stand between backticks.
+function worded(text) {
+  const node = (part, number) => number % 2 ? made("b", "solid-name", part) : document.createTextNode(part);
+  return text.split("`").map(node);
+}
+
+// What a microinstruction has the tree do.
+function treeWords(micro) {
+  const [tree, lines] = micro.split(" ");
+  if (tree === "feed") return `the tree takes bits c ${lines[2]}, a ${lines[0]}, b ${lines[1]}`;
+  return tree === "clear" ? "the tree is cleared" : "the tree holds";
+}

@@ -1,0 +1,71 @@
+// What there is to show of a state of the array: its fields, and images of its planes and of numbers made of them.
+import {REGISTERS} from "../library/pxplanes.mjs";
+import {ON, OFF, greys, hue, packed} from "./palette.js";
+
+// How many bits of a plane are 1.
+export function onesOf(state, plane) {
+  let count = 0;
+  for (let at = plane * state.perPlane; at < (plane + 1) * state.perPlane; at++)
+    for (let word = state.words[at]; word; word &= word - 1) count += 1;
+  return count;
+}
+
+// Where the parts of a pixel's memory stand (docs/PASSES.md, "Layout"): names, first bits and lengths.
+export function fieldsOf(layout) {
+  if (!layout) return [];
+  const {depth, fraction, face} = layout, key = depth + fraction + face, found = [];
+  for (const [name, at] of [["best", 0], ["candidate", key]]) {
+    found.push({name: name + " face", at, length: face});
+    if (fraction) found.push({name: name + " fraction", at: at + face, length: fraction});
+    found.push({name: name + " depth", at: at + face + fraction, length: depth});
+  }
+  return [...found, {name: "alive", at: 2 * key, length: 1}, {name: "par", at: 2 * key + 1, length: 1}];
+}
+
+// What there is to show of the array: each has a name, a label, a group, the planes that it is made of, and `fill(state, pixels)`, which
+// gives each place its colour, row by row, as an image holds them; one of bits has its plane. `layout` is null for a listing, and
+// `faces` has the colour of each face of a scene.
+export function viewsOf(layout, bits, faces) {
+  const fields = fieldsOf(layout);
+  const registers = REGISTERS.map((name, number) => bitView(name, name, "registers", bits + number));
+  const memory = Array.from({length: bits}, (_, at) => {
+    const own = fields.find(each => at >= each.at && at < each.at + each.length), single = own?.length === 1;
+    const label = !own ? `bit ${at}` : single ? `bit ${at}: ${own.name}` : `bit ${at}: ${own.name.replace("best", "B").replace("candidate", "T")} ${at - own.at}`;
+    return bitView(single ? own.name : String(at), label, "memory", at, own?.name);
+  });
+  const keys = layout ? [["best", "key B"], ["candidate", "key T"]] : [];
+  return [...registers, ...keys.flatMap(([key, label]) => keyViews(fields, key, label, faces)), ...memory];
+}
+
+function bitView(name, label, group, plane, field = "") {
+  return {name, label, group, plane, planes: [plane, plane + 1], field, fill: (state, pixels) => fillBits(state, plane, pixels)};
+}
+
+const [ONE, ZERO] = [ON, OFF].map(packed);
+
+function fillBits({words, width, height, perRow, perPlane}, plane, pixels) {
+  for (let y = 0, to = 0; y < height; y++) {
+    for (let x = 0; x < width; x += 32) {
+      let word = words[plane * perPlane + y * perRow + (x >> 5)];
+      for (const end = Math.min(to + 32, (y + 1) * width); to < end; to++, word >>>= 1) pixels[to] = word & 1 ? ONE : ZERO;
+    }
+  }
+}
+
+function keyViews(fields, key, label, faces) {
+  const view = (what, field, colour) => {
+    const {at, length} = fields.find(each => each.name === `${key} ${field}`);
+    return {name: `${key} ${what}`, label: `${label} ${what}`, group: "numbers", planes: [at, at + length], field: `${key} ${field}`,
+      fill: (state, pixels) => fillNumbers(state.numbers(at, length), colour, 2 ** length - 1, pixels)};
+  };
+  return [view("colours", "face", () => number => faces[number] ?? OFF), view("depth", "depth", greys), view("face", "face", () => hue)];
+}
+
+function fillNumbers(numbers, colour, far, pixels) {
+  const of = colour(numbers, far), known = new Map();
+  numbers.forEach((number, at) => {
+    let own = known.get(number);
+    if (own === undefined) known.set(number, own = packed(of(number)));
+    pixels[at] = own;
+  });
+}

@@ -1,0 +1,131 @@
+// The wall: every plane of the array at once, each as a small image, and both keys as colours, depths and faces. What the last move
+// changed is framed, and only that is drawn anew.
+import {made, put} from "./show.js";
+
+const CAPTION = 13, LEAST = 33, GAP = 4, COARSE = 64;
+// The groups of planes, each with a heading; a caption below a plane says only what the heading does not.
+const GROUPS = ["", "key B", "key T", "rest"];
+
+export class Wall {
+  // `onChoose` is called with the name of a view, and whether it is to stand beside the one that is shown.
+  constructor(root, onChoose) {
+    Object.assign(this, {root, onChoose, tiles: [], of: null, shown: null, now: 0});
+    root.addEventListener("keydown", event => this.key(event));
+    new ResizeObserver(() => this.fit()).observe(root);
+  }
+
+  // Takes the views of another text: the registers, the keys, and the bits of the memory that it uses.
+  load(views, used) {
+    this.tiles = views.filter(view => view.group !== "memory" || used.has(view.plane)).map(view => this.tile(view));
+    this.order();
+    this.now = 0;
+    this.of = this.shown = null;
+    this.root.replaceChildren(...GROUPS.flatMap((heading, group) => {
+      const own = this.tiles.filter(tile => groupOf(tile.view) === group).map(tile => tile.button);
+      return heading && own.length ? [made("b", "heading", heading), ...own] : own;
+    }));
+    this.focusable(0);
+  }
+
+  // The registers first; then key B and key T, the numbers of each before its bits, the highest bit first; and the bits of no key.
+  order() {
+    const place = ({view}) => groupOf(view) * 1000 + (view.group === "memory" ? 500 - view.plane : 0);
+    this.tiles.sort((one, other) => place(one) - place(other));
+  }
+
+  tile(view) {
+    const canvas = made("canvas"), caption = made("span", "", view.name.split(" ").pop());
+    const button = made("button", "tile " + (view.field ?? "").split(" ")[0], "", canvas, caption);
+    button.title = view.label;
+    button.setAttribute("aria-label", view.label);
+    button.addEventListener("click", event => this.onChoose(view.name, event.shiftKey));
+    button.addEventListener("focus", () => this.focusable(this.tiles.findIndex(tile => tile.view === view)));
+    return {view, canvas, caption, button, isDrawn: false};
+  }
+
+  // Shows a state. `before` is the one that was shown before it, of the same text, or null. Gives how many words were read.
+  show(state, before) {
+    if (this.of !== `${state.width} ${state.height}`) this.size(state);
+    const changed = before ? changedPlanes(before, state) : null;
+    let read = before ? state.words.length : 0;
+    for (const tile of this.tiles) {
+      const {view: {planes: [first, end]}} = tile, isChanged = Boolean(changed) && changed.slice(first, end).includes(1);
+      tile.button.classList.toggle("changed", isChanged);
+      if (isChanged || !before || this.shown !== before || !tile.isDrawn) {
+        this.draw(tile, state);
+        read += (end - first) * state.perPlane;
+      }
+    }
+    this.shown = state;
+    return read;
+  }
+
+  size({width, height}) {
+    this.of = `${width} ${height}`;
+    this.pixels = new Uint32Array(width * height);
+    this.root.classList.toggle("coarse", width <= COARSE);
+    for (const tile of this.tiles) Object.assign(tile.canvas, {width, height});
+    this.fit();
+  }
+
+  draw(tile, state) {
+    tile.view.fill(state, this.pixels);
+    put(tile.canvas, this.pixels);
+    tile.isDrawn = true;
+  }
+
+  // Marks the tiles that are shown large.
+  mark(names) {
+    for (const {view, button} of this.tiles) button.setAttribute("aria-pressed", String(names.includes(view.name)));
+  }
+
+  // As large as all of them have room at once.
+  fit() {
+    const {clientWidth: wide, clientHeight: high} = this.root, count = this.root.children.length;
+    if (!wide || !high || !count || !this.of) return;
+    const [width, height] = this.of.split(" ").map(Number), letters = parseFloat(getComputedStyle(this.root).fontSize) / 16;
+    let columns = 1;
+    const tall = many => Math.ceil(count / many) * ((wide / many - GAP) * height / width + CAPTION * letters + GAP);
+    while (tall(columns) > high && wide / (columns + 1) >= LEAST * letters + GAP) columns += 1;
+    this.columns = columns;
+    this.root.style.setProperty("--columns", columns);
+  }
+
+  focus() { this.tiles[this.now]?.button.focus(); }
+
+  focusable(at) {
+    this.now = at;
+    this.tiles.forEach(({button}, place) => { button.tabIndex = place === at ? 0 : -1; });
+  }
+
+  key(event) {
+    const rows = {ArrowUp: -1, ArrowDown: 1}[event.key], way = {ArrowLeft: -1, ArrowRight: 1, Home: -this.now, End: this.tiles.length - 1 - this.now}[event.key];
+    if (rows === undefined && way === undefined || event.ctrlKey || event.altKey || event.metaKey) return;
+    event.preventDefault();
+    event.stopPropagation();
+    (rows ? this.besideRow(rows) : this.tiles[this.now + way])?.button.focus();
+  }
+
+  // The tile above or below the one that has the focus.
+  besideRow(way) {
+    const {left, top} = this.tiles[this.now].button.getBoundingClientRect();
+    return this.tiles.find(({button}) => {
+      const box = button.getBoundingClientRect();
+      return Math.abs(box.left - left) < 2 && Math.abs(box.top - top - way * (box.height + GAP)) < box.height / 2;
+    });
+  }
+}
+
+function groupOf({group, field = ""}) { return group === "registers" ? 0 : field.startsWith("best") ? 1 : field.startsWith("candidate") ? 2 : 3; }
+
+// Of each plane 1 where a word of it is another one.
+function changedPlanes(before, state) {
+  const {words, perPlane} = state, out = new Uint8Array(Math.ceil(words.length / perPlane));
+  for (let plane = 0; plane < out.length; plane++) {
+    const end = Math.min(words.length, (plane + 1) * perPlane);
+    let at = plane * perPlane;
+    while (at < end && words[at] === before.words[at]) at += 1;
+    out[plane] = Number(at < end);
+  }
+  return out;
+}

@@ -1,0 +1,73 @@
+"""Whether nothing on the page overlaps, is cut or scrolls sideways: each tab, at each size, light and dark, with larger
+letters too.
+
+With PXPLANES_SHOTS=FOLDER a picture of each is written there, to be looked at."""
+import os
+from typing import Iterator
+
+import pytest
+
+import pages
+from browser import Browser
+from pages import called, link, point
+
+SIZES = ((1280, 720), (1366, 768), (1920, 1080), (1024, 768), (768, 1024), (640, 360), (390, 844))
+TABS = ("write", "machine", "compare", "lesson", "exercise", "story")
+HOUSE = os.path.join(os.path.dirname(pages.FIRST), "..", "..", "gallery", "house.scene")
+with open(os.path.join(os.path.dirname(__file__), "layout.js"), encoding="utf-8") as file:
+    FOUND = file.read()
+
+
+def shown(page: Browser, tab: str) -> None:
+    """Shows a tab as it is used: the machine with a pixel that is kept, and an exercise with its answer unfolded."""
+    if tab == "exercise":
+        page.press("4")
+        page.run("document.querySelectorAll('.exercise')[5].click()")
+        page.until("document.querySelector('main').dataset.tab === 'machine' && document.body.dataset.wave")
+        page.run("document.getElementById('exercise-answer').open = true")
+        return
+    if tab == "story":
+        page.run("document.getElementById('exercise-close').click()")
+        page.run("location.hash = '#story-5'")
+        page.until("document.body.dataset.story === '5' && document.body.dataset.wave === '24 16 2283'")
+        return
+    page.press(str(1 + TABS.index(tab)))
+    if tab == "machine":
+        page.until("document.body.dataset.shown === '40000' && document.body.dataset.thumbs?.startsWith('40 of')")
+    if tab == "write":
+        page.run("document.getElementById('picture').scrollIntoView({block: 'nearest'})")
+        point(page, "picture", 60, 60)
+        page.until("document.querySelectorAll('.ray-row').length")
+
+
+def enlarge(page: Browser, button: str, steps: int) -> None:
+    for _ in range(steps):
+        page.run("document.getElementById(%r).click()" % button)
+
+
+@pytest.fixture(scope="module")
+def browser() -> Iterator[Browser]:
+    with Browser() as own:
+        own.call("Emulation.setFocusEmulationEnabled", enabled=True)
+        yield own
+
+
+@pytest.mark.parametrize("letters", [0, 3])
+@pytest.mark.parametrize("dark", [False, True], ids=["light", "dark"])
+@pytest.mark.parametrize("width, height", SIZES)
+def test_nothing_overlaps_or_is_cut(browser: Browser, width: int, height: int, dark: bool, letters: int) -> None:
+    browser.size(width, height, dark)
+    pages.alone(browser, behind=link(HOUSE, "machine", clock=40000, view="best colours", pixel=[48, 74]))
+    browser.run("document.activeElement.blur()")
+    enlarge(browser, "larger", letters)
+    findings = []
+    for tab in TABS:
+        shown(browser, tab)
+        browser.run("new Promise(done => setTimeout(done, 150))")
+        findings += ["%s: %s" % (tab, each) for each in called(browser, FOUND)]
+        if "PXPLANES_SHOTS" in os.environ:
+            name = "%dx%d%s%s-%s.png" % (width, height, "-dark" if dark else "", "-large" if letters else "", tab)
+            browser.screenshot(os.path.join(os.environ["PXPLANES_SHOTS"], name))
+    browser.press("Escape")
+    enlarge(browser, "smaller", letters)
+    assert not findings, "\n".join(["", *findings])

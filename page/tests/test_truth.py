@@ -1,0 +1,223 @@
+"""Whether what the page shows is true at each moment: of the text that stands, of the pixel under the pointer, of what
+was copied and saved."""
+import struct
+from pathlib import Path
+
+import pytest
+
+import pages
+from browser import Browser
+from pages import alone, called, choose, click, go, link, source, text_of, written
+
+DRAWN = "!['no', 'waits'].includes(document.body.dataset.drawn) && document.body.dataset.drawn"
+DROP = """(name, bytes) => {
+  const files = new DataTransfer();
+  files.items.add(new File([Uint8Array.from(bytes)], name));
+  document.dispatchEvent(new DragEvent("drop", {dataTransfer: files, bubbles: true, cancelable: true}));
+}"""
+HOUSE = pages.FIRST.replace("docs/scenes/first.scene", "gallery/house.scene")
+NOTICE = "!document.getElementById('notice').hidden && document.getElementById('notice').textContent"
+
+
+def machine(page: Browser) -> None:
+    page.run("document.activeElement.blur()")
+    page.press("2")
+
+
+def is_pale(page: Browser, part: str) -> bool:
+    return bool(page.run("document.getElementById(%r).classList.contains('old')" % part))
+
+
+def drop(page: Browser, name: str, content: bytes) -> None:
+    page.run("document.body.dataset.drawn = 'waits'")
+    called(page, DROP, name, list(content))
+
+
+def refuse(page: Browser) -> None:
+    choose(page, "- shaft)")
+    assert written(page, "- shafd)") == "refused"
+
+
+def test_a_refused_texts_machine_is_not_shown_as_valid(page: Browser) -> None:
+    refuse(page)
+    machine(page)
+    page.run("new Promise(done => setTimeout(done, 400))")
+    assert is_pale(page, "machine")
+    assert "unknown-name" in text_of(page, "#machine .refusal")
+    assert page.run("document.querySelector('#machine .refusal').checkVisibility()")
+
+
+def test_moves_leave_the_machine_of_a_refused_text_pale(page: Browser) -> None:
+    machine(page)
+    page.until("document.body.dataset.shown === '0'")
+    assert not is_pale(page, "machine")
+    page.press("t")
+    refuse(page)
+    page.run("document.activeElement.blur()")
+    page.press("s")
+    page.until("document.body.dataset.shown === '1'")
+    assert is_pale(page, "machine")
+
+
+@pytest.mark.parametrize("part", ["write", "machine"])
+def test_a_refused_file_is_said_on_each_tab(page: Browser, part: str) -> None:
+    if part == "machine":
+        machine(page)
+        page.until("document.body.dataset.shown")
+    drop(page, "bad.scene", b"pxscen 1\n")
+    page.until("document.body.dataset.drawn === 'refused'")
+    assert "not-header" in text_of(page, "#%s .refusal" % part)
+    assert page.run("document.querySelector('#%s .refusal').checkVisibility()" % part)
+    canvas = {"write": "picture", "machine": "array"}[part]
+    assert not page.run("document.getElementById(%r).checkVisibility({checkVisibilityCSS: true})" % canvas)
+
+
+def test_a_page_that_opens_a_refused_text_says_so(page: Browser, tmp_path: Path) -> None:
+    path = tmp_path / "bad.scene"
+    path.write_text("pxscen 1\n")
+    assert alone(page, behind=link(str(path))) == "refused"
+    assert "not-header" in text_of(page, "#write .refusal")
+    assert not page.run("document.getElementById('picture').checkVisibility({checkVisibilityCSS: true})")
+
+
+@pytest.mark.parametrize("tab, canvas, readout", [("1", "picture", "#readout"), ("2", "array", "#pixel-name")])
+def test_the_pixel_under_the_pointer(page: Browser, tab: str, canvas: str, readout: str) -> None:
+    """Places at both ends of some pixels (a mouse event has whole numbers); the image begins inside the border of its
+    canvas."""
+    page.run("document.activeElement.blur()")
+    page.press(tab)
+    page.until("document.body.dataset.shown" if tab == "2" else "document.body.dataset.drawn === 'yes'")
+    left, top, scale = called(page, "id => { const c = document.getElementById(id), r = c.getBoundingClientRect(); "
+                              "return [r.left + c.clientLeft, r.top + c.clientTop, c.clientWidth / c.width]; }", canvas)
+    assert scale >= 4 and scale == int(scale)
+    for x, y in ((1, 1), (7, 3), (20, 30), (31, 17), (47, 31)):
+        for inset in (1, scale - 0.1):
+            page.point(left + x * scale + inset, top + y * scale + inset)
+            page.until("document.querySelector(%r).textContent.includes('%d, %d')" % (readout, x, y), 2)
+
+
+def test_another_scene_begins_at_its_first_clock(page: Browser) -> None:
+    machine(page)
+    page.until("document.body.dataset.shown")
+    go(page, 1200)
+    drop(page, "other.scene", open(HOUSE, "rb").read())
+    page.until("document.body.dataset.drawn === 'yes' && document.body.dataset.shown === '0'")
+    assert page.run("document.getElementById('clock').value") == "0"
+
+
+def test_an_edited_scene_stays_at_its_clock(page: Browser) -> None:
+    machine(page)
+    page.until("document.body.dataset.shown")
+    go(page, 1200)
+    page.press("t")
+    choose(page, "- shaft)")
+    assert written(page, "+ shaft)") == "yes"
+    page.until("!document.getElementById('machine').classList.contains('old') && document.body.dataset.shown === "
+               "'1200'")
+
+
+def tiff(width: int, height: int) -> bytes:
+    """An uncompressed TIFF of 8 bits a pixel, all 0."""
+    tags = [(256, 3, width), (257, 3, height), (258, 3, 8), (259, 3, 1), (262, 3, 1), (273, 4, 8), (277, 3, 1),
+            (278, 3, height), (279, 4, width * height)]
+    count = struct.pack("<H", len(tags))
+    forms = {3: "<HHIHxx", 4: "<HHII"}
+    entries = b"".join(struct.pack(forms[kind], tag, kind, 1, value) for tag, kind, value in tags)
+    return b"II*\0" + struct.pack("<I", 8 + width * height) + bytes(width * height) + count + entries + bytes(4)
+
+
+def npy(width: int, height: int) -> bytes:
+    head = ("{'descr': '<u2', 'fortran_order': False, 'shape': (%d, %d), }" % (height, width)).ljust(117) + "\n"
+    return b"\x93NUMPY\x01\x00" + struct.pack("<H", len(head)) + head.encode() + bytes(2 * width * height)
+
+
+@pytest.mark.parametrize("name, content", [("depth.tif", tiff(48, 32)), ("depth.npy", npy(48, 32))])
+def test_maps_of_every_form_are_dropped_on_compare(page: Browser, name: str, content: bytes) -> None:
+    page.run("delete document.body.dataset.compared")
+    drop(page, name, content)
+    said = page.until("document.body.dataset.compared")
+    assert "of 1536 pixels differ" in said
+    assert page.run("document.querySelector('main').dataset.tab") == "compare"
+
+
+@pytest.mark.parametrize("clipboard", ["undefined", "{writeText: () => Promise.reject(new DOMException('no', "
+                                                    "'NotAllowedError'))}"])
+def test_a_link_that_was_not_copied_is_shown(page: Browser, clipboard: str) -> None:
+    page.run("Object.defineProperty(navigator, 'clipboard', {value: %s, configurable: true})" % clipboard)
+    click(page, "[data-take=link]")
+    page.until("document.getElementById('copy').open")
+    assert page.run("document.getElementById('copy-link').value") == page.run("document.body.dataset.link")
+    assert not page.run(NOTICE)
+
+
+def test_success_does_not_look_like_trouble(page: Browser) -> None:
+    page.run("Object.defineProperty(navigator, 'clipboard', {value: {writeText: async () => {}}, configurable: true})")
+    click(page, "[data-take=link]")
+    assert page.until(NOTICE) == "The link is copied."
+    look = "[document.getElementById('notice').className, document.getElementById('notice').role]"
+    assert page.run(look) == ["", "status"]
+    page.run("document.getElementById('notice').hidden = true")
+    drop(page, "box.csg", b"cube(10);")
+    assert "models" in page.until(NOTICE)
+    assert page.run(look) == ["bad", "alert"]
+
+
+def test_an_operations_clocks_are_counted_from_0(page: Browser) -> None:
+    """As docs/LESSON.md and the debugger count them: `at NOW of TOTAL macro M micro I`."""
+    machine(page)
+    page.until("document.body.dataset.shown")
+    assert "operation 0 (of 0 to 185), next its clock 0 " in text_of(page, "#line")
+    go(page, 1)
+    assert "operation 1 (of 0 to 185), next its clock 0 " in text_of(page, "#line")
+
+
+@pytest.mark.parametrize("more, said", [
+    ({"image": "xrays"}, 'image "xrays"'), ({"clock": "soon", "tab": "machine"}, 'clock "soon"'),
+    ({"clock": 99999, "tab": "machine"}, "There is no clock 99999"), ({"tab": "moon"}, 'tab "moon"'),
+    ({"pixel": [900, 2]}, "There is no pixel 900, 2"), ({"pixel": "x"}, 'pixel "x"'),
+    ({"view": "xrays", "tab": "machine"}, "xrays"), ({"text": "pxscene 1", "surprise": 1}, "surprise 1")])
+def test_what_a_link_says_wrongly_is_named(page: Browser, more: dict[str, object], said: str) -> None:
+    page.open("about:blank")
+    tab = str(more.pop("tab", "write"))
+    page.open("file://" + pages.PAGE + link(pages.FIRST, tab, **more))
+    assert said in page.until("document.getElementById('notice') && " + NOTICE)
+    page.until(DRAWN)
+
+
+@pytest.mark.parametrize("behind", ["#eJyrVkrOSS0", "#s=nothing", "#e=99"])
+def test_a_damaged_link_is_named(page: Browser, behind: str) -> None:
+    page.open("about:blank")
+    page.open("file://" + pages.PAGE + behind)
+    assert "wrong" in (said := page.until("document.getElementById('notice') && " + NOTICE)) or "damaged" in said
+    assert page.until(DRAWN) == "yes"
+
+
+def test_a_readable_link(page: Browser) -> None:
+    page.open("about:blank")
+    page.open("file://" + pages.PAGE + "#s=house&c=40000&v=enable&p=20,20")
+    page.until("document.body.dataset.shown === '40000'")
+    assert page.run("document.getElementById('view').value") == "enable"
+    assert text_of(page, "#pixel-name") == "20, 20"
+
+
+def test_a_film_does_not_take_the_pictures_name(page: Browser) -> None:
+    page.run("(globalThis.taken = [], HTMLAnchorElement.prototype.click = function () { taken.push(this.download); })")
+    click(page, "[data-take=png]")
+    page.until("taken.length === 1")
+    machine(page)
+    page.until("document.body.dataset.shown")
+    click(page, "[data-take=film]")
+    page.until("document.getElementById('film').open")
+    page.run("(document.getElementById('film-first').value = 0, document.getElementById('film-last').value = 2, "
+             "document.getElementById('film-pace').value = 'clock', document.getElementById('film-webm').click())")
+    page.until("taken.length === 2")
+    assert page.run("taken") == ["first.png", "first-film.webm"]
+
+
+def test_a_cure_is_an_action(page: Browser, first: str) -> None:
+    refuse(page)
+    assert text_of(page, ".cure button") == "Write shaft"
+    page.run("document.body.dataset.drawn = 'waits'")
+    click(page, ".cure button")
+    assert page.until(DRAWN) == "yes"
+    assert source(page) == first

@@ -1,0 +1,191 @@
+"""Turns a model into a scene, or a scene into another program's language.
+
+A model is OpenSCAD's .csg or .scad (which OpenSCAD itself reads first), or a mesh: OFF, STL, OBJ, PLY or 3MF, in which each
+closed part is a solid; what is not convex becomes several solids. A scene becomes a text for POV-Ray (pov), OpenSCAD (scad), a
+mesh of each solid (obj), or JSON. Standard error says by how many cells the worst plane was rounded, what is cut off, and what
+a form has no words for. docs/MODELLING.md explains each step."""
+from __future__ import annotations
+
+import argparse
+import importlib.util
+import os
+import signal
+import sys
+from typing import Any, Callable
+
+from pxplanes import ends, program
+from pxplanes.cli import frame
+from pxplanes.errors import Trouble
+from pxplanes.explain import list_cures
+from pxplanes.mesh import cameras, exports, joining, mesh_files, modelling
+from pxplanes.scene import limits, scenes
+
+HELP = "turn a model into a scene, or a scene into POV-Ray, OpenSCAD, OBJ or JSON"
+# The limit is in seconds of processor, so that a busy machine refuses nothing; ten times as many by the clock end what waits.
+TIMERS = ((signal.ITIMER_PROF, signal.SIGPROF, 1), (signal.ITIMER_REAL, signal.SIGALRM, 10))
+
+
+def numbers(*counts: int) -> Callable[[str], list[float]]:
+    """A type for an option: numbers with commas between them, one of these counts of them."""
+    def read(word: str) -> list[float]:
+        try:
+            found: list[float] = mesh_files.floats(word.split(","), "it")
+        except Trouble as trouble:
+            raise argparse.ArgumentTypeError(str(trouble)) from None
+        if len(found) not in counts:
+            raise argparse.ArgumentTypeError("%s numbers with commas between them are expected" % " or ".join(map(str, counts)))
+        return found
+
+    return read
+
+
+def positive(word: str) -> float:
+    """A type for an option: a number above 0."""
+    try:
+        found: float = mesh_files.floats([word], "it")[0]
+    except Trouble as trouble:
+        raise argparse.ArgumentTypeError(str(trouble)) from None
+    if found <= 0:
+        raise argparse.ArgumentTypeError("a number above 0 is expected, not %s" % word)
+    return found
+
+
+def add_options(parser: argparse.ArgumentParser) -> None:
+    usual = modelling.Choices()
+    parser.add_argument("file", metavar="IN", help="a model or a scene; - is standard input")
+    parser.add_argument("-o", "--out", metavar="OUT", help="the file to write; its ending says the form (default: standard output)")
+    parser.add_argument("--to", choices=("scene", *exports.FORMS), help="the form of what is written, if OUT does not say it")
+    parser.add_argument("--kind", choices=modelling.KINDS, help="what IN is, if its name does not say it")
+    size = frame.whole_number(1, 512)
+    parser.add_argument("--size", nargs=2, metavar=("W", "H"), type=size, default=usual.size, help="the picture in pixels")
+    parser.add_argument("--depth", nargs=2, metavar=("W", "F"), type=frame.whole_number(0, 24), help="the bits of a depth, and its "
+                        "fraction bits (default: 12 8; in perspective as many as the picture needs)")
+    parser.add_argument("--view", nargs=3, metavar=("RX", "RY", "RZ"), type=float, default=usual.view,
+                        help="turn the model as OpenSCAD's $vpr does, in degrees")
+    parser.add_argument("--camera", metavar="NUMBERS", type=numbers(6, 7), help="as OpenSCAD's --camera, so that pictures may be laid "
+                        "over one another: X,Y,Z,RX,RY,RZ,DISTANCE, or the X,Y,Z of the eye and of the centre")
+    parser.add_argument("--projection", choices=sorted(modelling.PROJECTIONS), help="parallel (o), or in perspective (p) (default: o)")
+    parser.add_argument("--eye", metavar="X,Y,Z", type=numbers(3), help="in perspective, from this point; with --at")
+    parser.add_argument("--at", metavar="X,Y,Z", type=numbers(3), help="in perspective, to this point; with --eye")
+    parser.add_argument("--fov", metavar="DEGREES", type=positive, help="the height of the picture in perspective (default: 22.5)")
+    parser.add_argument("--near", metavar="D", type=positive, help="the nearest distance along the axis (default: what the model reaches)")
+    parser.add_argument("--far", metavar="D", type=positive, help="the farthest one")
+    parser.add_argument("--scale", metavar="S", type=positive, help="pixels to a unit of the model (default: it fills the picture)")
+    parser.add_argument("--flat", action="store_true", help="each face has its solid's colour, and not one by the way it looks")
+    parser.add_argument("--seconds", metavar="N", type=positive, default=60, help="refuse a model that needs more seconds of processor")
+    parser.add_argument("--split", action="store_true", help="write as many scenes as the model needs, OUT-1.scene and on; the nearer "
+                        "of their depths is the picture")
+    parser.add_argument("--draw", metavar="MAPS", help="draw the model, by one scene or by columns, and write its depths and faces; with "
+                        "--split draw these scenes, and write what they have together")
+    parser.add_argument("--solids", metavar="N", type=frame.whole_number(1, 255), default=255, help="with --split: the most solids of "
+                        "one scene")
+
+
+def run(options: argparse.Namespace) -> int:
+    form = options.to or os.path.splitext(options.out or "")[1][1:].lower() or None
+    text = b"" if options.kind else scene_in(options.file)
+    if text:
+        return exported(text, form, options)
+    if form not in (None, "scene"):
+        raise Trouble("a model becomes a scene, and not .%s: convert the scene then" % form)
+    return modelled(options)
+
+
+def scene_in(path: str) -> bytes:
+    """The text of a file, if its first word is that of a scene's header; otherwise nothing."""
+    if path != "-" and os.path.splitext(path)[1][1:].lower() in modelling.KINDS:
+        return b""
+    text: bytes = ends.content(path)
+    first = next((words[0] for words in map(list_cures.words_of, text.split(b"\n")) if words), None)
+    if first != "pxscene" and path == "-":
+        raise Trouble("a model from standard input needs --kind")
+    return text if first == "pxscene" else b""
+
+
+def exported(text: bytes, form: Any, options: argparse.Namespace) -> int:
+    """Writes a scene in another program's language."""
+    if form not in exports.FORMS:
+        raise Trouble("a scene becomes one of %s: name it by --to, or by the ending of -o" % ", ".join(exports.FORMS))
+    try:
+        scene = scenes.read(text)
+    except scenes.Refusal as refusal:
+        raise Trouble("%s: %s" % (options.file, refusal.note)) from None
+    written, lacks = exports.FORMS[form](scene, cameras.of_scene(text, scene))
+    if written is None:
+        raise Trouble("%s has no words for %s" % (form, lacks[0]))
+    if lacks:
+        ends.say("pxplanes convert", "%s does not say %s" % (form, "; ".join(lacks)))
+    write(options.out, written.encode())
+    return frame.SUCCESS
+
+
+def choices_of(options: argparse.Namespace) -> modelling.Choices:
+    """How the options say that a model becomes a scene."""
+    return modelling.Choices(**{name: getattr(options, name) for name in (
+        "view", "size", "depth", "scale", "camera", "projection", "eye", "at", "fov", "near", "far", "flat", "kind", "solids")})
+
+
+def modelled(options: argparse.Namespace) -> int:
+    """Writes the scene of a model, or several."""
+    choices = choices_of(options)
+    bound(options.seconds)
+    if options.split or options.draw:
+        if options.split and not options.out:
+            raise Trouble("--split needs -o, the name of the scenes")
+        whole = modelling.read(options.file, choices)
+        is_asked = options.split or options.solids != limits.MAX_SOLIDS or not columns_are_there()
+        if not is_asked and not modelling.is_one_scene(whole, choices):
+            drawing = modelling.by_columns(whole, choices)
+            unbound()
+            write(options.draw, drawing.maps())
+            return frame.SUCCESS
+        texts, facts = modelling.made_several(whole, choices)
+        unbound()
+        leave(texts, facts[0], options)
+    else:
+        text, facts = modelling.made(options.file, choices)
+        unbound()
+        write(options.out, text.encode())
+    modelling.tell(*facts)
+    return frame.SUCCESS
+
+
+def columns_are_there() -> bool:
+    """Whether this Python has NumPy, which columns need."""
+    return importlib.util.find_spec("numpy") is not None
+
+
+def bound(seconds: float) -> None:
+    """Has the work end with `Trouble` when its seconds are over, wherever it is."""
+    def over(*_: object) -> None:
+        raise Trouble("it takes more than %g seconds; --seconds allows more, and fewer facets take less" % seconds)
+
+    for kind, at, times in TIMERS:
+        signal.signal(at, over)
+        signal.setitimer(kind, times * seconds)
+
+
+def unbound() -> None:
+    for kind, _, _ in TIMERS:
+        signal.setitimer(kind, 0)
+
+
+def write(path: Any, content: bytes) -> None:
+    """Writes a file, or to standard output."""
+    if path in (None, "-"):
+        sys.stdout.buffer.write(content)
+        return
+    with open(path, "wb") as file:
+        file.write(content)
+
+
+def leave(texts: list[str], shown: list[Any], options: argparse.Namespace) -> None:
+    """Writes the scenes, and the maps that they have together, as the options say."""
+    stem = os.path.splitext(options.out or "scene")[0]
+    for number, (text, scene) in enumerate(zip(texts, shown), 1):
+        name = "%s-%d.scene" % (stem, number)
+        if options.split:
+            write(name, text.encode())
+        ends.say("pxplanes convert", "%s: %d solids, %d faces" % (name, len(scene.solids), len(scene.faces())))
+    if options.draw:
+        write(options.draw, joining.drawn(texts, shown, program.needed(None)))

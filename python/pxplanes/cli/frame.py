@@ -1,0 +1,196 @@
+"""Runs the words of the command `pxplanes`: their options, their help, and how they end.
+
+A module of this folder that is a word has three things: HELP, one line for the list of words; `add_options`, which gives a
+parser its options; and `run`, which does the work and returns the exit status: 0 for success, 1 for "differs" or "refused",
+and it raises `Trouble` or `OSError` for anything else, which ends with 2."""
+from __future__ import annotations
+
+import argparse
+import difflib
+import errno
+import importlib
+import importlib.util
+import os
+import re
+import shutil
+import subprocess
+import sys
+from typing import IO, Any, NoReturn, Optional, Protocol, Sequence
+
+from pxplanes import errors, program, running
+from pxplanes.errors import Trouble
+
+WORDS = ("view", "explain", "trace", "convert", "compare", "suite", "batch")
+PROGRAM_WORDS = ("render", "colour", "tidy", "plan", "cost", "debug", "sample", "shadow", "tile", "refine", "list", "play")
+# The words whose work is on pixels, which NumPy does.
+OF_PIXELS = ("compare", "suite")
+DEBIAN_PYTHON = "/usr/bin/python3"
+SUCCESS, DIFFERS, TROUBLE, INTERRUPTED = 0, 1, 2, 130
+DESCRIPTION = """Draws scenes of convex solids on Pixel-Planes 4, the graphics machine whose frame buffer computes.
+
+The program's own words read a scene and write what docs/SCENES.md says:
+  %s""" % ", ".join(PROGRAM_WORDS)
+
+
+class Word(Protocol):
+    """A module of this folder that is a word."""
+
+    HELP: str
+
+    def add_options(self, parser: argparse.ArgumentParser) -> None:
+        """Gives the word's parser its options."""
+
+    def run(self, options: argparse.Namespace) -> int:
+        """Does the work, and returns the exit status."""
+
+
+class Parser(argparse.ArgumentParser):
+    """A parser whose messages are one line, with the option that may have been meant."""
+
+    def error(self, message: str) -> NoReturn:
+        unknown = re.match(r"unrecognized arguments: (--\S+)", message)
+        known = [option for action in self._actions for option in action.option_strings]
+        near = difflib.get_close_matches(unknown.group(1).split("=")[0], known, 1, 0.75) if unknown else []
+        raise Trouble("%s%s; `%s --help` lists the options" % (message, " (did you mean %s?)" % near[0] if near else "", self.prog))
+
+
+    def _print_message(self, message: str, file: Optional[IO[str]] = None) -> None:
+        """Writes a message; a disk that is full is no silence."""
+        if message:
+            (file or sys.stderr).write(message)
+
+
+class Help(argparse.ArgumentDefaultsHelpFormatter, argparse.RawDescriptionHelpFormatter):
+    """Help with the default of each option that has one."""
+
+    def _get_help_string(self, action: argparse.Action) -> Optional[str]:
+        return action.help if action.default in (None, False, []) else super()._get_help_string(action)
+
+
+def word(name: str) -> Word:
+    """The module of a word."""
+    module: Any = importlib.import_module("pxplanes.cli." + name)
+    found: Word = module
+    return found
+
+
+def parser_of(name: str) -> argparse.ArgumentParser:
+    """The parser of one word."""
+    module = word(name)
+    parser = Parser(prog="pxplanes " + name, description=module.__doc__, formatter_class=Help, allow_abbrev=False)
+    module.add_options(parser)
+    return parser
+
+
+def whole_parser() -> argparse.ArgumentParser:
+    """The parser of all words, which the list of words and completion are made of."""
+    parser = Parser(prog="pxplanes", description=DESCRIPTION, formatter_class=Help, allow_abbrev=False,
+                    epilog="`pxplanes WORD --help` says what a word does, and lists its options.")
+    words = parser.add_subparsers(metavar="WORD", dest="word", title="words")
+    for name in WORDS:
+        module = word(name)
+        module.add_options(words.add_parser(name, help=module.HELP, description=module.__doc__, formatter_class=Help,
+                                            allow_abbrev=False))
+    return parser
+
+
+def whole_number(least: int, most: int) -> type[int]:
+    """A type for an option: whole numbers from `least` to `most`."""
+    def number(text: str) -> int:
+        if not re.fullmatch(r"-?\d{1,12}", text) or not least <= int(text) <= most:
+            raise argparse.ArgumentTypeError("a whole number from %d to %d is expected, not %s" % (least, most, text))
+        return int(text)
+
+    return number  # type: ignore[return-value]
+
+
+def run_program(words: Sequence[str]) -> int:
+    """Runs a word of the program itself: by the program that is built, or, where there is none, by the library."""
+    built = program.find(None)
+    if built is not None:
+        return subprocess.run([built, *words]).returncode
+    try:
+        sys.stdout.buffer.write(running.run(sys.stdin.buffer.read(), " ".join(words) or "render"))
+        return SUCCESS
+    except errors.Refused as refusal:
+        sys.stderr.write(refusal.said)
+        return refusal.status
+
+
+def need_numpy(words: Sequence[str]) -> None:
+    """Goes on in Debian's Python if that one has NumPy, and this one does not."""
+    if importlib.util.find_spec("numpy") is not None:
+        return
+    if os.path.realpath(sys.executable) != os.path.realpath(DEBIAN_PYTHON) and shutil.which(DEBIAN_PYTHON) and subprocess.run(
+            [DEBIAN_PYTHON, "-c", "import numpy"], capture_output=True).returncode == 0:
+        os.execv(DEBIAN_PYTHON, [DEBIAN_PYTHON, "-m", "pxplanes", *words])
+    raise Trouble("%s needs NumPy: install Debian's python3-numpy, or `pip install numpy`" % words[0])
+
+
+def complete(parser: argparse.ArgumentParser) -> None:
+    """Answers the shell's question for completions, if it asks and argcomplete is installed."""
+    if "_ARGCOMPLETE" in os.environ and importlib.util.find_spec("argcomplete"):
+        importlib.import_module("argcomplete").autocomplete(parser)
+
+
+def glued(words: Sequence[str]) -> list[str]:
+    """The words with numbers such as -1,2,3 joined to the option before them, so that they are no option themselves."""
+    out: list[str] = []
+    for each in words:
+        is_number = re.match(r"-[.\d].*,", each) and out and out[-1].startswith("--") and "=" not in out[-1]
+        out[-1:] = [out[-1] + "=" + each] if is_number else [*out[-1:], each]
+    return out
+
+
+def parsed(parser: argparse.ArgumentParser, words: list[str]) -> argparse.Namespace:
+    """What the words say; the help, if it is asked, is written out before the parser ends the process."""
+    try:
+        return parser.parse_args(words)
+    except SystemExit:
+        sys.stdout.flush()
+        raise
+
+
+def answered(words: list[str]) -> int:
+    """The exit status of some words."""
+    if sys.stdout is None:
+        raise Trouble("standard output is closed")
+    if "_ARGCOMPLETE" in os.environ:
+        complete(whole_parser())
+    if not words or words[0] in PROGRAM_WORDS:
+        return run_program(words)
+    if words[0] not in WORDS:
+        parsed(whole_parser(), words)
+        raise Trouble("%s is no word; `pxplanes --help` lists them" % words[0])
+    if words[0] in OF_PIXELS and "-h" not in words and "--help" not in words:
+        need_numpy(words)
+    status = word(words[0]).run(parsed(parser_of(words[0]), glued(words[1:])))
+    sys.stdout.flush()
+    return status
+
+
+def drop_output() -> None:
+    """What could not be written is not tried again at the end of the process."""
+    os.dup2(os.open(os.devnull, os.O_WRONLY), 1)
+
+
+def main(words: Optional[list[str]] = None) -> int:
+    """Runs the command line; trouble is one line on standard error and status 2, and never a traceback."""
+    words = sys.argv[1:] if words is None else words
+    name = "pxplanes" + (" " + words[0] if words and words[0] in WORDS else "")
+    try:
+        return answered(words)
+    except (Trouble, errors.NoLibrary) as trouble:
+        print("%s: %s" % (name, trouble), file=sys.stderr)
+    except BrokenPipeError:
+        drop_output()
+    except OSError as error:
+        if error.errno == errno.ENOSPC:
+            drop_output()
+        place = "" if error.filename is None else "%s: " % os.fsdecode(error.filename)
+        print("%s: %s%s" % (name, place, error.strerror or error), file=sys.stderr)
+    except SystemExit as ended:
+        return int(ended.code or SUCCESS)
+    except KeyboardInterrupt:
+        return INTERRUPTED
+    return TROUBLE

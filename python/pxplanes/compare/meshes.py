@@ -1,0 +1,77 @@
+"""Compares what a modelling kernel made with the expression that it was made of.
+
+The expression is a model (.csg, .scad or a mesh) or a scene; the result is a mesh in the same axes; of a scene in those of
+`pxplanes convert`. The program draws the expression from several sides, whole and through cuts across the axis; rays pass through
+the mesh at each pixel. What is smaller than a pixel of every picture is not seen."""
+import os
+
+from pxplanes import ends, program
+from pxplanes.errors import Trouble
+from pxplanes.mesh import mesh_files, modelling, verifying
+from pxplanes.mesh.verifying import ALIKE, MISSING, ROUNDING, TOO_MUCH
+
+MOST_SIDES, MOST_CUTS, COUNTS = 100, 100, (ALIKE, ROUNDING, MISSING, TOO_MUCH)
+LEAST_SIDE, MOST_SIDE = 8, 512
+
+
+def kind_of(path):
+    return os.path.splitext(path)[1][1:].lower()
+
+
+def mesh_of(path):
+    if kind_of(path) not in mesh_files.READERS:
+        raise Trouble("%s is no mesh: .off, .stl, .obj, .ply and .3mf are read" % path)
+    return verifying.Mesh(*mesh_files.READERS[kind_of(path)](ends.content(path)))
+
+
+def sides_of(path, mesh, count, size):
+    """The sides of an expression: of a scene its picture, of a model so many."""
+    if kind_of(path) == "scene":
+        return verifying.of_scene(ends.content(path), mesh)
+    if kind_of(path) not in modelling.KINDS:
+        raise Trouble("%s is no scene and no model: .scene, .csg, .scad and meshes are read" % path)
+    tree = modelling.tree_of(path, kind_of(path))
+    if tree is None:
+        raise Trouble("the model has no solid")
+    return verifying.of_tree(tree, mesh, count, size)
+
+
+def row_of(found, counts):
+    return "%-10s %5s  %s" % (found.side.name, found.cut or "-", " ".join("%8d" % counts[word] for word in COUNTS))
+
+
+def told(found):
+    """The first pixel of a picture that is wrong."""
+    at = next(at for at, word in enumerate(found.words) if word in (MISSING, TOO_MUCH))
+    width, far = found.side.scene.width, found.side.scene.far()
+    ours, theirs = ("nothing" if depth >= far else "depth %d" % depth for depth in (found.ours[at], found.theirs[at]))
+    return "%s at x %d, y %d of side %s%s: ours %s, theirs %s" % (
+        found.words[at], at % width, at // width, found.side.name, " cut at %d" % found.cut if found.cut else "", ours, theirs)
+
+
+def is_mesh(path):
+    """Whether a file is a mesh, by its name."""
+    return kind_of(path) in mesh_files.READERS
+
+
+def report(expression, result, sides=verifying.SIDES, cuts=verifying.CUTS, size=verifying.SIZE, out=None):
+    """Prints a row for each picture and the verdict: right, within rounding, or wrong with the first such pixel; the exit status.
+
+    A model is drawn from so many sides, 1 to 100, and so many cuts from each, 0 to 100, in pictures of `size` pixels, 8 to 512 a
+    side. A PNG of each picture with something wrong goes into the folder `out`: ours, theirs, and where the result misses
+    something (red) or has too much (blue)."""
+    draw, mesh = verifying.drawer(program.needed(None)), mesh_of(result)
+    whole, first = dict.fromkeys(COUNTS, 0), None
+    print("%-10s %5s  %s" % ("side", "cut", " ".join("%8s" % word for word in COUNTS)))
+    for found in verifying.seen(sides_of(expression, mesh, sides, size), cuts, draw):
+        counts = {word: found.words.count(word) for word in COUNTS}
+        print(row_of(found, counts))
+        whole = {word: whole[word] + counts[word] for word in COUNTS}
+        if verifying.verdict(counts) == "wrong":
+            first = first or told(found)
+            if out:
+                verifying.leave(out, found)
+    for note in mesh.notes():
+        print("the mesh: " + note)
+    print("%s%s" % (verifying.verdict(whole), ": " + first if first else ""))
+    return 1 if first else 0

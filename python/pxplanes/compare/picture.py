@@ -1,0 +1,234 @@
+"""What a scene shows at any pixels, by docs/PICTURE.md, in NumPy: half-spaces, the ends of the solids on each ray, and
+membership by the expression. All in whole numbers of 64 bits. Each way to misread a scene is a field of `Reading`."""
+from __future__ import annotations
+
+from dataclasses import dataclass, field, replace
+from typing import Any, Callable
+
+import numpy as np
+from numpy.typing import NDArray
+
+from pxplanes.errors import Trouble
+from pxplanes.scene import scenes
+
+Whole = NDArray[np.int64]
+Reals = NDArray[np.float64]
+Bools = NDArray[np.bool_]
+Plane = tuple[int, int, int]
+Row = tuple[Plane, int]               # a plane, and its face number; that of a side is 0
+Node = int | str                      # the index of a solid, or a sign, in postorder
+NONE, BEFORE = 1 << 20, -(1 << 50)    # no face; before all depths
+KINDS = ("front", "back", "side")
+read_text: Callable[[bytes], Any] = scenes.read
+pixel_memory: Callable[[Any], None] = scenes.pixel_memory
+
+
+@dataclass(frozen=True)
+class Solid:
+    near: int
+    fronts: list[Row] = field(default_factory=list)
+    backs: list[Row] = field(default_factory=list)
+    sides: list[Row] = field(default_factory=list)
+
+    def rows(self, kind: str) -> list[Row]:
+        found: list[Row] = getattr(self, kind + "s")
+        return found
+
+
+@dataclass(frozen=True)
+class Scene:
+    """A scene as numbers alone; `name` is for messages."""
+
+    name: str
+    width: int
+    height: int
+    bits: int
+    fraction: int
+    solids: list[Solid]
+    show: list[Node]
+
+    @property
+    def far(self) -> int:
+        return (1 << self.bits) - 1
+
+    def planes(self, change: Callable[[Plane, str], Plane]) -> Scene:
+        """The scene with each plane changed."""
+        def changed(solid: Solid) -> Solid:
+            return Solid(solid.near, *([(change(plane, kind), number) for plane, number in solid.rows(kind)] for kind in KINDS))
+        return replace(self, solids=[changed(solid) for solid in self.solids])
+
+
+@dataclass(frozen=True)
+class Reading:
+    """How a scene is read; the values here are right. Samples are `dx / grid` and `dy / grid` of a pixel aside."""
+
+    dx: int = 0
+    dy: int = 0
+    grid: int = 1
+    real: bool = False           # depths in parts of a cell, and no cells
+    rounds: str = "up"           # a value to its cell: up, down, half_up, half_down, half_even
+    strict_sides: bool = False
+    open_fronts: bool = False
+    closed_backs: bool = False
+    near: bool = True            # solids begin at the eye
+    far: int = 0                 # how far the far limit is from the right one
+    backs: bool = True           # the backs of what is cut away can show
+    highest: bool = False        # the highest face in a tie
+    single: str = ""             # planes in float32, in this order of terms: abc, cab
+
+
+RIGHT, REAL = Reading(), Reading(real=True)
+
+
+@dataclass(frozen=True)
+class Picture:
+    """Depths are whole cells, or, if read as real, parts of cells; faces are 0 in the background. One of each for each
+    pixel asked."""
+
+    depths: Reals
+    faces: Whole
+
+
+def of_text(text: bytes, name: str) -> tuple[Scene, Any]:
+    """The scene of a text as numbers, and with its names and lines. Raises `Trouble`, with the line, if the text is
+    refused."""
+    try:
+        found = read_text(text)
+        pixel_memory(found)
+    except scenes.Refusal as refusal:
+        raise Trouble("%s: %s" % (name, refusal.note)) from None
+    return of_scene(found, name), found
+
+
+def of_scene(scene: Any, name: str) -> Scene:
+    def rows(faces: Any) -> list[Row]:
+        return [(face.plane, face.number or 0) for face in faces]
+    return Scene(name, scene.width, scene.height, scene.depth_bits, scene.fraction_bits,
+                 [Solid(solid.near, rows(solid.fronts), rows(solid.backs), rows(solid.sides)) for solid in scene.solids], list(scene.show))
+
+
+def grid(scene: Scene) -> tuple[Whole, Whole]:
+    """The columns and the rows of all pixels, row by row from the top."""
+    y, x = np.indices((scene.height, scene.width), np.int64)
+    return x.ravel(), y.ravel()
+
+
+def values(plane: Plane, x: Whole, y: Whole, how: Reading) -> Whole:
+    """A plane's value at each sample, in parts of 1 / grid."""
+    x, y = x * how.grid + how.dx, y * how.grid + how.dy
+    a, b, c = plane
+    if how.single:
+        f = np.float32
+        ax, by, fc = f(a) * x.astype(f), f(b) * y.astype(f), f(c * how.grid)
+        single: Whole = np.ceil((ax + by) + fc if how.single == "abc" else (fc + ax) + by).astype(np.int64)
+        return single
+    found: Whole = a * x + b * y + c * how.grid
+    return found
+
+
+def cells(value: Whole, unit: int, rounds: str) -> Whole:
+    """The cell of a value of so many parts."""
+    if rounds == "up":
+        return -(-value // unit)
+    if rounds == "down":
+        return value // unit
+    if rounds == "half_up":
+        return (2 * value + unit) // (2 * unit)
+    if rounds == "half_down":
+        return -((unit - 2 * value) // (2 * unit))
+    down, twice = value // unit, 2 * (value % unit)
+    found: Whole = down + ((twice > unit) | ((twice == unit) & (down % 2 == 1)))
+    return found
+
+
+@dataclass(frozen=True)
+class Ends:
+    """Of each solid at each pixel, in rows by solids: its first cell, the one past its last, and the faces there."""
+
+    first: Whole
+    end: Whole
+    front: Whole
+    back: Whole
+    has: Bools
+
+
+def bound(rows: list[Row], start: Whole, face: Whole, way: int, highest: bool, at: Callable[[Plane], Whole]) -> tuple[Whole, Whole]:
+    """The greatest (way 1) or the least (way -1) of the planes' values and the start, and its face: in a tie the least
+    number."""
+    for plane, number in rows:
+        value = at(plane)
+        number = NONE - number if highest else number
+        face = np.where(way * value > way * start, number, np.where(value == start, np.minimum(face, number), face))
+        start = np.maximum(start, value) if way > 0 else np.minimum(start, value)
+    return start, face
+
+
+def ends(scene: Scene, how: Reading, x: Whole, y: Whole) -> Ends:
+    unit, count = how.grid << scene.fraction, x.shape
+    step = 1 if how.real else unit
+    limit = (scene.far + how.far) * unit
+    found = []
+    for solid in scene.solids:
+        def at(plane: Plane) -> Whole:
+            return values(plane, x, y, how)
+        near = NONE - solid.near if how.highest else solid.near
+        front, face = bound(solid.fronts, np.full(count, 0 if how.near else BEFORE), np.full(count, near), 1, how.highest, at)
+        back, other = bound(solid.backs, np.full(count, limit), np.full(count, NONE), -1, how.highest, at)
+        first = front // step + 1 if how.open_fronts else cells(front, step, how.rounds)
+        end = np.minimum(back // step + 1, limit // step) if how.closed_backs else cells(back, step, how.rounds)
+        has = first < end
+        for plane, _ in solid.sides:
+            has &= at(plane) >= (1 if how.strict_sides else 0)
+        found.append((first, end, face, other, has))
+    return Ends(*(np.stack(each) for each in zip(*found)))
+
+
+def shows(sign: str, member: Bools, left: Bools, right: Bools) -> tuple[Bools, Bools]:
+    """Whether the faces of each side show, or are hidden, by docs/PICTURE.md."""
+    if sign == "+":
+        return left | ~member, right | ~member
+    if sign == "*":
+        return member | ~left, member | ~right
+    if sign == "-":
+        return member | ~left, member | right
+    return np.ones_like(member), np.ones_like(member)
+
+
+def joined(sign: str, left: Bools, right: Bools) -> Bools:
+    return left | right if sign == "+" else left & right if sign == "*" else left & ~right if sign == "-" else left ^ right
+
+
+def fold(show: list[Node], found: Ends, z: Whole, with_faces: bool) -> tuple[Bools, Whole]:
+    """Which of the cells are members, and the least face that shows there."""
+    stack: list[tuple[Bools, Whole]] = []
+    for node in show:
+        if isinstance(node, int):
+            first, end = found.first[node], found.end[node]
+            inside = found.has[node] & (first <= z) & (z < end)
+            face = np.full(1, NONE)
+            if with_faces:
+                face = np.where(inside & (first == z), found.front[node],
+                                np.where(~inside & found.has[node] & (end == z), found.back[node], NONE))
+            stack.append((inside, face))
+            continue
+        (right, there), (left, here) = stack.pop(), stack.pop()
+        member = joined(node, left, right)
+        if with_faces:
+            ours, theirs = shows(node, member, left, right)
+            here = np.minimum(np.where(ours, here, NONE), np.where(theirs, there, NONE))
+        stack.append((member, here))
+    return stack.pop()
+
+
+def picture(scene: Scene, how: Reading, x: Whole, y: Whole) -> Picture:
+    """The depth and the face at each of the samples, which are flat arrays of columns and rows."""
+    found, unit = ends(scene, how, x, y), how.grid << scene.fraction
+    start = np.full((1, x.size), 0 if how.near else BEFORE)
+    z = np.concatenate([start, found.first] + ([found.end] if how.backs else []))
+    end = scene.far * (unit if how.real else 1)
+    first: Whole = np.where(fold(scene.show, found, z, False)[0], z, end + 1).min(0)
+    shown = first <= end
+    first = np.where(shown, first, end)
+    face = fold(scene.show, found, first, True)[1]
+    face = np.where(face == NONE, 0, NONE - face if how.highest else face)
+    return Picture(np.maximum(first, 0) / (unit if how.real else 1), np.where(shown, face, 0))

@@ -1,0 +1,192 @@
+"""What is said of two maps: how many pixels differ, why, in which ways, and where; in lines, as JSON, and as a
+picture."""
+from __future__ import annotations
+
+from dataclasses import dataclass
+from typing import Any, Optional, Sequence
+
+import numpy as np
+from numpy.typing import NDArray
+
+from pxplanes.compare import causes
+from pxplanes.compare.comparing import Comparison
+from pxplanes.compare.picture import RIGHT, Scene, grid, picture
+from pxplanes.compare.verdict import WRONG, Allowed, Sample, filled
+
+Numbers = NDArray[Any]
+# So many pixels times the ends of solids there are judged for a cause; of a larger picture so many that differ, and so
+# many that do not.
+MOST, TAKEN = 1 << 21, 8192
+RED, BLUE = (128, 32, 32), (64, 96, 255)
+
+
+@dataclass(frozen=True)
+class Maps:
+    """Depths in cells and faces, of shape (height, width); None is not compared."""
+
+    depths: Optional[Numbers]
+    faces: Optional[Numbers]
+
+    @property
+    def shape(self) -> tuple[int, int]:
+        found = self.depths if self.depths is not None else self.faces
+        assert found is not None
+        return int(found.shape[0]), int(found.shape[1])
+
+
+def is_picture_of(maps: Maps, scene: Scene) -> bool:
+    """Whether maps are what a scene shows."""
+    if maps.shape != (scene.height, scene.width):
+        return False
+    high = max(1, MOST // (2 * len(scene.solids) + 1) // scene.width)
+    for top in range(0, scene.height, high):
+        y, x = (each.ravel() for each in np.indices((min(high, scene.height - top), scene.width), np.int64))
+        shown, rows = picture(scene, RIGHT, x, y + top), slice(top, top + high)
+        for found, own in ((maps.depths, shown.depths), (maps.faces, shown.faces)):
+            if found is not None and not (found[rows].ravel() == own).all():
+                return False
+    return True
+
+
+def sample_of(scene: Scene, theirs: Maps, found: Comparison, allowed: Allowed,
+              labels: Optional[Numbers] = None) -> Sample:
+    """What a cause is sought by: all pixels, or, of a large picture, some that differ and some that do not."""
+    x, y = grid(scene)
+    weight = 1.0
+    if x.size * (2 * len(scene.solids) + 1) > MOST:
+        lots = np.random.default_rng(1)
+        bad, good = (np.flatnonzero(each) for each in ((found.state == WRONG).ravel(), (found.state != WRONG).ravel()))
+        taken = [lots.permutation(each)[:TAKEN] for each in (bad, good)]
+        weight = good.size / max(taken[1].size, 1)
+        at = np.sort(np.concatenate(taken))
+        x, y = x[at], y[at]
+    depths = None if theirs.depths is None else filled(theirs.depths[y, x].astype(np.float64), scene.far)
+    faces = None if theirs.faces is None else theirs.faces[y, x].astype(np.int64)
+    return Sample(scene, x, y, depths, faces, found.is_whole, allowed, labels, weight)
+
+
+def counted(found: Comparison, allowed: Allowed) -> str:
+    """The first line: how many pixels differ, and of real numbers how the others are right."""
+    line = "%d of %d pixels differ" % (found.differ, found.pixels)
+    if found.is_whole:
+        return line
+    score = found.score
+    return line + ": %d exact, %d within %s, %d near an edge" % (score.exact, score.within, said(allowed), score.near_edge)
+
+
+def said(allowed: Allowed) -> str:
+    """What is let pass, as 64 roundings, or 64 roundings or 1 cell."""
+    words = ["%g roundings" % allowed.epsilon] * (not allowed.in_cells)
+    for number in [allowed.epsilon] * allowed.in_cells + [allowed.tolerance] * (allowed.tolerance > 0):
+        words.append("%g cell%s" % (number, "s"[number == 1:]))
+    return " or ".join(words)
+
+
+def why(scene: Scene, theirs: Maps, found: Comparison, allowed: Allowed) -> list[str]:
+    """The cause of what differs, with its evidence, or that none was found, with facts."""
+    sample = sample_of(scene, theirs, found, allowed)
+    if sample.right.all():
+        return []
+    cause = causes.find([sample])
+    return cause.said() if cause.causes else cause.said() + ["  " + line for line in causes.facts([sample])]
+
+
+def shows_colours(theirs: Numbers, faces: Optional[Numbers], colours: Sequence[tuple[int, int, int]]) -> Optional[str]:
+    """A line, if numbers are the colours of the faces, three bytes each, by the colours of all faces in order from that
+    of face 0."""
+    table = np.array([red << 16 | green << 8 | blue for red, green, blue in colours])
+    shown = np.unique(theirs)
+    if faces is None or shown.size < 2 or not np.isin(shown, table).all():
+        return None
+    own = int((table[faces] == theirs).sum())
+    return "theirs is a picture of the faces' colours, and no map of depths: %d of %d pixels have the colour of our face" % (
+        own, theirs.size)
+
+
+def side(whose: str, face: int, words: Sequence[str]) -> str:
+    if face == 0:
+        return whose + " background"
+    return "%s %s" % (whose, words[face] if face < len(words) else "face %d" % face)
+
+
+def ways(ours: Maps, theirs: Maps, found: Comparison, words: Sequence[str], far: Optional[int]) -> list[str]:
+    """A line for each way to differ, the most frequent first: which faces, or, without faces, which is the background at
+    depth `far`; nearer or farther. `words` has the solid and the kind of each face."""
+    at = found.state == WRONG
+    names: dict[str, int] = {}
+    keys, titles = [], []
+    for whose, maps in (("ours", ours), ("theirs", theirs)):
+        shown = maps.faces
+        if shown is None and maps.depths is not None and far is not None:
+            shown = np.where(maps.depths == far, 0, -1)
+        if shown is not None:
+            numbers, back = np.unique(shown[at], return_inverse=True)
+            ids = np.array([names.setdefault(side(whose, int(n), words) if n >= 0 else "", len(names)) for n in numbers])
+            keys.append(ids[back])
+            titles.append(whose)
+    signs = ["theirs nearer", "same depth", "theirs farther"]
+    if ours.depths is not None and theirs.depths is not None:
+        gaps = theirs.depths[at].astype(np.float64) - ours.depths[at].astype(np.float64)
+        keys.append(np.sign(gaps).astype(np.int64) + 1)
+        titles.append("")
+    if not keys:
+        return []
+    rows, counts = np.unique(np.stack(keys), axis=1, return_counts=True)
+    told = list(names)
+    lines = [(int(count), ", ".join(filter(None, (told[n] if title else signs[n] for title, n in zip(titles, row)))))
+             for row, count in zip(rows.T.tolist(), counts)]
+    lines.sort(key=lambda row: (-row[0], row[1]))
+    return ["  %d pixel%s: %s" % (count, "s"[count == 1:], said) for count, said in lines]
+
+
+def listed(lines: list[str], most: int, what: str) -> list[str]:
+    more = len(lines) - most
+    return lines[:most] + ["  and %d more %s%s" % (more, what, "s"[more == 1:])] * (more > 0)
+
+
+def first(ours: Maps, theirs: Maps, found: Comparison, names: Sequence[str], most: int) -> list[str]:
+    """A line for each of the first pixels that differ. `names` has the name of each face."""
+    rows, columns = (found.state == WRONG).nonzero()
+    places = zip(columns[:most].tolist(), rows[:most].tolist())
+    return ["  at %d %d: %s" % (x, y, pixel(ours, theirs, x, y, names)) for x, y in places]
+
+
+def pixel(ours: Maps, theirs: Maps, x: int, y: int, names: Sequence[str]) -> str:
+    def named(face: int) -> str:
+        if face == 0:
+            return "0 (background)"
+        return "%d (%s)" % (face, names[face] if face < len(names) else "no face of the scene") if names else "%d" % face
+
+    parts = []
+    if ours.depths is not None and theirs.depths is not None:
+        parts.append("depths %.9g and %.9g" % (ours.depths[y, x], theirs.depths[y, x]))
+    if ours.faces is not None and theirs.faces is not None:
+        parts.append("faces %s and %s" % (named(int(ours.faces[y, x])), named(int(theirs.faces[y, x]))))
+    elif ours.faces is not None:
+        parts.append("our face %s" % named(int(ours.faces[y, x])))
+    elif theirs.faces is not None:
+        parts.append("their face %s" % named(int(theirs.faces[y, x])))
+    return ", ".join(parts)
+
+
+def differences(ours: Maps, theirs: Maps, found: Comparison) -> Numbers:
+    """A picture, uint8 of shape (height, width, 3): grey where alike, lighter for nearer; red where depths differ, the
+    brighter the more; blue where only the faces do."""
+    depths = np.zeros(found.state.shape) if ours.depths is None else ours.depths.astype(np.float64)
+    near, far = depths.min(), depths.max()
+    grey = (200 - 140 * (depths - near) / max(far - near, 1)).astype(np.uint8)
+    out: Numbers = np.stack([grey] * 3, -1)
+    wrong = found.state == WRONG
+    out[wrong] = BLUE
+    if ours.depths is not None and theirs.depths is not None:
+        gap = np.abs(theirs.depths - depths) * wrong
+        red = gap > 0
+        out[red] = RED
+        out[red, 0] = (128 + 127 * gap[red] / gap.max()).astype(np.uint8)
+    return out
+
+
+def as_json(found: Comparison, lines: list[str], cause: list[str]) -> dict[str, Any]:
+    return {"pixels": found.pixels, "differ": found.differ, "exact": found.score.exact, "within": found.score.within,
+            "near_edge": found.score.near_edge, "greatest": found.greatest, "whole": found.is_whole, "cause": cause,
+            "lines": lines}

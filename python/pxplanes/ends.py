@@ -1,0 +1,150 @@
+"""What the tools share: their words, files and standard streams, and one line for a bad file."""
+import argparse
+import contextlib
+import contextvars
+import difflib
+import importlib.machinery
+import importlib.util
+import os
+import re
+import shutil
+import sys
+
+from pxplanes.errors import Trouble
+
+HERE = os.path.dirname(os.path.abspath(__file__))
+TOP = os.path.dirname(os.path.dirname(HERE))
+# The page: beside these modules in a wheel, otherwise in the checkout or where it is installed.
+PAGE = next(filter(os.path.isfile, [os.path.join(HERE, "pxplanes.html")]), os.path.join(TOP, "page", "pxplanes.html"))
+TROUBLE = 2
+HEARD = contextvars.ContextVar("heard", default=None)
+
+
+def say(tool, line):
+    """Tells a line on standard error, or who listens."""
+    if HEARD.get() is None:
+        print("%s: %s" % (tool, line), file=sys.stderr)
+    else:
+        HEARD.get().append(line)
+
+
+@contextlib.contextmanager
+def heard():
+    """Within it what is said goes to the list that it gives."""
+    lines = []
+    before = HEARD.set(lines)
+    try:
+        yield lines
+    finally:
+        HEARD.reset(before)
+
+
+def content(path):
+    """The bytes of a file, or of standard input for `-`."""
+    if path == "-":
+        if sys.stdin is None:
+            raise Trouble("standard input is closed")
+        return sys.stdin.buffer.read()
+    with open(path, "rb") as file:
+        return file.read()
+
+
+def replaced(path, content):
+    """Puts a new content into a file at one stroke: written beside it, and then renamed."""
+    beside = os.path.realpath(path) + ".new"
+    with open(beside, "wb") as out:
+        out.write(content)
+        out.flush()
+        os.fsync(out.fileno())
+    shutil.copymode(path, beside)
+    os.replace(beside, os.path.realpath(path))
+
+
+def drop_output():
+    """What could not be written is not tried again at the end."""
+    os.dup2(os.open(os.devnull, os.O_WRONLY), 1)
+
+
+def ended(help_text, main):
+    """The status that `main` gives for the words, with all that it printed written."""
+    if sys.stdout is None:
+        raise Trouble("standard output is closed")
+    words = sys.argv[1:]
+    if "-h" in words or "--help" in words:
+        print(help_text.strip())
+        status = 0
+    else:
+        status = main(words)
+    sys.stdout.flush()
+    return status
+
+
+def run(tool, help_text, main):
+    """Ends with what `main` gives for the words; trouble is one line and no traceback."""
+    try:
+        status = ended(help_text, main)
+    except Trouble as bad:
+        say(tool, bad)
+        status = TROUBLE
+    except BrokenPipeError:
+        drop_output()
+        status = TROUBLE
+    except OSError as error:
+        drop_output()
+        name = "" if error.filename is None else "%s: " % error.filename
+        say(tool, name + (error.strerror or "cannot be read"))
+        status = TROUBLE
+    except KeyboardInterrupt:
+        status = 130
+    sys.exit(status)
+
+
+def script(leaf):
+    """A script of tools/, or of tools/dev/, as a module: `show`, or `dev/run_cases`."""
+    loader = importlib.machinery.SourceFileLoader(leaf.replace("/", "_"), os.path.join(TOP, "tools", leaf))
+    module = importlib.util.module_from_spec(importlib.util.spec_from_loader(loader.name, loader))
+    loader.exec_module(module)
+    return module
+
+
+def jobs(word):
+    """How many things are done side by side: as said, or as many as there are processors."""
+    if word is None:
+        return os.cpu_count() or 1
+    if not word.isdigit() or int(word) == 0:
+        raise Trouble("--jobs wants a number from 1 on, and not %s" % word)
+    return int(word)
+
+
+class Words(argparse.ArgumentParser):
+    """The words of a tool; bad ones are told in one line, as all else that goes wrong."""
+
+    def error(self, message):
+        unknown = re.match(r"unrecognized arguments: (--\S+)", message)
+        known = [option for action in self._actions for option in action.option_strings]
+        near = difflib.get_close_matches(unknown.group(1).split("=")[0], known, 1, 0.75) if unknown else []
+        raise Trouble("%s%s; --help says more" % (message, " (is it %s?)" % near[0] if near else ""))
+
+
+def glued(words, with_word):
+    """The words with a number below 0 behind its option in one word, so that it is no option itself."""
+    for at in range(len(words) - 2, -1, -1):
+        if words[at] in with_word and re.match(r"-[.\d]", words[at + 1]):
+            words[at:at + 2] = ["%s=%s" % (words[at], words[at + 1])]
+    return words
+
+
+def options(words, flags, with_word, repeated=()):
+    """Splits words into the others and what the options say; `with_word` take the word behind, and so do those that may be repeated,
+    which give a list."""
+    words = glued(list(words), (*with_word, *repeated))
+    parser = Words(add_help=False, allow_abbrev=False, argument_default=argparse.SUPPRESS)
+    for flag in flags:
+        parser.add_argument(flag, dest=flag, action="store_true")
+    for option in with_word:
+        parser.add_argument(option, dest=option, metavar="WORD")
+    for option in repeated:
+        parser.add_argument(option, dest=option, metavar="WORD", action="append")
+    parser.add_argument("others", nargs="*")
+    said = vars(parser.parse_intermixed_args(words))
+    return said.pop("others", []), said

@@ -1,0 +1,187 @@
+"""What there is to say of a scene's text: why it is refused and what to write, or what it looks like.
+
+Whoever judges texts and draws them is a `Judge`: the program, the library, or nobody."""
+from __future__ import annotations
+
+import re
+from typing import Any, NamedTuple, Optional, Sequence
+
+from pxplanes.explain import cures, kinds, looks, readings
+from pxplanes.scene import limits, scenes
+
+WIDE = 76
+MOST_TOLD, MOST_CANDIDATES = 20, 5
+OF_PRODUCTS = (
+    "no list of products is longer than %d on the way to the shown one" % limits.MAX_PRODUCTS,
+    "intersect and subtract first and join by + last, or draw the scene in parts")
+# What a mistake is, by its cause: with the word at its place.
+SAID = {"not-header": "a scene begins with its header, not with %s", "unexpected": "%s is not expected here",
+        "word-count": "wrong number of words, at %s", "bad-name": "%s is not a name", "not-number": "%s is not a whole number",
+        "second-name": "a second solid has the name %s", "bad-expression": "the expression is wrong at %s", "unknown-name": "unknown name %s",
+        "after-end": "%s comes after the end", "missing-end": "the text stops too early"}
+
+
+class Judge:
+    """One who knows a text by the reading of scenes.py alone, and draws nothing."""
+
+    def note(self, text: bytes) -> str:
+        """The refusal of a text, in the program's words; empty for an accepted one."""
+        known = own_reading(text)[1]
+        return str(known.note) if known else ""
+
+    def faces(self, text: bytes, scene: Any) -> tuple[Optional[Sequence[int]], str]:
+        """The face numbers of its picture, by rows; or None, and why it was not drawn."""
+        return None, ""
+
+    def say(self, line: str) -> None:
+        """Takes what is to be said of the judge's own reading."""
+
+
+class Place(NamedTuple):
+    """A mistake of a text: its line and column, counted from 1, and the column after it; what it is; the cause in the language's words;
+    the lines that the answer has for it; what mends it for sure, if anything, and the candidates otherwise."""
+
+    line: int
+    column: int
+    end_column: int
+    message: str
+    cause: str
+    shown: tuple[str, ...]
+    cure: Optional[str]
+    candidates: tuple[str, ...]
+
+
+class Told(NamedTuple):
+    """The answer about a text: its lines, whether it is accepted, and its mistakes."""
+
+    lines: list[str]
+    is_accepted: bool
+    places: list[Place]
+
+
+def marked(line: bytes, span: tuple[int, int]) -> list[str]:
+    """A line of the text around a place, and marks below it."""
+    shown = "".join(chr(byte) if 32 <= byte < 127 else " " if byte == 9 else "?" for byte in line)
+    start, stop = span
+    first = max(0, min(start - 8, len(shown) - WIDE)) if len(shown) > WIDE else 0
+    last = min(first + WIDE, max(len(shown), start + 1))
+    marks = " " * (start - first) + "^" * max(1, min(stop, last) - start)
+    return ["    " + (shown[first:last].rstrip() or "(no text)"), "    " + marks]
+
+
+def meant(old: bytes, changes: list[readings.Change]) -> str:
+    """The words that may have been meant, if each change is another word in one place."""
+    before, found = re.findall(r"\w+|\S", readings.cut(old)[0]), []
+    for change in changes[:2]:
+        after = re.findall(r"\w+|\S", change.told.partition("write ")[2])
+        other = [new for word, new in zip(before, after) if word != new]
+        if len(before) != len(after) or len(set(other)) != 1:
+            return ""
+        found.append("'%s'" % other[0])
+    return " (did you mean %s?)" % " or ".join(found) if found and len(changes) <= 2 else ""
+
+
+def place_of(text: bytes, note: str, known: scenes.Refusal, number: int, mistake: Optional[readings.Mistake], other: Optional[str]) -> Place:
+    """A mistake as the answer has it: the program's line, the line of the text with marks, what is expected there, and what to write."""
+    cause, own = readings.cause_of(known), int(note.split(":")[0].split(" ")[-1])
+    lines = scenes.cut_lines(text)
+    line = lines[own - 1] if 0 < own <= len(lines) else b""
+    start, stop = known.span or (0, 0)
+    column, end = (len(line[:at].decode("utf-8", "replace")) + 1 for at in (start, stop))
+    word = "the end of the line" if known.span and start >= len(line.split(b"#")[0].rstrip()) else "'%s'" % line[start:stop].decode("utf-8", "replace")
+    changes = ([mistake.change] if mistake.change else mistake.candidates) if mistake else []
+    limit = note.rpartition(": ")[2] + " is past a limit"
+    said = SAID.get(cause, limit) if note.startswith("malformed") else limit
+    said = (said % word if "%s" in said else said) + (meant(line, changes) if known.span else "")
+    cure = mistake.change.told if mistake and mistake.change else None
+    rest = [("due", known.due), ("limit", known.limit)]
+    if cure:
+        rest.append(("cure", cure))
+    else:
+        rest.append(("hint", other or cures.of(text, known) or known.cure))
+        rest += [("candidate", each.told) for each in changes[:MOST_CANDIDATES]]
+    shown = [re.sub(r"line \d+", "line %d" % number, note, count=1) if own else note]
+    shown += (marked(line, known.span) if known.span else []) + ["%s: %s" % each for each in rest if each[1]]
+    return Place(number, column, end, said, cause, tuple(shown), cure, tuple(each.told for each in changes if not cure))
+
+
+def refused(judge: Judge, text: bytes, note: str, known: scenes.Refusal) -> list[Place]:
+    """The mistakes of a refused text, each in the text with those before it mended or left out."""
+    number, other = int(note.split(":")[0].split(" ")[-1]), kinds.cure(text)
+    mending = None if other else readings.mended(text)
+    found = mending.mistakes if mending else []
+    places = []
+    if mending and mending.changes[:1] and mending.changes[0][0] == 0:
+        first = place_of(text, note, known, number, None, None)
+        said = [line for line in first.shown if not line.startswith("hint: ")]
+        cure = "--fix writes the text anew: %s" % mending.changes[0][1] if mending.is_whole else None
+        places.append(first._replace(cure=cure, shown=(*said, "cure: " + cure) if cure else first.shown))
+    elif not found or found[0].refusal.note != note:
+        return [place_of(text, note, known, number, None, other)]
+    for at, mistake in enumerate(found):
+        if at and at < MOST_TOLD and judge.note(mistake.text) != mistake.refusal.note:
+            judge.say("the program reads the text with the first mistakes mended in another way")
+            break
+        places.append(place_of(mistake.text, str(mistake.refusal.note), mistake.refusal, mistake.number, mistake, None))
+    return places
+
+
+def lines_of(places: list[Place], name: str) -> list[str]:
+    """The lines about the mistakes of a text of some name."""
+    out: list[str] = []
+    for place in places[:MOST_TOLD]:
+        out += ["%s:%d:%d: %s [%s]" % (name, place.line, place.column, place.message, place.cause), *place.shown]
+    if len(places) == 1:
+        return out
+    sure = all(place.cure for place in places)
+    left = len(places) - MOST_TOLD
+    said = "%d more" % left if left > 0 else looks.plural(len(places), "mistake") + " in all"
+    return out + ["%s; %s" % (said, "--fix writes the mended text" if sure else "--fix is not sure of all of them, and writes nothing")]
+
+
+def accepted(scene: Any, hints: list[tuple[str, str]], notes: list[str], found: Any, shown: Any) -> list[str]:
+    """The lines about an accepted scene."""
+    bits = looks.plural(scene.depth_bits, "bit")
+    bits += " and %s" % looks.plural(scene.fraction_bits, "fraction bit") if scene.fraction_bits else ""
+    faces = scene.faces()
+    out = ["accepted: %d by %d pixels, depths of %s, far limit %d, %s, %s" % (
+        scene.width, scene.height, bits, scene.far(), looks.plural(len(scene.solids), "solid"),
+        looks.plural(len(faces), "face"))]
+    out += ["%s: %s" % hint for hint in looks.sorted_hints(hints)] + notes
+    out += looks.table(scene, found, shown) + [""] if scene.solids else []
+    name = max([5] + [len(solid.name) for solid in scene.solids])
+    out.append("%5s  %-*s  %-5s  %5s  %-11s  %5s" % (
+        "face", name, "solid", "kind", "which", "colour", "line"))
+    for number, solid, kind, which, colour, line in faces:
+        out.append("%5d  %-*s  %-5s  %5s  %-11s  %5d" % (
+            number, name, solid.name, kind, which or "", "%d %d %d" % colour, line))
+    return out
+
+
+def own_reading(text: bytes) -> tuple[Any, Optional[scenes.Refusal]]:
+    """The scene of a text, or its refusal, by the reading of scenes.py."""
+    try:
+        scene = scenes.read(text)
+        scenes.pixel_memory(scene)
+        return scene, None
+    except scenes.Refusal as refusal:
+        return None, refusal
+
+
+def told(judge: Judge, text: bytes, name: str = "scene") -> Told:
+    """The answer about a text, which messages call by this name."""
+    scene, known = own_reading(text)
+    note = judge.note(text)
+    if note.startswith("limit line 0: products") and known is None:
+        known = scenes.Refusal(note, None, None, *OF_PRODUCTS)
+    if note != (known.note if known else ""):
+        judge.say("the program reads this text in another way; its answer is below")
+        return Told([note or "accepted"], not note, [])
+    if known:
+        places = refused(judge, text, note, known)
+        return Told(lines_of(places, name), False, places)
+    found = looks.all_looks(scene)
+    hints = looks.before_drawing(scene, found)
+    faces, why = judge.faces(text, scene)
+    hints += [hint for hint in looks.from_picture(scene, faces, found) if not hint[1].endswith(looks.NO_BACK)] if faces else []
+    return Told(accepted(scene, hints, [why] if why else [], found, faces), True, [])

@@ -1,0 +1,174 @@
+"""Listings for the tools (docs/LISTINGS.md): what one has, and a session over one. It is no tool itself.
+
+`pxplanes debug` holds sessions over scenes. Over a listing `held` answers the same lines in the same words, by the states
+and the microinstructions that the library gives (python/pxplanes); but for `field`, as a listing has no keys."""
+import bisect
+import os
+import re
+import sys
+
+from pxplanes.errors import Trouble
+from pxplanes import ends
+from pxplanes import program
+from pxplanes.machine import sessions
+
+NUMBER = re.compile(rb"\d{1,18}\Z")
+# The line of a listing that `list` writes in which its first operation stands.
+FIRST_LINE = 3
+
+
+def library():
+    """The Python module, which a tool for scenes does without."""
+    sys.path.insert(0, os.path.join(ends.TOP, "python"))
+    try:
+        import pxplanes
+    except ImportError:
+        raise Trouble("there is no python/pxplanes beside the tools")
+    finally:
+        del sys.path[0]
+    return pxplanes
+
+
+def is_listing(text):
+    """Whether a text is meant as one: the first word of all is that of its header."""
+    for line in text.split(b"\n"):
+        words = sessions.words_of(line.split(b"#")[0])
+        if words:
+            return words[0] == b"pxlist"
+    return False
+
+
+class Listing:
+    """A listing that the program accepts: its grid, its operations, and at which clock each ends."""
+
+    def __init__(self, text):
+        self.text, self.library = text, library()
+        try:
+            first = self.library.state(text, 0)
+        except (self.library.Refused, self.library.NoLibrary) as error:
+            raise Trouble(error)
+        self.nx, self.ny = (side.bit_length() - 1 for side in (first.grid_width, first.grid_height))
+        course = self.library.course(text)
+        self.operations = [(each.kind, list(each.numbers)) for each in course]
+        lines = [number for number, line in enumerate(text.split(b"\n"), 1) if sessions.words_of(line.split(b"#")[0])]
+        self.lines = lines[2:2 + len(self.operations)]
+        self.ends = [each.clock for each in course[1:]] + [first.clocks] * bool(course)
+
+    @property
+    def clocks(self):
+        return self.ends[-1] if self.ends else 0
+
+    def place_of(self, clock):
+        """The operation of a clock, and which of its clocks that is; past the last of all None."""
+        if clock >= self.clocks:
+            return None
+        number = bisect.bisect_right(self.ends, clock)
+        return number, clock - (self.ends[number - 1] if number else 0)
+
+    def state(self, clock):
+        return self.library.state(self.text, clock)
+
+    def bits(self):
+        """How many memory bits its operations name, from bit 0 on."""
+        return max([1] + [end_of(*operation) for operation in self.operations])
+
+
+def end_of(name, numbers):
+    """The end of the memory that an operation names."""
+    if name in ("all", "keep-sign"):
+        return 0
+    if name in ("keep-bit", "set-bit", "toggle"):
+        return numbers[0] + 1
+    if name == "load-const":
+        return numbers[0] + numbers[1]
+    if name in ("copy", "keep-less"):
+        return max(numbers[0], numbers[2]) + numbers[1]
+    return numbers[3] + numbers[4]
+
+
+class Session:
+    """Answers command lines over a listing."""
+
+    def __init__(self, text):
+        self.listing, self.now, self.count, self.seen = Listing(text), 0, 0, None
+
+    def answer(self, line):
+        """The lines that answer one, as the program writes them."""
+        self.count += 1
+        words = sessions.words_of(line)
+        if not words or sessions.is_quit(line):
+            return []
+        name, numbers = words[0].decode("latin-1"), words[1:]
+        form = FORMS.get(name)
+        if len(line) <= sessions.LONGEST and form and len(numbers) == form[0] and all(map(NUMBER.match, numbers)):
+            told = form[1](self, *map(int, numbers))
+            if told is not None:
+                return [line.encode() for line in told]
+        return [b"? line %d" % self.count]
+
+    def state(self):
+        if self.seen is None or self.seen.clock != self.now:
+            self.seen = self.listing.state(self.now)
+        return self.seen
+
+    def to(self, clock):
+        self.now = max(0, min(clock, self.listing.clocks))
+        return ["at %d" % self.now]
+
+    def step(self, count):
+        return self.to(self.now + count)
+
+    def back(self, count):
+        return self.to(self.now - count)
+
+    def until(self, clock):
+        return self.to(max(clock, self.now))
+
+    def run(self):
+        return self.to(self.listing.clocks)
+
+    def macro(self, count):
+        place = self.listing.place_of(self.now)
+        if place is None or count == 0:
+            return self.to(self.now)
+        return self.to(self.listing.ends[min(place[0] + count, len(self.listing.ends)) - 1])
+
+    def at(self):
+        place = self.listing.place_of(self.now)
+        behind = "done" if place is None else "macro %d micro %d" % place
+        return ["at %d of %d %s" % (self.now, self.listing.clocks, behind)]
+
+    def pixel(self, x, y):
+        if x >= 1 << self.listing.nx or y >= 1 << self.listing.ny:
+            return None
+        found = self.state().pixel(x, y)
+        return ["pixel %d %d m %s e %d k %d l %d t %d" % (x, y, found.memory, found.enable, found.carry, found.latch, found.leaf)]
+
+    def tree(self, level, index):
+        if not 1 <= level <= self.listing.nx + self.listing.ny or index >= 1 << level:
+            return None
+        return ["tree %d %d out %d carry %d" % ((level, index) + self.state().node(level, index))]
+
+    def trace(self):
+        first = max(0, self.now - sessions.KEPT)
+        made = self.listing.library.micros(self.listing.text, first, self.now - first)
+        return ["%d: %s" % told for told in enumerate(map(str, made), first)]
+
+
+# Of each line how many numbers it has, and what answers it.
+FORMS = {"step": (1, Session.step), "macro": (1, Session.macro), "run": (0, Session.run), "until": (1, Session.until),
+         "back": (1, Session.back), "at": (0, Session.at), "pixel": (2, Session.pixel), "tree": (2, Session.tree),
+         "trace": (0, Session.trace)}
+
+
+def held(path, text, commands):
+    """The answers of a session over a scene, by the program at a path or as built, or over a listing; each a list of
+    lines, and none behind a `quit`."""
+    if not is_listing(text):
+        return sessions.held(program.needed(path), text, commands)
+    session, answers = Session(text), []
+    for command in commands:
+        answers.append(session.answer(command))
+        if sessions.is_quit(command):
+            break
+    return answers

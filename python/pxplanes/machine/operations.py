@@ -1,0 +1,61 @@
+"""The operations of a text, each with what it is for."""
+from __future__ import annotations
+
+import ctypes
+import operator
+from typing import NamedTuple, Optional
+
+from ..calls import FoundOperation, Text, asked
+from ..errors import NoOperation
+
+KINDS = ("all", "keep-sign", "keep-bit", "load-linear", "keep-at-most", "add-linear", "load-const", "set-bit", "toggle", "copy",
+         "keep-less")
+ROLES = ("start", "open", "candidate", "drop", "clear", "front", "confirm", "begin", "turn", "close", "merge")
+
+
+class Operation(NamedTuple):
+    """A broadcast operation, and what it is for (docs/PASSES.md, "Steps"). `str` of it is its line in a listing.
+
+    `kind` is the word of that line and `numbers` are those behind it (docs/LISTINGS.md, "Operations"); `clock` is the one at which
+    it begins. Of a scene `pass_` is its step among all steps, from 0 on, and `role` the step's kind; `literal` is the literal that
+    the step is of, from 1 on, among those of all that `products` gives, one after another, and 0 for the start. Where the step is
+    of a face, `solid` is its solid, from 1 on, and `face` its number, 0 for the far limit; where it asks another literal, `other`
+    is which one, from 1 on, of the product's literals that are of other solids. What does not apply is 0, and of a listing `role`
+    is None."""
+
+    kind: str
+    numbers: tuple[int, ...]
+    clock: int
+    pass_: int
+    literal: int
+    role: Optional[str]
+    solid: int
+    face: int
+    other: int
+
+    def __str__(self) -> str:
+        return " ".join([self.kind, *map(str, self.numbers)])
+
+
+def told(found: FoundOperation) -> Operation:
+    """What the library wrote of an operation."""
+    return Operation(KINDS[found.kind - 1], tuple(found.numbers[:found.numbers_count]), found.clock, getattr(found, "pass"),
+                     found.literal, ROLES[found.role - 1] if found.role else None, found.solid, found.face, found.other)
+
+
+def course(text: Text, first: int = 0, count: Optional[int] = None) -> list[Operation]:
+    """The operations of a scene or of a listing: `count` of them from operation `first` on, or all from there.
+
+    Raises `Malformed`, `Limit` and `MemoryError`, and `NoOperation` where the text has fewer."""
+    first, operations = operator.index(first), operations_of(text)
+    count = operations - first if count is None else operator.index(count)
+    if not (0 <= first and 0 <= count and first + count <= operations):
+        raise NoOperation(operations)
+    room = (FoundOperation * count)()
+    asked("course", text, first, ctypes.cast(room, ctypes.c_void_p) if count else None, count)
+    return [told(found) for found in room]
+
+
+def operations_of(text: Text) -> int:
+    """How many operations a scene or a listing has. Raises as `check` does."""
+    return int(asked("course", text, 0, None, 0)[1].operations)

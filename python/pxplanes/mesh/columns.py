@@ -1,0 +1,647 @@
+"""Draws models by columns: what is seen of meshes, without dividing them into convex parts (docs/MODELLING.md, "Columns").
+
+A column is a triangle's plane as a front and its edges in the picture as sides: what is behind the triangle. 255 of them make a scene,
+whose picture is a window around the pixels at which they are seen; the nearer depth of all windows is the picture. Needs NumPy."""
+from __future__ import annotations
+
+import concurrent.futures
+import math
+from typing import Any, Iterator, NamedTuple, Optional, Sequence
+
+import numpy as np
+import numpy.typing as npt
+
+from pxplanes import program
+from pxplanes.errors import Trouble
+from pxplanes.mesh import cameras, perspective, shaping, solids, turns, views
+from pxplanes.scene import limits
+
+Array = npt.NDArray[Any]
+Plane = tuple[str, int, int, int]
+Window = tuple[int, int, int, int]
+
+SNAP = 4096          # the coarsest grid of places, in parts of a pixel
+FINEST = 1 << 18
+GUARD = 1500         # what reaches so many pixels beyond the middle of the picture is clipped
+BIG = 48             # columns seen over more pixels than this on a side are in scenes of their own
+ROWS = 2000000       # so many rows or pixels of triangles are looked at together
+SMALLEST = 64        # pixels on a side of a portrait
+NONE = -1
+NEARER = 0.05        # cells by which a column may be nearer than what is seen
+FILM = 1e-7          # cells; what is thinner is nothing
+LIGHTEST, DULL = np.array((-0.42, -0.53, -0.74)), 0.35
+
+
+class Lens(NamedTuple):
+    """How points come into the picture. `rows` are its right, down and away in the model's axes; `middle` is the pixel to which `eye`
+    looks, `focal` pixels are as wide as a unit (in perspective: at the distance 1); `near` is the distance at which depths begin.
+    A depth in cells is steep * (Z - near), in perspective steep * (1/near - 1/Z)."""
+
+    rows: Array
+    eye: Array
+    middle: tuple[float, float]
+    focal: float
+    near: float
+    steep: float
+    perspective: bool
+
+    def seen(self, points: Array) -> Array:
+        return (points - self.eye) @ self.rows.T
+
+    def placed(self, seen: Array) -> Array:
+        away = seen[..., 2]
+        zoom = self.focal / away if self.perspective else self.focal
+        depth = self.steep * (1 / self.near - 1 / away) if self.perspective else self.steep * (away - self.near)
+        return np.stack([self.middle[0] + zoom * seen[..., 0], self.middle[1] + zoom * seen[..., 1], depth], -1)
+
+
+def corners_of(leaf: Any) -> Array:
+    """The triangles of a solid or a mesh: N by 3 corners by 3 numbers."""
+    if "triangles" not in leaf.__dict__:
+        found = leaf.soup() if isinstance(leaf, solids.Mesh) and leaf.soup else None
+        if found is not None:
+            matrix = np.array(leaf.matrix, float)
+            leaf.triangles = found if leaf.matrix == solids.AS_IS else found @ matrix[:, :3].T + matrix[:, 3]
+        elif isinstance(leaf, solids.Mesh):
+            leaf.triangles = triangulated(np.array(leaf.points, float), leaf.sides)
+        elif leaf.sides is not None:
+            leaf.triangles = outwards(triangulated(np.array(leaf.points, float), leaf.sides))
+        else:
+            leaf.triangles = outwards(np.array([(own[0], own[i], own[i + 1]) for own in leaf.corners for i in range(1, len(own) - 1)], float))
+    found = leaf.triangles
+    return found
+
+
+def outwards(triangles: Array) -> Array:
+    """The triangles of a convex solid, each turned so that it looks out."""
+    normal = np.cross(triangles[:, 1] - triangles[:, 0], triangles[:, 2] - triangles[:, 0])
+    inwards = (normal * (triangles.mean(1) - triangles.reshape(-1, 3).mean(0))).sum(1) < 0
+    triangles[inwards] = triangles[inwards][:, ::-1]
+    return triangles
+
+
+def triangulated(points: Array, sides: Sequence[Sequence[int]]) -> Array:
+    """The triangles of facets; one that is not convex is cut by its ears."""
+    numbers = []
+    for side in sides:
+        if len(side) == 3:
+            numbers.append(tuple(side))
+            continue
+        own = points[list(side)]
+        normal = np.cross(own, np.roll(own, -1, 0)).sum(0)
+        axis = int(np.abs(normal).argmax())
+        flat = np.delete(own, axis, 1) * ([1, -1] if (normal[axis] > 0) == (axis == 1) else [1, 1])
+        numbers += [(side[a], side[b], side[c]) for a, b, c in ears(flat.tolist())]
+    return points[np.array(numbers)]
+
+
+def ears(ring: Sequence[Sequence[float]]) -> Iterator[tuple[int, int, int]]:
+    """The triangles of a polygon that turns to the left."""
+    left = list(range(len(ring)))
+    while len(left) > 3:
+        for i, b in enumerate(left):
+            a, c = left[i - 1], left[(i + 1) % len(left)]
+            if shaping.turn(ring[a], ring[b], ring[c]) > 0 and not any(
+                    all(shaping.turn(ring[u], ring[v], ring[other]) >= 0 for u, v in ((a, b), (b, c), (c, a)))
+                    for other in left if other not in (a, b, c)):
+                break
+        else:
+            i = min(range(len(left)), key=lambda k: abs(shaping.turn(*(ring[left[(k + s) % len(left)]] for s in (-1, 0, 1)))))
+            a, b, c = left[i - 1], left[i], left[(i + 1) % len(left)]
+        yield a, b, c
+        del left[i]
+    yield left[0], left[1], left[2]
+
+
+class Before:
+    """A model before a perspective camera; `ends` are near and far, None for as what is added reaches within the picture."""
+
+    def __init__(self, numbers: Sequence[float], fov: float, size: Sequence[int], cells: int, ends: Sequence[Optional[float]],
+                 leaves: Sequence[tuple[Any, bool]]) -> None:
+        eye, turn = perspective.eye_and_turn(numbers)
+        self.rows = turns.rows_of(turn)
+        right, away, up = (np.array(row) for row in self.rows)
+        seen = np.concatenate([corners_of(leaf) for leaf, is_added in leaves if is_added]) - np.array(eye)
+        seen = seen @ np.stack([right, -up, away]).T
+        most = float(seen[..., 2].max())
+        if most <= 0:
+            raise Trouble("the model is behind the eye")
+        focal = cameras.focal_of(fov, size)
+        lens = Lens(np.eye(3), np.zeros(3), (0.0, 0.0), focal, perspective.NEAREST * most, 1.0, True)
+        within = in_view(lens, seen, max(size) / 2)[0][..., 2]
+        if not within.size:
+            within = np.array([most])
+        near, far = ends
+        self.least, self.most = float(within.min()), float(within.max())
+        far = far or (1 + perspective.ROOM) * self.most
+        near = near or (1 - perspective.ROOM) * max(self.least, perspective.NEAREST * far)
+        self.camera = cameras.Camera(eye, turn, fov, size, cameras.Distances(near, far, cells))
+
+    def cut_off(self) -> list[str]:
+        distances = self.camera.distances
+        return ["the near plane cuts the model"] * (self.least < distances.near) + ["the model goes on beyond the far plane"] * (
+            self.most > distances.far)
+
+    def why_empty(self) -> str:
+        return "nothing of the model is before the camera, or what is left of it is smaller than a pixel"
+
+
+def portrait(leaves: Sequence[tuple[Any, bool]], turn: Sequence[float], fov: float) -> tuple[list[float], tuple[int, int]]:
+    """The numbers of a perspective camera, and a size of the picture, so that what is added fills it."""
+    right, away, up = (np.array(row) for row in turns.rows_of(turn))
+    points = np.concatenate([corners_of(leaf).reshape(-1, 3) for leaf, is_added in leaves if is_added])
+    points = points @ np.stack([right, up, away]).T
+    middle = (points.min(0) + points.max(0)) / 2
+    x, y, z = (points - middle).T
+    wide, high = max(float(np.ptp(x)), 1e-9), max(float(np.ptp(y)), 1e-9)
+    longest = limits.MAX_PICTURE_SIZE / max(wide, high)
+    size = max(SMALLEST, round(longest * wide)), max(SMALLEST, round(longest * high))
+    focal = cameras.focal_of(fov, size)
+    distance = max(float((2 * focal * np.abs(part) / (views.FILLS * side) - z).max()) for part, side in ((x, size[0]), (y, size[1])))
+    return [*(middle @ np.stack([right, up, away])).tolist(), *turn, distance], size
+
+
+def lens_of(view: Any) -> Lens:
+    """The lens of a view of `views` or `perspective`."""
+    right, away, up = (np.array(row) for row in view.rows)
+    rows = np.stack([right, -up, away])
+    camera = getattr(view, "camera", None)
+    if camera is not None:
+        distances = camera.distances
+        return Lens(rows, np.array(camera.eye), (camera.cx, camera.cy), camera.focal, distances.near, distances.scale, True)
+    middle = (view.size[0] - 1) / 2, (view.size[1] - 1) / 2
+    at = np.array([(middle[0] - view.left) / view.scale, (middle[1] - view.top) / view.scale, view.nearest])
+    return Lens(rows, at @ rows, middle, view.scale, 0.0, view.cells, False)
+
+
+def is_closed(corners: Array) -> bool:
+    """Whether each edge is passed as often one way as the other: a sum of hashes over all edges is 0. False also for parts that
+    meet without sharing corners."""
+    bits = (corners + 0.0).view(np.uint64)
+    with np.errstate(over="ignore"):
+        one = mixed(bits[..., 0] * np.uint64(0x9E3779B97F4A7C15)
+                    ^ mixed(bits[..., 1] * np.uint64(0xC2B2AE3D27D4EB4F) ^ mixed(bits[..., 2])))
+        two = np.roll(one, -1, 1)
+        return int((mixed(one * np.uint64(3) + two) - mixed(two * np.uint64(3) + one)).sum(dtype=np.uint64)) == 0
+
+
+def mixed(h: Array) -> Array:
+    h = (h ^ (h >> np.uint64(30))) * np.uint64(0xBF58476D1CE4E5B9)
+    h = (h ^ (h >> np.uint64(27))) * np.uint64(0x94D049BB133111EB)
+    return h ^ (h >> np.uint64(31))
+
+
+def open_place(corners: Array) -> Array:
+    """A corner of an edge that is not passed as often one way as the other, of a mesh that is not closed."""
+    points, numbers = np.unique(corners.reshape(-1, 3), axis=0, return_inverse=True)
+    edges = numbers.reshape(-1, 3)
+    ways = np.stack([edges, np.roll(edges, -1, 1)], -1).reshape(-1, 2)
+    key = ways.min(1) * len(points) + ways.max(1)
+    _, which = np.unique(key, return_inverse=True)
+    total = np.bincount(which, np.sign(ways[:, 1] - ways[:, 0]))
+    found: Array = points[ways[np.flatnonzero(total[which])[0], 0]]
+    return found
+
+
+def clipped(ring: list[Array], planes: Sequence[tuple[tuple[float, float, float], float]]) -> list[Array]:
+    """What half-spaces n . p >= d leave of a polygon. A crossing is computed from the lesser corner to the greater, so
+    that the neighbour across an edge gets the same point to the last bit."""
+    for normal, least in planes:
+        out = []
+        for a, b in zip(ring, ring[1:] + ring[:1]):
+            at, bt = np.dot(normal, a) - least, np.dot(normal, b) - least
+            if at >= 0:
+                out.append(a)
+            if (at >= 0) != (bt >= 0) and at != 0 and bt != 0:
+                (u, ut), (v, vt) = sorted([(tuple(a), at), (tuple(b), bt)])
+                out.append(np.array(u) + (np.array(v) - np.array(u)) * (ut / (ut - vt)))
+        ring = out
+    return ring
+
+
+def in_view(lens: Lens, seen: Array, guard: float = GUARD) -> tuple[Array, Array, bool]:
+    """The triangles of `seen` in the picture's axes with their numbers, and whether the near plane cuts any: what reaches beyond
+    the guard band or before the near plane is clipped."""
+    reach = guard / lens.focal
+    flat = np.abs(seen[..., :2]) > (reach * seen[..., 2:] if lens.perspective else reach)
+    before = (seen[..., 2] < lens.near) if lens.perspective else np.zeros(seen.shape[:2], bool)
+    bad = flat.any((1, 2)) | before.any(1)
+    numbers = np.arange(len(seen))
+    if lens.perspective:
+        planes = [((0.0, 0.0, 1.0), lens.near)] + [((s, 0.0, reach), 0.0) for s in (1, -1)] + [((0.0, s, reach), 0.0) for s in (1, -1)]
+    else:
+        planes = [((float(s), 0.0, 0.0), -reach) for s in (1, -1)] + [((0.0, float(s), 0.0), -reach) for s in (1, -1)]
+    more, own = [], []
+    beyond = np.stack([(seen @ np.array(normal) < least).all(1) for normal, least in planes]).any(0)
+    for number in np.flatnonzero(bad & ~beyond):
+        ring = clipped(list(seen[number]), planes)
+        more += [(ring[0], ring[i], ring[i + 1]) for i in range(1, len(ring) - 1)]
+        own += [number] * max(0, len(ring) - 2)
+    kept = seen[~bad]
+    if more:
+        kept = np.concatenate([kept, np.array(more)])
+    return kept, np.concatenate([numbers[~bad], np.array(own, int)]), bool(before.any())
+
+
+class Triangles:
+    """Of triangles in the picture those that may cover a pixel: their sides and planes of depth. `way` has -1 for what looks to
+    the eye and 1 for what looks away. Closed sides hold pixels on an edge in both neighbours; half-open ones in one of them, as
+    if the pixel were a little to the right and below."""
+
+    def __init__(self, places: Array, numbers: Array, size: Sequence[int], is_closed: bool) -> None:
+        low = np.ceil(places[..., :2].min(1) - 1 / SNAP)
+        high = np.floor(places[..., :2].max(1) + 1 / SNAP)
+        ok = (low <= high).all(1) & (low[:, 0] < size[0]) & (low[:, 1] < size[1]) & (high >= 0).all(1)
+        places, numbers = places[ok], numbers[ok]
+        spans = (places[..., :2].max(1) - places[..., :2].min(1)).max() if len(places) else 1
+        self.grid = min(FINEST, 1 << int(math.log2((limits.MAX_SLOPE - 2) / (spans + 1))))
+        whole = np.rint(places[..., :2] * self.grid).astype(np.int64)
+        a, b, c = whole[:, 0], whole[:, 1], whole[:, 2]
+        area = (b[:, 0] - a[:, 0]) * (c[:, 1] - a[:, 1]) - (b[:, 1] - a[:, 1]) * (c[:, 0] - a[:, 0])
+        ok = area != 0
+        whole, area, places, self.numbers = whole[ok], area[ok], places[ok], numbers[ok]
+        turn = area < 0                          # y grows downwards: what looks to the eye turns the other way
+        self.way = np.where(turn, -1, 1)
+        whole[turn] = whole[turn][:, ::-1]
+        z = places[..., 2].copy()
+        z[turn] = z[turn][:, ::-1]
+        self.whole, self.z, self.area = whole, z, np.abs(area)
+        nexts = np.roll(whole, -1, 1)
+        a = -(nexts[..., 1] - whole[..., 1])
+        b = nexts[..., 0] - whole[..., 0]
+        c = -a * whole[..., 0] - b * whole[..., 1]
+        strict = np.zeros(a.shape, bool) if is_closed else ~((a > 0) | ((a == 0) & (b > 0)))
+        # a x + b y + c / grid >= 0 at whole x and y is the same with c rounded down; above 0, rounded up and less one
+        self.sides = np.stack([a, b, np.where(strict, -(-c // self.grid) - 1, c // self.grid)], -1)
+        p, q, r = whole[:, 0].astype(float), whole[:, 1].astype(float), whole[:, 2].astype(float)
+        u, v, zu, zv = q - p, r - p, z[:, 1] - z[:, 0], z[:, 2] - z[:, 0]
+        self.slope = np.stack([zu * v[:, 1] - zv * u[:, 1], zv * u[:, 0] - zu * v[:, 0]], -1) / self.area[:, None] * self.grid
+        self.base = p / self.grid
+        self.low = np.maximum(-(-whole.min(1) // self.grid), 0)
+        self.high = np.minimum(whole.max(1) // self.grid, np.array(size) - 1)
+
+    def depth(self, which: Array, x: Array, y: Array) -> Array:
+        value = self.z[which, 0] + self.slope[which, 0] * (x - self.base[which, 0]) + self.slope[which, 1] * (y - self.base[which, 1])
+        depth: Array = np.clip(value, self.z[which].min(-1), self.z[which].max(-1))
+        return depth
+
+    def spans(self) -> Iterator[tuple[Array, Array, Array]]:
+        """Triangle, x and y of each pixel that is covered, a batch at a time. Exact, by division of whole numbers."""
+        live = np.flatnonzero((self.low <= self.high).all(1))
+        tall = (self.high - self.low)[live, 1] + 1
+        for rows in cuts_of(tall):
+            own, count = live[rows], tall[rows]
+            which = np.repeat(own, count)
+            y = np.arange(len(which)) - np.repeat(np.cumsum(count) - count, count) + self.low[which, 1]
+            left, right = self.low[which, 0].copy(), self.high[which, 0].copy()
+            for k in range(3):
+                a, rest = self.sides[which, k, 0], self.sides[which, k, 1] * y + self.sides[which, k, 2]
+                safe = np.where(a == 0, 1, a)
+                left = np.where(a > 0, np.maximum(left, -(rest // safe)), left)
+                right = np.where(a < 0, np.minimum(right, rest // -safe), np.where((a == 0) & (rest < 0), -1, right))
+            wide = np.maximum(right - left + 1, 0)
+            for cut in cuts_of(wide):
+                w, n = which[cut], wide[cut]
+                x = np.arange(n.sum()) - np.repeat(np.cumsum(n) - n, n) + np.repeat(left[cut], n)
+                yield np.repeat(w, n), x, np.repeat(y[cut], n)
+
+
+def cuts_of(wide: Array) -> Iterator[slice]:
+    ends, start = np.cumsum(wide), 0
+    while start < len(wide):
+        base = ends[start - 1] if start else 0
+        stop = max(start + 1, int(np.searchsorted(ends, base + ROWS, "right")))
+        yield slice(start, stop)
+        start = stop
+
+
+# ---- what is seen ----
+def nearest(triangles: Triangles, size: Sequence[int]) -> tuple[Array, Array]:
+    """The depth of the nearest triangle at each pixel, infinite for none, and its place in `triangles`; of two with one depth that which
+    looks to the eye."""
+    best, who = np.full(size[0] * size[1], np.inf), np.full(size[0] * size[1], NONE)
+    for which, x, y in triangles.spans():
+        z, at = triangles.depth(which, x, y) + FILM * (triangles.way[which] > 0), y * size[0] + x
+        order = np.lexsort((z, at))
+        first = order[np.flatnonzero(np.diff(at[order], prepend=-1))] if len(order) else order
+        won = first[z[first] < best[at[first]]]
+        best[at[won]], who[at[won]] = z[won], which[won]
+    return best, who
+
+
+def first_inside(tree: Any, leaves: Sequence[Any], owner: Array, triangles: Triangles, size: Sequence[int]) -> tuple[Array, Array, Array]:
+    """The same for an expression of closed meshes: at each pixel the first crossing behind which the expression holds. A mesh is where
+    its surface winds around a point. The third is the leaf that is at the near plane where the expression holds there, else none."""
+    parts = [(which, y * size[0] + x, triangles.depth(which, x, y)) for which, x, y in triangles.spans()]
+    which, at, z = (np.concatenate(part) for part in zip(*parts)) if parts else (np.zeros(0, int),) * 3
+    order = np.lexsort((triangles.way[which], z, at))
+    which, at, z = which[order], at[order], z[order]
+    starts = np.flatnonzero(np.diff(at, prepend=-1))
+    count = np.diff(np.append(starts, len(at)))
+    ends = starts + count - 1
+    way, leaf = -triangles.way[which], owner[triangles.numbers[which]]
+    after: dict[int, Array] = {}
+    at_start: dict[int, Array] = {}
+    for number, own in enumerate(leaves):
+        total = np.cumsum(np.where(leaf == number, way, 0))
+        last = np.repeat(total[ends], count)
+        after[id(own)] = total != last            # behind the last crossing a closed mesh is over: the winding there is 0
+        at_start[id(own)] = np.append(0, total[ends[:-1]])[:len(starts)] != total[ends]
+    holds, begins = holding(tree, after), holding(tree, at_start)
+    slack = (np.abs(triangles.slope).sum(1) / triangles.grid)[which] + FILM
+    room = np.append(z[1:] - z[:-1], np.inf)
+    room[ends] = np.inf
+    holds &= room > slack + np.append(slack[1:], 0)
+    found = np.flatnonzero(holds)
+    best, who = np.full(size[0] * size[1], np.inf), np.full(size[0] * size[1], NONE)
+    best[at[found[::-1]]], who[at[found[::-1]]] = z[found[::-1]], which[found[::-1]]
+    caps = np.full(size[0] * size[1], NONE)
+    for number, own in enumerate(leaves):
+        caps[at[starts[begins & at_start[id(own)] & (caps[at[starts]] == NONE)]]] = number
+    return best, who, caps
+
+
+def holding(tree: Any, states: dict[int, Array]) -> Array:
+    """Where an expression holds, by where its leaves do."""
+    if not isinstance(tree, tuple):
+        return states[id(tree)].copy()
+    out = holding(tree[1][0], states)
+    for part in tree[1][1:]:
+        if tree[0] == "+":
+            out |= holding(part, states)
+        elif tree[0] == "*":
+            out &= holding(part, states)
+        else:
+            out &= ~holding(part, states)
+    return out
+
+
+def ends_of(parts: Sequence[Any], size: Sequence[int], bits: Sequence[int]) -> tuple[Array, Array]:
+    """The first cell of convex solids at each pixel, and the cell at which the last ends, by their planes as a scene has them; infinite
+    and below 0 where there is none. Each part is a list of (kind, (A, B, C))."""
+    x, y = np.meshgrid(np.arange(size[0]), np.arange(size[1]))
+    first, last = np.full(x.shape, np.inf), np.full(x.shape, -1.0)
+    unit = 1 << bits[1]
+    for planes in parts:
+        low, high, there = np.zeros(x.shape), np.full(x.shape, float((1 << bits[0]) - 1)), np.ones(x.shape, bool)
+        for kind, (a, b, c) in planes:
+            value = a * x + b * y + c
+            if kind == "side":
+                there &= value >= 0
+            elif kind == "front":
+                np.maximum(low, -(-value // unit), out=low)
+            else:
+                np.minimum(high, -(-value // unit), out=high)
+        there &= low < high
+        first = np.where(there, np.minimum(first, low), first)
+        last = np.where(there, np.maximum(last, high), last)
+    return first, last
+
+
+def unlike(leaf: Any, parts: Sequence[Any], view: Any, size: Sequence[int], bits: Sequence[int], rounded: float,
+           digit: float) -> tuple[int, Any]:
+    """At how many pixels the convex parts of a mesh do not begin or end where its own triangles do, and the first of them. What is beside
+    an edge by less than 0.02 pixels, or by what the digits of its points leave open, is not counted."""
+    lens, cells = lens_of(view), (1 << bits[0]) - 1
+    seen, numbers, _ = in_view(lens, lens.seen(corners_of(leaf)))
+    places = lens.placed(seen)
+    zoom = lens.focal / lens.near if lens.perspective else lens.focal
+    beside, deep = max(0.02, 2 * digit * zoom), 2 * digit * lens.steep / (lens.near ** 2 if lens.perspective else 1)
+    ours = ends_of(parts, size, bits)
+    wrong = np.zeros(ours[0].shape, bool)
+    for own, way in zip(ours, (1, -1)):
+        theirs = []
+        for right, down in ((0, 0), (1, 1), (1, -1), (-1, 1), (-1, -1)):
+            moved = (places + np.array((right * beside, down * beside, 0))) * np.array((1, 1, way))
+            best, _ = nearest(Triangles(moved, numbers, size, True), size)
+            theirs.append(np.ceil(np.clip(way * best.reshape(own.shape), -1, cells)))
+        low, high, room = np.min(theirs, 0), np.max(theirs, 0), 1 + rounded + deep
+        is_there = (own >= 0) & (own < cells) if way == 1 else own >= 0
+        none = cells if way == 1 else -1
+        wrong |= ~is_there & (np.array(theirs) != none).all(0) & (high - low < cells / 2) & (low < cells - room) & (high > room)
+        wrong |= is_there & ((own < low - room) | (own > high + room)) & (own > room) & (own < cells - room)
+    found = np.argwhere(wrong)
+    return len(found), tuple(found[0][::-1].tolist()) if len(found) else None
+
+
+# ---- columns and scenes ----
+class Column(NamedTuple):
+    """The planes of a column in the whole picture, what it shows, and the box of the pixels at which it is seen."""
+
+    planes: list[Plane]
+    number: int
+    box: Window
+
+
+def box_planes(box: Window) -> list[Plane]:
+    return [("side", 1, 0, -box[0]), ("side", -1, 0, box[2]), ("side", 0, 1, -box[1]), ("side", 0, -1, box[3])]
+
+
+class Seen:
+    """What is seen of triangles: `best` and `who` at each pixel."""
+
+    def __init__(self, triangles: Triangles, best: Array, who: Array, size: Sequence[int], bits: Sequence[int]) -> None:
+        self.triangles, self.size, self.parts = triangles, size, 1 << bits[1]
+        self.best, self.who = best.reshape(size[1], size[0]), who.reshape(size[1], size[0])
+
+    def boxes(self) -> tuple[Array, Array]:
+        """Of each triangle the box of the pixels at which it is seen."""
+        y, x = np.nonzero(self.who >= 0)
+        own = self.who[y, x]
+        low, high = np.full((len(self.triangles.numbers), 2), 1 << 30), np.full((len(self.triangles.numbers), 2), -1)
+        for axis, value in ((0, x), (1, y)):
+            np.minimum.at(low[:, axis], own, value)
+            np.maximum.at(high[:, axis], own, value)
+        return low, high
+
+    def columns(self, is_cut: bool) -> tuple[list[Column], float]:
+        """The columns, and by how many cells the worst plane is rounded. Where something is cut away or intersected, a column
+        is parted until it is nowhere nearer than what is seen."""
+        t = self.triangles
+        low, high = self.boxes()
+        keep = np.flatnonzero(high[:, 0] >= 0)
+        middle = (t.low[keep] + t.high[keep]) / 2
+        plane = np.rint(t.slope[keep] * self.parts)
+        is_steep = (np.abs(plane) > limits.MAX_SLOPE).any(1)
+        bound = np.abs(t.slope[keep] * self.parts - plane)
+        bound = (bound * np.maximum(middle - t.low[keep], t.high[keep] - middle)).sum(1) + 0.5
+        value = t.z[keep, 0] + (t.slope[keep] * (middle - t.base[keep])).sum(1)
+        constant = np.rint(value * self.parts - (plane * middle).sum(1))
+        out: list[Column] = []
+        for i, own in enumerate(keep.tolist()):
+            box: Window = (*low[own].tolist(), *high[own].tolist())
+            number = int(t.numbers[own])
+            if is_steep[i]:
+                out += self.of_pixels(own, number, box)
+                continue
+            planes: list[Plane] = [("front", int(plane[i, 0]), int(plane[i, 1]), int(constant[i]))]
+            planes += [("side", a, b, c) for a, b, c in t.sides[own].tolist()]
+            if not is_cut:
+                out.append(Column(planes, number, box))
+            else:
+                out += [Column(planes + box_planes(part), number, part) for part in self.parted(own, box)]
+        return out, float(bound[~is_steep].max() / self.parts) if (~is_steep).any() else 0.0
+
+    def of_pixels(self, own: int, number: int, box: Window) -> list[Column]:
+        """A triangle too steep for a front: a column a pixel, with the depth there."""
+        out = []
+        y, x = np.nonzero(self.who[box[1]:box[3] + 1, box[0]:box[2] + 1] == own)
+        for px, py in zip((x + box[0]).tolist(), (y + box[1]).tolist()):
+            pixel = (px, py, px, py)
+            out.append(Column([("front", 0, 0, round(float(self.best[py, px]) * self.parts)), *box_planes(pixel)], number, pixel))
+        return out
+
+    def parted(self, own: int, box: Window) -> list[Window]:
+        """Boxes of a triangle's pixels in which its column is nowhere nearer than what is seen."""
+        x0, y0, x1, y1 = box
+        who, t = self.who[y0:y1 + 1, x0:x1 + 1], self.triangles
+        rows, columns = np.flatnonzero((who == own).any(1)), np.flatnonzero((who == own).any(0))
+        if not len(rows):
+            return []
+        x0, x1, y0, y1 = x0 + int(columns[0]), x0 + int(columns[-1]), y0 + int(rows[0]), y0 + int(rows[-1])
+        x, y = np.arange(x0, x1 + 1), np.arange(y0, y1 + 1)[:, None]
+        covers = np.ones((y1 - y0 + 1, x1 - x0 + 1), bool)
+        for a, b, c in t.sides[own]:
+            covers &= a * x + b * y + c >= 0
+        value = t.z[own, 0] + t.slope[own, 0] * (x - t.base[own, 0]) + t.slope[own, 1] * (y - t.base[own, 1])
+        if not (covers & (value < self.best[y0:y1 + 1, x0:x1 + 1] - NEARER)).any():
+            return [(x0, y0, x1, y1)]
+        if x1 - x0 >= y1 - y0:
+            middle = (x0 + x1) // 2
+            halves = [(x0, y0, middle, y1), (middle + 1, y0, x1, y1)]
+        else:
+            middle = (y0 + y1) // 2
+            halves = [(x0, y0, x1, middle), (x0, middle + 1, x1, y1)]
+        return [part for half in halves for part in self.parted(own, half)]
+
+
+class Scene(NamedTuple):
+    """The text of a scene in a window of the picture, and what each of its solids shows."""
+
+    window: Window
+    text: str
+    numbers: Array
+
+
+def scenes_of(columns: list[Column], bits: Sequence[int]) -> list[Scene]:
+    """Scenes of 255 columns each: what is near together in the picture is in one scene, so that its window is small."""
+    if not columns:
+        return []
+    boxes = np.array([column.box for column in columns])
+    big = ((boxes[:, 2:] - boxes[:, :2]) > BIG).any(1)
+    centre = (boxes[:, :2] + boxes[:, 2:]) // 2
+    key = np.zeros(len(boxes), np.int64)
+    for bit in range(10):
+        key |= (centre[:, 0] >> bit & 1) << 2 * bit | (centre[:, 1] >> bit & 1) << 2 * bit + 1
+    order = np.lexsort((key, big))
+    out = []
+    for half in (order[~big[order]], order[big[order]]):
+        for i in range(0, len(half), limits.MAX_SOLIDS):
+            part = half[i:i + limits.MAX_SOLIDS]
+            window: Window = (*boxes[part, :2].min(0).tolist(), *boxes[part, 2:].max(0).tolist())
+            own = [columns[j] for j in part]
+            out.append(Scene(window, text_of(window, bits, own), np.array([column.number for column in own])))
+    return out
+
+
+def text_of(window: Window, bits: Sequence[int], columns: list[Column]) -> str:
+    x0, y0, x1, y1 = window
+    lines = ["pxscene 3", "picture %d %d" % (x1 - x0 + 1, y1 - y0 + 1), "depth %d %d" % tuple(bits)]
+    for at, column in enumerate(columns):
+        lines.append("solid t%d 200 180 120" % at)
+        for kind, a, b, c in column.planes:
+            # a side that holds all over the window is left out; one that passes through it keeps C within the limit
+            if kind != "side" or c + min(a * x0, a * x1) + min(b * y0, b * y1) < 0:
+                lines.append("%s %d %d %d" % (kind, a, b, c + a * x0 + b * y0))
+    return "\n".join(lines + ["show " + union(["t%d" % at for at in range(len(columns))]), "end", ""])
+
+
+def union(names: list[str]) -> str:
+    half = len(names) // 2
+    return names[0] if len(names) == 1 else "(%s + %s)" % (union(names[:half]), union(names[half:]))
+
+
+def drawn(scene: Scene, path: str) -> tuple[Array, Array]:
+    """Both maps of a scene by the program."""
+    status, output, note = program.answer(path, ["render"], scene.text.encode())
+    if status != 0:
+        raise Trouble(note or "the program ends with %d" % status)
+    maps = []
+    for _ in range(2):
+        head = output.split(b"\n", 3)
+        width, height = map(int, head[1].split())
+        raw = np.frombuffer(head[3][:3 * width * height], np.uint8).reshape(height, width, 3).astype(np.int64)
+        maps.append(raw[..., 0] << 16 | raw[..., 1] << 8 | raw[..., 2])
+        output = head[3][3 * width * height:]
+    return maps[0], maps[1]
+
+
+class Drawing(NamedTuple):
+    """A picture: `depths` by rows, `cells` for the background; `shown` has the triangle that shows at each pixel, and -1 for none;
+    what the near plane cuts shows as a number from the count of triangles on. `rounded` is in cells."""
+
+    depths: Array
+    shown: Array
+    corners: Array
+    owner: Array
+    lens: Lens
+    rounded: float
+    columns: int
+    scenes: int
+
+    def maps(self) -> bytes:
+        """The depths and the faces as Netpbm's maps, three bytes a pixel; a face is the number of a triangle, from 1."""
+        return b"".join(b"P6\n%d %d\n255\n" % numbers.shape[::-1] + np.stack([numbers >> 16, numbers >> 8, numbers], -1).astype(
+            np.uint8).tobytes() for numbers in (self.depths, self.shown + 1))
+
+    def colours(self, of_leaves: Sequence[Sequence[int]], background: tuple[int, int, int] = (255, 255, 255)) -> list[tuple[int, ...]]:
+        """The colours by rows: that of each triangle's leaf, lighter the more it looks to the light."""
+        u, v = self.corners[:, 1] - self.corners[:, 0], self.corners[:, 2] - self.corners[:, 0]
+        normal = np.cross(u, v) @ self.lens.rows.T
+        seen = self.lens.seen(self.corners[:, 0]) if self.lens.perspective else np.array([0.0, 0.0, 1.0])
+        normal *= np.where((normal * seen).sum(1) > 0, -1, 1)[:, None] / np.maximum(np.linalg.norm(normal, axis=1), 1e-300)[:, None]
+        light = DULL + (1 - DULL) * np.maximum(0, normal @ LIGHTEST)
+        own = np.array(of_leaves)
+        faces = np.rint(own[self.owner] * light[:, None]).astype(int)
+        table = np.concatenate([faces, own, [background]])          # the background is the last: number -1
+        return [tuple(colour) for colour in table[self.shown].reshape(-1, 3).tolist()]
+
+
+def draw(tree: Any, leaves: Sequence[Any], view: Any, size: Sequence[int], bits: Sequence[int], path: Optional[str] = None,
+         jobs: int = 2) -> Drawing:
+    """The picture of an expression of the leaves of `solids`. `Trouble` where what must be closed is open."""
+    lens, cells = lens_of(view), (1 << bits[0]) - 1
+    corners = np.concatenate([corners_of(leaf) for leaf in leaves])
+    owner = np.repeat(np.arange(len(leaves)), [len(corners_of(leaf)) for leaf in leaves])
+    seen, numbers, is_before = in_view(lens, lens.seen(corners))
+    is_cut = is_before or has_cuts(tree)
+    for leaf in leaves if is_cut else ():
+        if not is_closed(corners_of(leaf)):
+            raise Trouble("%s is not closed near %.6g %.6g %.6g, and what is cut or intersected must be" % (
+                leaf.name(), *open_place(corners_of(leaf))))
+    triangles = Triangles(lens.placed(seen), numbers, size, not is_cut)
+    if is_cut:
+        best, who, caps = first_inside(tree, leaves, owner, triangles, size)
+        best[caps != NONE], who[caps != NONE] = 0, NONE
+    else:
+        best, who = nearest(triangles, size)
+    columns, rounded = Seen(triangles, best, who, size, bits).columns(is_cut)
+    scenes = scenes_of(columns, bits)
+    depths, shown = np.full(size[::-1], cells), np.full(size[::-1], NONE)
+    if is_cut:
+        cap = caps.reshape(size[::-1])
+        depths[cap != NONE], shown[cap != NONE] = 0, len(corners) + cap[cap != NONE]
+    place = path or program.needed(None)
+    with concurrent.futures.ThreadPoolExecutor(jobs) as pool:
+        for scene, (deep, face) in zip(scenes, pool.map(lambda one: drawn(one, place), scenes)):
+            x0, y0, x1, y1 = scene.window
+            at = np.s_[y0:y1 + 1, x0:x1 + 1]
+            near = deep < depths[at]
+            depths[at][near] = deep[near]
+            shown[at][near] = scene.numbers[(face[near] - 1) // 2]    # each column has two faces: the near one and its front
+    return Drawing(depths, shown, corners, owner, lens, rounded, len(columns), len(scenes))
+
+
+def has_cuts(tree: Any) -> bool:
+    """Whether something is taken away, or intersected."""
+    return isinstance(tree, tuple) and (tree[0] != "+" or any(map(has_cuts, tree[1])))

@@ -1,0 +1,85 @@
+"""Where the rays of a picture meet the triangles of a mesh, clean or not, in double precision: what a
+kernel's result has at a pixel. It knows nothing of half-spaces or of the expression."""
+import math
+
+from pxplanes.mesh import facets
+
+WHOLE, FOREVER = 1e-6, 2.0 ** 40
+
+
+class Crossings:
+    """A mesh as a picture has it. `seen` are its points as column, row (downwards) and depth in cells; a
+    facet goes round to the left where it is seen from outside."""
+
+    def __init__(self, seen, sides):
+        self.pieces, self.lists, self.spans_at = {}, {}, {}
+        for side in sides:
+            for i in range(1, len(side) - 1):
+                corners = [tuple(seen[at]) for at in (side[0], side[i], side[i + 1])]
+                rows = [corner[1] for corner in corners]
+                for row in range(math.floor(min(rows)), math.floor(max(rows)) + 1):
+                    self.lists.setdefault(row, []).append(corners)
+
+    def row(self, y):
+        """The pieces of triangles on a row: from and to a column, without it, the depths there, and 1
+        where a ray goes in, -1 where it comes out."""
+        if y not in self.pieces:
+            found = (piece_of(corners, y) for corners in self.lists.get(math.floor(y), ()))
+            self.pieces[y] = [piece for piece in found if piece]
+        return self.pieces[y]
+
+    def spans(self, x, y):
+        """Where a ray is inside, from and to: where it went in more often than it came out; to FOREVER where it
+        does not come out again."""
+        if (x, y) not in self.spans_at:
+            ends = sorted((depth + (x - left) * slope, way)
+                          for left, right, depth, slope, way in self.row(y) if left <= x < right)
+            count, out = 0, []
+            for at, way in ends:
+                if count <= 0 < count + way:
+                    start = at
+                elif count + way <= 0 < count:
+                    out.append((start, at))
+                count += way
+            self.spans_at[x, y] = out + ([(start, FOREVER)] if count > 0 else [])
+        return self.spans_at[x, y]
+
+    def depth(self, x, y, cut, far, grow=0):
+        """The first cell from `cut` on that stands inside, each span longer by `grow` at both ends; `far` for none."""
+        for low, high in self.spans(x, y):
+            first = max(cut, math.ceil(low - grow - WHOLE))
+            if first < min(far, math.ceil(high + grow - WHOLE)):
+                return first
+        return far
+
+
+def piece_of(corners, y):
+    """The piece of a triangle on a row. Both ends of an edge that two triangles share are taken in one
+    order, so that no ray passes between them, nor meets both."""
+    ends = {}
+    for i, corner in enumerate(corners):
+        before = corners[i - 1]
+        if (before[1] <= y) != (corner[1] <= y):
+            low, high = sorted((before, corner))
+            part = (y - low[1]) / (high[1] - low[1])
+            ends[before[1] <= y] = low[0] + part * (high[0] - low[0]), low[2] + part * (high[2] - low[2])
+    if len(ends) < 2 or ends[True][0] == ends[False][0]:
+        return None
+    (left, depth), (right, other) = sorted(ends.values())
+    return left, right, depth, (other - depth) / (right - left), 1 if ends[True][0] < ends[False][0] else -1
+
+
+def open_edges(sides):
+    """How many edges are not passed as often one way as the other."""
+    ways = {}
+    for side in sides:
+        for i, at in enumerate(side):
+            edge = side[i - 1], at
+            ways[edge] = ways.get(edge, 0) + 1
+    return sum(ways.get((b, a), 0) < count for (a, b), count in ways.items() if a != b)
+
+
+def outwards(points, sides):
+    """The facets, turned where they look inwards; and whether they were."""
+    is_inwards = bool(sides) and facets.volume(points, sides) < 0
+    return ([side[::-1] for side in sides] if is_inwards else sides), is_inwards

@@ -1,0 +1,363 @@
+"""Reads what OpenSCAD exports as .csg into a tree of convex solids: what `model` draws from."""
+import functools
+import os
+import re
+
+from pxplanes import ends
+from pxplanes.mesh import mesh_files
+from pxplanes.mesh import openscad
+from pxplanes.mesh import primitives
+from pxplanes.mesh import shaping
+from pxplanes.mesh import solids
+from pxplanes.errors import Trouble
+from pxplanes.mesh.solids import AS_IS, joined
+
+TOKEN = re.compile(r'\s+|//[^\n]*|/\*.*?\*/|([A-Za-z_$][A-Za-z0-9_$]*)|'
+                   r'([-+]?(?:\d+\.?\d*|\.\d+)(?:[eE][-+]?\d+)?)|("(?:[^"\\]|\\.)*")|(.)', re.S)
+DEEPEST = 200
+MARKS = "%*#!"
+JOINS = {"union": "+", "group": "+", "render": "+", "color": "+", "multmatrix": "+",
+         "difference": "-", "intersection": "*"}
+SOLIDS = ("cube", "cylinder", "sphere", "polyhedron", "import")
+FLAT = ("square", "circle", "polygon")
+SHAPERS = ("hull", "minkowski", "linear_extrude", "rotate_extrude", "resize")
+YELLOW = (249, 215, 44)
+LEFT_OUT = object()
+
+
+class Untaken(Trouble):
+    """A node that is not taken here, though OpenSCAD may make a mesh of what it is in."""
+
+
+class Flat:
+    """A convex flat shape by its corners."""
+
+    def __init__(self, corners):
+        self.corners = corners
+        self.points = [(x, y, 0.0) for x, y in corners]
+
+
+class Place:
+    """Where a statement stands: its matrix and colour, whether shapes are flat there, how deep it
+    is, and whether another node makes a shape of it."""
+
+    def __init__(self, matrix=AS_IS, colour=None, flat=False, depth=0, is_inside=False):
+        self.matrix, self.colour, self.flat, self.depth, self.is_inside = matrix, colour, flat, depth, is_inside
+
+    def below(self, matrix=None, colour=None):
+        return Place(matrix or self.matrix, colour or self.colour, self.flat, self.depth + 1, self.is_inside)
+
+    def inside(self, flat):
+        return Place(AS_IS, self.colour, flat, self.depth + 1, True)
+
+
+class Reader:
+    """Reads statements into trees, as solids.py has them."""
+
+    def __init__(self, text, folder):
+        self.text, self.folder = text, folder or "."
+        self.tokens, self.at = [], 0
+        line = 1
+        for match in TOKEN.finditer(text):
+            if match.lastindex:
+                self.tokens.append((match.lastindex, match.group(), line, match.start()))
+            line += match.group().count("\n")
+        self.last = line
+
+    def line(self):
+        return self.tokens[self.at][2] if self.at < len(self.tokens) else self.last
+
+    def bad(self, what, line=None, kind=Trouble):
+        return kind("line %d: %s" % (line or self.line(), what))
+
+    def peek(self):
+        return self.tokens[self.at][1] if self.at < len(self.tokens) else ""
+
+    def take(self, wanted=None):
+        word = self.peek()
+        if not word or wanted and word != wanted:
+            raise self.bad("%s is due, and not %s" % (wanted or "more", word or "the end"))
+        self.at += 1
+        return word
+
+    def value(self, depth=0, is_time=False):
+        kind, word = self.tokens[self.at][:2] if self.at < len(self.tokens) else (0, "")
+        if word == "[" and depth < DEEPEST:
+            self.take()
+            values = []
+            while self.peek() != "]":
+                values.append(self.value(depth + 1))
+                if self.peek() != "]":
+                    self.take(",")
+            self.take("]")
+            return values
+        self.take()
+        if kind == 2:
+            number = float(word)
+            if not abs(number) <= 1e9 and not is_time:
+                raise self.bad("%s is too large" % word)
+            return number
+        if kind == 3 or word in ("true", "false", "undef"):
+            return {"true": True, "false": False, "undef": None}.get(word, word)
+        raise self.bad("a value is due, and not %s" % word)
+
+    def arguments(self):
+        """The arguments by name; those without one by their place."""
+        found = {}
+        self.take("(")
+        while self.peek() != ")":
+            name = len(found)
+            if self.at + 1 < len(self.tokens) and self.tokens[self.at + 1][1] == "=":
+                name = self.take()
+                self.take("=")
+            found[name] = self.value(is_time=name == "timestamp")
+            if self.peek() != ")":
+                self.take(",")
+        self.take(")")
+        return found
+
+    def statements(self, end, place):
+        trees = []
+        while self.peek() != end:
+            if self.peek() == ";":
+                self.take()
+            else:
+                tree = self.statement(place)
+                trees += [tree] if tree is not LEFT_OUT else []
+        return trees
+
+    def statement(self, place):
+        if place.depth > DEEPEST:
+            raise self.bad("it nests deeper than %d" % DEEPEST)
+        marks = ""
+        while self.peek() and self.peek() in MARKS:
+            marks += self.take()
+        line, start = self.line(), self.at
+        if "%" in marks or "*" in marks:
+            self.take()
+            self.skipped()
+            return LEFT_OUT
+        if "!" in marks:
+            raise self.bad("the mark ! is not read", line)
+        try:
+            return self.node(place, line)
+        except Untaken as untaken:
+            if place.is_inside or place.flat or self.tokens[start + 1:start + 2] and self.tokens[start + 1][1] != "(":
+                raise
+            return self.by_openscad(start, place, line, untaken)
+
+    def by_openscad(self, start, place, line, why):
+        """The tree of a node's mesh, where OpenSCAD makes one."""
+        self.at = start
+        name = self.take()
+        self.skipped()
+        if not openscad.is_there():
+            raise Trouble("%s; openscad could make a mesh of it, and is not there" % why)
+        stop = self.tokens[self.at][3] if self.at < len(self.tokens) else len(self.text)
+        try:
+            mesh = openscad.mesh_of(self.text[self.tokens[start][3]:stop], self.folder)
+            tree = solids.Mesh("part", line, lambda: mesh, YELLOW, "%s; of the mesh of %s: %%s" % (str(why).replace("%", "%%"), name))
+            ends.say("pxplanes convert", "line %d: %s is drawn as the mesh that openscad makes of it" % (line, name))
+            return self.put(tree, place)
+        except Trouble as bad:
+            raise Trouble("%s; of the mesh of %s: %s" % (why, name, bad))
+
+    def node(self, place, line):
+        name = self.take()
+        known = FLAT if place.flat else SOLIDS
+        if name not in JOINS and name not in SHAPERS and name not in known:
+            kind = Trouble if name in FLAT or re.match(r"[^A-Za-z_$]", name) else Untaken
+            say = "is flat, and linear_extrude makes a solid of it" if name in FLAT else (
+                "is not read here: only %s are" % ", ".join(list(JOINS) + list(SHAPERS) + list(known)))
+            raise self.bad("%s %s" % (name, say), line, kind)
+        found = self.arguments()
+        try:
+            if name in known:
+                self.take(";")
+                return self.primitive(name, found, place, line)
+            if name in SHAPERS:
+                return self.shaped(name, found, place, line)
+            return joined(JOINS[name], self.body(self.changed(name, found, place)))
+        except (KeyError, TypeError, ValueError, IndexError, AttributeError, ZeroDivisionError):
+            raise self.bad("%s has arguments that are not understood" % name, line)
+
+    def body(self, place):
+        if self.peek() == ";":
+            self.take()
+            return []
+        self.take("{")
+        trees = self.statements("}", place)
+        self.take("}")
+        return trees
+
+    def skipped(self):
+        """Passes over the arguments and the body of a node, whose name is taken."""
+        depth = 0
+        while depth or self.peek() not in (";", "{"):
+            depth += {"(": 1, "{": 1, ")": -1, "}": -1}.get(self.take(), 0)
+        if self.take() == "{":
+            depth = 1
+            while depth:
+                depth += {"{": 1, "}": -1}.get(self.take(), 0)
+
+    def changed(self, name, found, place):
+        if name == "multmatrix":
+            own = [[float(part) for part in row[:4]] for row in found[0][:3]]
+            return place.below(matrix=solids.times(place.matrix, own))
+        if name == "color" and place.colour is None and found.get(0) is not None:
+            return place.below(colour=tuple(min(255, max(0, round(255 * part))) for part in found[0][:3]))
+        return place.below()
+
+    def put(self, tree, place):
+        """A tree at its place, in its colour."""
+        return solids.each(tree, lambda solid: solid.moved(place.matrix, place.colour or YELLOW))
+
+    def primitive(self, name, found, place, line):
+        try:
+            if place.flat:
+                return self.flat(name, found, place, line)
+            if name == "import":
+                tree = self.imported(found, line)
+            else:
+                shape = primitives.solid(name, found)
+                tree = shape and (self.polyhedron(shape, line) if name == "polyhedron" else solids.of_mesh(
+                    name, line, *shape, YELLOW, is_exact=True))
+            return self.put(tree, place)
+        except Untaken:
+            raise
+        except Trouble as bad:
+            raise self.bad("%s %s" % (name, bad), line)
+
+    def imported(self, found, line):
+        path = os.path.join(self.folder, found["file"][1:-1])
+        kind = os.path.splitext(path)[1][1:].lower()
+        if kind not in mesh_files.READERS:
+            raise self.bad("import of .%s is not read here: only .off, .stl, .obj, .ply and .3mf are" % kind, line, Untaken)
+        try:
+            data = ends.content(path)
+        except OSError:
+            raise Trouble("of %s, which cannot be read" % path)
+        return of_mesh_file(kind, data, line, "line %d: import %%s" % line)
+
+    def polyhedron(self, shape, line):
+        return solids.Mesh("polyhedron", line, lambda: shape, YELLOW, "line %d: polyhedron %%s" % line,
+                           divide=lambda points, sides, colour, line: solids.of_mesh("polyhedron", line, points, sides, colour))
+
+    def flat(self, name, found, place, line):
+        if name == "polygon" and found.get("paths") and len(found["paths"]) > 1:
+            raise self.bad("polygon of several paths is not read here", line, Untaken)
+        if name == "polygon" and found.get("paths"):
+            found["points"] = [found["points"][int(at)] for at in found["paths"][0]]
+        corners = primitives.flat(name, found)
+        pieces = shaping.convex_pieces(corners) if corners else []
+        return joined("+", [flat_at(Flat(piece), place.matrix) for piece in pieces if piece])
+
+    def shaped(self, name, found, place, line):
+        """The tree of a node that makes other shapes of those in it."""
+        of_flat = place.flat or name.endswith("extrude")
+        if place.flat and name.endswith("extrude"):
+            raise self.bad("%s is no flat shape" % name, line)
+        trees = self.body(place.inside(of_flat))
+        try:
+            tree = getattr(self, name)(trees, found, place, line)
+        except Untaken:
+            raise
+        except Trouble as bad:
+            kind = Untaken if "scipy" in str(bad) else Trouble
+            raise self.bad("%s %s" % (name, bad), line, kind)
+        return solids.each(tree, lambda flat: flat_at(flat, place.matrix)) if place.flat else self.put(tree, place)
+
+    def convex(self, name, tree, flat, line):
+        """The convex shapes that a tree is the union of; a hull needs the points of its meshes alone."""
+        if not flat and (name == "minkowski" or "*" in solids.signs(tree)):
+            tree = solids.divided(tree)
+        if "-" in solids.signs(tree) or flat and "*" in solids.signs(tree):
+            raise self.bad("%s of a difference, or of flat shapes that intersect, is not read here" % name,
+                           line, Untaken)
+        return solids.convex_parts(tree, solids.met)
+
+    def hull(self, trees, found, place, line):
+        parts = self.convex("hull", joined("+", trees), place.flat, line)
+        return self.hulled("hull", [point for part in parts for point in part.points], place, line)
+
+    def hulled(self, name, points, place, line):
+        if not points:
+            return None
+        if place.flat:
+            corners = shaping.flat_hull([point[:2] for point in points])
+            return Flat(corners) if corners else None
+        return solids.Solid(name, line, *shaping.hull(points), YELLOW)
+
+    def minkowski(self, trees, found, place, line):
+        parts = None
+        for tree in trees:
+            own = self.convex("minkowski", tree, place.flat, line)
+            if tree is None:
+                continue
+            parts = own if parts is None else [
+                self.hulled("minkowski", shaping.sums(one.points, other.points), place, line)
+                for one in parts for other in own]
+        return joined("+", parts or [])
+
+    def resize(self, trees, found, place, line):
+        tree = joined("+", trees)
+        parts = self.convex("resize", tree, place.flat, line)
+        if not parts:
+            return None
+        low = [min(point[i] for part in parts for point in part.points) for i in range(3)]
+        high = [max(point[i] for part in parts for point in part.points) for i in range(3)]
+        factors = resized(found["newsize"], found["auto"], [b - a for a, b in zip(low, high)])
+        matrix = [[factors[i] * (i == j) for j in range(3)] + [0] for i in range(3)]
+        return solids.each(tree, lambda part: flat_at(part, matrix) if place.flat
+                           else part.moved(matrix, part.colour))
+
+    def linear_extrude(self, trees, found, place, line):
+        scale = found.get("scale", [1, 1])
+        scale = scale if isinstance(scale, list) else [scale, scale]
+        if found.get("twist") or scale[0] != scale[1]:
+            raise self.bad("linear_extrude with a twist, or with two scales, is not read here", line, Untaken)
+        if found["height"] <= 0:
+            return None
+        return solids.each(joined("+", trees), lambda flat: solids.of_mesh(
+            "prism", line, *shaping.prism(flat.corners, found["height"], scale, found.get("center")), YELLOW))
+
+    def rotate_extrude(self, trees, found, place, line):
+        tree = joined("+", trees)
+        flats = [flat for flat, _ in solids.leaves(tree)]
+        least = min((x for flat in flats for x, _ in flat.corners), default=0)
+        most = max((x for flat in flats for x, _ in flat.corners), default=0)
+        angle = max(-360.0, min(360.0, found.get("angle", 360)))
+        if least < 0:
+            raise self.bad("rotate_extrude of what is left of the axis is not read here", line, Untaken)
+        count = primitives.fragments(most, primitives.settings(found))
+        count = max(int(count * abs(angle) / 360), 1)
+        return solids.each(tree, lambda flat: joined("+", [
+            solids.of_mesh("turned", line, *mesh, YELLOW)
+            for mesh in shaping.turned(flat.corners, angle, count, abs(angle) == 360)]))
+
+
+def resized(wanted, auto, size):
+    """By how much each axis grows, as OpenSCAD's resize has it."""
+    wanted, auto = list(wanted) + [0, 0], list(auto) + [0, 0]
+    factors = [want / have if want > 0 and have > 0 else None for want, have in zip(wanted, size)]
+    free = factors[max(range(3), key=lambda i: wanted[i])] or 1
+    return [factor or (free if by_itself else 1) for factor, by_itself in zip(factors, auto)]
+
+
+def flat_at(flat, matrix):
+    """A flat shape under a matrix."""
+    points = solids.placed(matrix, flat.points)
+    corners = [(x, y) for x, y, _ in points]
+    return Flat(corners if shaping.area(corners) > 0 else corners[::-1])
+
+
+def read(data, folder):
+    """The tree of a .csg file of that folder."""
+    reader = Reader(data.decode("latin-1"), folder)
+    return joined("+", reader.statements("", Place()))
+
+
+def of_mesh_file(kind, data, line=0, words="%s"):
+    """The mesh of a file's bytes."""
+    return solids.Mesh("part", line, functools.cache(lambda: mesh_files.READERS[kind](data)), YELLOW, words,
+                       functools.cache(lambda: mesh_files.soup(kind, data)))

@@ -1,0 +1,533 @@
+"""From points and facets to convex solids: the planes of a convex one, and the convex parts of one
+that is not. A facet is a list of the numbers of its points; a plane is the normal, of length 1 and
+out of the solid, and its distance from the origin. Points are as exact as the digits that their file has."""
+import math
+from fractions import Fraction
+
+from pxplanes.scene import limits
+from pxplanes.errors import Trouble
+
+SIX_DIGITS = 5e-6
+SINGLE = 6e-8
+EXACT = 1e-10
+NEAR = 6
+SLIM = 0.02
+TRIED = 24
+JUDGES = 60
+MOST_EFFORT = 1000000
+MOST_CUTS = 400
+GRID = 40
+FEW = 64
+RAY = (0.5377, 0.2963, 0.7893)
+REACH = 1e8
+
+
+def dot(one, other):
+    return one[0] * other[0] + one[1] * other[1] + one[2] * other[2]
+
+
+def lengthwise(normal):
+    return math.sqrt(dot(normal, normal))
+
+
+def area_normal(points):
+    """The normal of a polygon, as long as twice its area (Newell's sum)."""
+    normal = [0.0, 0.0, 0.0]
+    for i, a in enumerate(points):
+        b = points[(i + 1) % len(points)]
+        normal[0] += (a[1] - b[1]) * (a[2] + b[2])
+        normal[1] += (a[2] - b[2]) * (a[0] + b[0])
+        normal[2] += (a[0] - b[0]) * (a[1] + b[1])
+    return normal
+
+
+def plane_of(points):
+    """The plane of a polygon, and its height over its longest edge; None without area."""
+    normal = area_normal(points)
+    length = lengthwise(normal)
+    longest = max(math.dist(a, points[i - 1]) for i, a in enumerate(points))
+    if length < 1e-12 or longest < 1e-12:
+        return None
+    normal = [part / length for part in normal]
+    return normal, sum(dot(normal, point) for point in points) / len(points), length / longest
+
+
+def in_order(corners, normal):
+    """The corners of a convex polygon on a plane, one after another round it."""
+    if len(corners) < 3:
+        return []
+    middle = [sum(corner[i] for corner in corners) / len(corners) for i in range(3)]
+    along, across = axes_on(normal)
+
+    def turn(corner):
+        out = [a - b for a, b in zip(corner, middle)]
+        return math.atan2(dot(across, out), dot(along, out))
+
+    return sorted(corners, key=turn)
+
+
+def extent(points):
+    """The greatest coordinate, and the greatest width along an axis."""
+    size = max(max(abs(part) for part in point) for point in points) or 1
+    return size, max(max(p[i] for p in points) - min(p[i] for p in points) for i in range(3)) or 1
+
+
+def middle_of(points):
+    return [sum(point[i] for point in points) / len(points) for i in range(3)]
+
+
+class Cloud:
+    """Points in boxes within boxes, so that the farthest ones along a way are found without asking each."""
+
+    def __init__(self, points):
+        self.points, self.halves = points, ()
+        self.low, self.high = box_of(points)
+        if len(points) > FEW:
+            axis = max(range(3), key=lambda i: self.high[i] - self.low[i])
+            own = sorted(points, key=lambda point: point[axis])
+            self.halves = Cloud(own[:len(own) // 2]), Cloud(own[len(own) // 2:])
+
+    def room(self, way):
+        """No point is farther along a way than this."""
+        x, y, z = way
+        low, high = self.low, self.high
+        return x * (high[0] if x > 0 else low[0]) + y * (high[1] if y > 0 else low[1]) + z * (high[2] if z > 0 else low[2])
+
+    def beyond(self, way, far):
+        """The points that are as far along a way, or farther."""
+        if self.room(way) < far:
+            return []
+        if not self.halves:
+            return [point for point in self.points if dot(way, point) >= far]
+        return [point for half in self.halves for point in half.beyond(way, far)]
+
+    def farthest(self, way, known=-math.inf):
+        """How far along a way the farthest point is, or what is known, where that is farther."""
+        if self.room(way) <= known:
+            return known
+        if not self.halves:
+            return max(known, max(dot(way, point) for point in self.points))
+        for half in sorted(self.halves, key=lambda half: -half.room(way)):
+            known = half.farthest(way, known)
+        return known
+
+
+class Found:
+    """The planes that are found, each once, with those of like direction close at hand."""
+
+    def __init__(self):
+        self.planes, self.by_way = [], {}
+
+    def way(self, normal):
+        return tuple(round(part * GRID) for part in normal)
+
+    def add(self, number, plane):
+        self.planes.append((number, plane))
+        self.by_way.setdefault(self.way(plane[0]), []).append(plane)
+
+    def has(self, normal, corners, near):
+        """Whether all corners lie on one plane that looks about the same way."""
+        x, y, z = self.way(normal)
+        return any(all(abs(dot(n, corner) - far) <= near for corner in corners)
+                   for i in (-1, 0, 1) for j in (-1, 0, 1) for k in (-1, 0, 1)
+                   for n, far in self.by_way.get((x + i, y + j, z + k), ()))
+
+
+def measured(points, facets, numbers):
+    """Height, normal, distance, corners and number of each facet with area, the highest first."""
+    middle, out = middle_of(points), []
+    for facet, number in zip(facets, numbers):
+        corners = [points[at] for at in facet]
+        plane = plane_of(corners)
+        if plane:
+            normal, far, high = plane
+            if far < dot(normal, middle):
+                normal, far = [-part for part in normal], -far
+            out.append((high, normal, far, corners, number))
+    return sorted(out, key=lambda facet: -facet[0])
+
+
+def digit_of(points):
+    """By how much a coordinate may be off, of the greatest: written with six digits, or in single precision."""
+    six = all(float("%.6g" % part) == part for point in points for part in point)
+    return SIX_DIGITS if six else SINGLE
+
+
+def beside(point, corners, normal):
+    """How far it is, along a facet's plane, from the nearest of its corners to a point."""
+    ways = [[a - b for a, b in zip(point, corner)] for corner in corners]
+    return math.sqrt(min(max(dot(way, way) - dot(way, normal) ** 2, 0) for way in ways))
+
+
+def planes(points, facets, numbers=None, is_exact=False):
+    """The half-spaces `normal * p <= far` whose common part is the solid, each once, in the order
+    of the facets. `Trouble` where it is flat, open or not convex. Where points are not exact, a facet may be off
+    by what their last digits leave open, the more the slimmer it is and the farther a point is from it;
+    one that is too slim to tell its plane is passed over where the others close the solid without it."""
+    size, wide = extent(points)
+    digit = (EXACT if is_exact else digit_of(points)) * size
+    closed(facets)
+    found, slim, cloud, middle = Found(), [], Cloud(points), middle_of(points)
+    for high, normal, far, corners, number in measured(points, facets, numbers or range(1, len(facets) + 1)):
+        if found.has(normal, corners, NEAR * digit):
+            continue
+        if digit > SLIM * high:
+            slim.append((corners, normal, number))
+            continue
+        if far - dot(normal, middle) <= 2 * digit:
+            deepest = far + cloud.farthest([-part for part in normal])
+            if deepest <= 2 * digit:
+                raise Trouble("is flat: no point is more than %.2g behind its facet %s" % (max(deepest, 0), number))
+        for point in cloud.beyond(normal, far + digit):
+            before = dot(normal, point) - far
+            if before > 2 * digit and before > 2 * digit * (1 + beside(point, corners, normal) / high):
+                raise Trouble("is not convex: a point is %.2g before its facet %s" % (cloud.farthest(normal) - far, number))
+        found.add(number, (normal, far))
+    if len(found.planes) < 4 and slim:
+        raise Trouble("is too thin for the digits of its points, which are off by up to %.2g where it is: facet %s; "
+                  "write it nearer to the origin, or with more digits" % (
+            digit, slim[0][2]))
+    if len(found.planes) < 4:
+        raise Trouble("has fewer than four planes")
+    by_number = [plane for _, plane in sorted(found.planes)]
+    for corners, normal, number in slim:
+        if bulge(by_number, corners, normal) > SLIM * wide:
+            raise Trouble("has a facet too slim to tell its plane: facet %s" % number)
+    return by_number
+
+
+def bulge(found, corners, normal):
+    """How far it is from the middle of a facet, along its normal, to where the planes end."""
+    middle = [sum(corner[i] for corner in corners) / len(corners) for i in range(3)]
+    return min(((far - dot(n, middle)) / dot(n, normal) for n, far in found
+                if dot(n, normal) > 1e-3), default=math.inf)
+
+
+def flat_facets(points, facets):
+    """The facets, each that is not flat cut into triangles."""
+    size, _ = extent(points)
+    near, out = NEAR * digit_of(points) * size, []
+    for facet in facets:
+        plane = len(facet) > 3 and plane_of([points[at] for at in facet])
+        if plane and any(abs(dot(plane[0], points[at]) - plane[1]) > near for at in facet):
+            out += [[facet[0], facet[i], facet[i + 1]] for i in range(1, len(facet) - 1)]
+        else:
+            out.append(facet)
+    return out
+
+
+def closed(facets):
+    """`Trouble` where an edge is not between two facets."""
+    edges = {}
+    for facet in facets:
+        for i, at in enumerate(facet):
+            edge = frozenset((at, facet[(i + 1) % len(facet)]))
+            edges[edge] = edges.get(edge, 0) + (len(edge) == 2)
+    if any(count % 2 for count in edges.values()):
+        raise Trouble("is not closed")
+
+
+def is_turned_alike(facets):
+    """Whether each edge is passed as often one way as the other."""
+    ways = {}
+    for facet in facets:
+        for i, at in enumerate(facet):
+            edge = at, facet[(i + 1) % len(facet)]
+            if edge[0] != edge[1]:
+                ways[edge] = ways.get(edge, 0) + 1
+    return all(ways.get((b, a)) == count for (a, b), count in ways.items())
+
+
+def volume(points, facets):
+    """Six times the volume; below 0 where the facets look inwards."""
+    return sum(dot(points[facet[0]], area_normal([points[facet[0]], points[facet[i]], points[facet[i + 1]]]))
+               for facet in facets for i in range(1, len(facet) - 1))
+
+
+def exact_volume(polygons):
+    """Six times the volume within polygons that look outwards, as a rational number of their coordinates as they are. It is
+    counted from a corner of theirs, so that a sliver that is left out between them changes it little."""
+    total, origin = Fraction(0), [Fraction(part) for part in polygons[0][0]]
+    for polygon in polygons:
+        a, *rest = ([Fraction(part) - own for part, own in zip(point, origin)] for point in polygon)
+        for b, c in zip(rest, rest[1:]):
+            total += a[0] * (b[1] * c[2] - b[2] * c[1]) + a[1] * (b[2] * c[0] - b[0] * c[2]) + a[2] * (b[0] * c[1] - b[1] * c[0])
+    return total
+
+
+def same_volume(polygons, found, digit):
+    """`Trouble` where convex parts, each as its planes' polygons, do not have the volume of a mesh, within what the digits of its
+    points leave open: the area of its surface by twice the last digit, and a part in a million for the parts' own corners."""
+    whole = exact_volume(polygons)
+    inside = sum((exact_volume(outwards(part)) for part in found), Fraction(0))
+    area = sum(lengthwise(area_normal(polygon)) for polygon in polygons) / 2
+    room = 6 * 2 * digit * area + 1e-6 * abs(float(whole))
+    if abs(inside - whole) > room:
+        raise Trouble("has a volume of %.6g as convex parts and of %.6g as it is, since its facets are too slim for its digits; "
+                      "`pxplanes view` and `pxplanes convert --draw MAPS` draw it undivided" % (
+            float(inside) / 6, float(whole) / 6))
+
+
+def outwards(sides):
+    """The polygons of a convex part, each as its plane looks."""
+    return [polygon if dot(area_normal(polygon), plane[0]) > 0 else polygon[::-1] for plane, polygon in sides]
+
+
+def parts(points, facets):
+    """The meshes of a mesh, each with its facets' numbers in the file: facets that share a point
+    belong together."""
+    above = list(range(len(points)))
+
+    def top(at):
+        while above[at] != at:
+            above[at] = above[above[at]]
+            at = above[at]
+        return at
+
+    for facet in facets:
+        for at in facet[1:]:
+            above[top(at)] = top(facet[0])
+    found = {}
+    for number, facet in enumerate(facets, 1):
+        found.setdefault(top(facet[0]), []).append((number, facet))
+    return [only(points, [facet for _, facet in own]) + ([number for number, _ in own],)
+            for own in found.values()]
+
+
+def hollows(shells):
+    """Meshes that have shells within them which look inwards, each with these in one; and the other shells."""
+    outer = [shell for shell in shells if volume(*shell[:2]) > 0]
+    inner = {id(outside): [] for outside in outer}
+    alone = []
+    for shell in shells:
+        if volume(*shell[:2]) > 0:
+            continue
+        around = [other for other in outer if is_within(shell[0][0], other)]
+        if around:
+            inner[id(min(around, key=lambda other: volume(*other[:2])))].append(shell)
+        else:
+            alone.append(shell)
+    whole = [together([outside] + inner[id(outside)]) for outside in outer if inner[id(outside)]]
+    return whole, [outside for outside in outer if not inner[id(outside)]] + alone
+
+
+def together(shells):
+    """Several meshes as one."""
+    points, facets = [], []
+    for own, turned, _ in shells:
+        facets += [[at + len(points) for at in facet] for facet in turned]
+        points += own
+    return points, facets
+
+
+def is_within(point, shell):
+    """Whether a point is inside of a closed mesh: a ray from it meets an odd number of triangles."""
+    points, facets, _ = shell
+    count = 0
+    for facet in facets:
+        for i in range(1, len(facet) - 1):
+            corners = [[a - b for a, b in zip(points[facet[k]], point)] for k in (0, i, i + 1)]
+            count += meets(RAY, *corners)
+    return count % 2 == 1
+
+
+def meets(way, a, b, c):
+    """Whether a ray from the origin meets a triangle."""
+    cross = [area_normal([[0, 0, 0], one, other]) for one, other in ((a, b), (b, c), (c, a))]
+    signs = [dot(way, normal) for normal in cross]
+    if not (all(sign > 0 for sign in signs) or all(sign < 0 for sign in signs)):
+        return False
+    normal = area_normal([a, b, c])
+    return dot(normal, a) / dot(normal, way) > 0
+
+
+def only(points, facets):
+    """The facets, and the points that they name."""
+    numbers = {at: i for i, at in enumerate(sorted({at for facet in facets for at in facet}))}
+    return [points[at] for at in numbers], [[numbers[at] for at in facet] for facet in facets]
+
+
+def divided(polygon, plane, near):
+    """The pieces of a polygon behind a plane and before it; None for one that is not there."""
+    normal, far = plane
+    rooms = [far - dot(normal, point) for point in polygon]
+    if all(abs(room) <= near for room in rooms):
+        return None, None
+    behind, before = [], []
+    for i, point in enumerate(polygon):
+        here, back = rooms[i], rooms[i - 1]
+        if here * back < 0 and min(abs(here), abs(back)) > near:
+            part = back / (back - here)
+            cut = [a + part * (b - a) for a, b in zip(polygon[i - 1], point)]
+            behind.append(cut)
+            before.append(cut)
+        if here >= -near:
+            behind.append(point)
+        if here <= near:
+            before.append(point)
+    return (behind if max(rooms) > near else None), (before if min(rooms) < -near else None)
+
+
+def best_plane(polygons, near):
+    """Of some polygons' planes that which divides the fewest of some polygons, and then the most evenly."""
+    judges = [polygon for polygon, _ in polygons[::max(1, len(polygons) // JUDGES)]]
+
+    def cost(plane):
+        sides = [divided(polygon, plane, near) for polygon in judges]
+        behind = sum(one is not None for one, _ in sides)
+        before = sum(other is not None for _, other in sides)
+        return behind + before, abs(behind - before) * (before > 0)
+
+    tried = polygons[::max(1, len(polygons) // TRIED)]
+    return min((plane for _, plane in tried), key=cost)
+
+
+def crossed(points, facets, near):
+    """A point where two facets pass through one another, along more than a few times `near`; None where none do."""
+    found = []
+    for facet in facets:
+        for i in range(1, len(facet) - 1):
+            corners = [points[at] for at in (facet[0], facet[i], facet[i + 1])]
+            plane = plane_of(corners)
+            if plane and plane[2] > 4 * near:
+                found.append((corners, plane[:2], *box_of(corners)))
+    found.sort(key=lambda each: each[2][0])
+    before = []
+    for one in found:
+        before = [other for other in before if other[3][0] >= one[2][0]]
+        for other in before:
+            if all(one[2][i] <= other[3][i] and other[2][i] <= one[3][i] for i in (1, 2)):
+                long, point = shared(one, other, near)
+                if long > 4 * near:
+                    return point
+        before.append(one)
+    return None
+
+
+def box_of(points):
+    return [min(point[i] for point in points) for i in range(3)], [max(point[i] for point in points) for i in range(3)]
+
+
+def shared(one, other, near):
+    """How long the line is in which two triangles pass through one another, and where it begins; 0 where they do not."""
+    way = [one[1][0][(i + 1) % 3] * other[1][0][(i + 2) % 3] - one[1][0][(i + 2) % 3] * other[1][0][(i + 1) % 3] for i in range(3)]
+    long = lengthwise(way)
+    spans = long > 1e-3 and [span_of(corners, plane, way, near) for corners, plane in ((one[0], other[1]), (other[0], one[1]))]
+    if not spans or None in spans:
+        return 0, None
+    low, point = max(low for low, _ in spans)
+    return (min(high for _, high in spans)[0] - low) / long, point
+
+
+def span_of(corners, plane, way, near):
+    """Where a plane cuts a triangle that is on both sides of it, the two ends along a way, each as how far
+    it is and its point; None where it is not."""
+    rooms = [plane[1] - dot(plane[0], corner) for corner in corners]
+    if min(rooms) > -near or max(rooms) < near:
+        return None
+    ends = [corner for corner, room in zip(corners, rooms) if abs(room) <= near]
+    for i, room in enumerate(rooms):
+        if room * rooms[i - 1] < 0 and min(abs(room), abs(rooms[i - 1])) > near:
+            part = rooms[i - 1] / (rooms[i - 1] - room)
+            ends.append([a + part * (b - a) for a, b in zip(corners[i - 1], corners[i])])
+    ends = sorted((dot(way, point), point) for point in ends)
+    return ends[0], ends[-1]
+
+
+def cells(points, facets):
+    """The convex parts of a solid, each as its planes and points: its facets' planes divide space,
+    and what is behind a facet and before none is inside. `Trouble` where the facets do not close it, or pass through
+    one another, or where there are more parts than a scene has solids."""
+    closed(facets)
+    if not is_turned_alike(facets):
+        raise Trouble("is not convex, and its facets are not turned alike, so that its inside cannot be told")
+    turned = facets if volume(points, facets) > 0 else [facet[::-1] for facet in facets]
+    size, wide = extent(points)
+    digit = digit_of(points) * size
+    near = NEAR * digit
+    point = crossed(points, turned, near)
+    if point:
+        raise Trouble("passes through itself, at %.4g %.4g %.4g, so that its inside cannot be told; "
+                  "write it as a union of parts that do not" % tuple(part + 0.0 for part in point))
+    polygons = [([points[at] for at in facet], plane_of([points[at] for at in facet])) for facet in turned]
+    polygons = [(polygon, plane[:2]) for polygon, plane in polygons
+                if plane and digit * (2 + 2 * wide / plane[2]) <= SLIM * wide]
+    out, found, todo, effort = [], [], [([], polygons)], 0
+    while todo:
+        path, polygons = todo.pop()
+        effort += len(polygons)
+        if effort > MOST_EFFORT:
+            raise Trouble("has too many facets to be divided into convex parts; say it by differences or unions")
+        normal, far = plane = best_plane(polygons, near)
+        sides = [(divided(polygon, plane, near), own) for polygon, own in polygons]
+        behind = [(side[0], own) for side, own in sides if side[0]]
+        before = [(side[1], own) for side, own in sides if side[1]]
+        if len(polygons) in (len(behind), len(before)) and min(len(behind), len(before)) == 0 or len(path) > MOST_CUTS:
+            raise Trouble("has facets so close to one another that no plane divides them; say it by differences or unions")
+        if before:
+            todo.append((path + [([-part for part in normal], -far)], before))
+        if behind:
+            todo.append((path + [plane], behind))
+        else:
+            sides = sides_of(path + [plane], near)
+            cell = of_sides(sides, near)
+            if cell:
+                out.append(cell)
+                found.append(sides)
+        if len(out) > limits.MAX_SOLIDS:
+            raise Trouble("is not convex, and has more than %d convex parts" % limits.MAX_SOLIDS)
+    same_volume([[points[at] for at in facet] for facet in turned], found, digit)
+    return out
+
+
+def sides_of(half_spaces, near):
+    """Each plane that bounds the common part of half-spaces, with the polygon that it has of it."""
+    kept = []
+    for i, plane in enumerate(half_spaces):
+        polygon = square_on(plane, REACH * near)
+        for k, other in enumerate(half_spaces):
+            if k != i and polygon:
+                polygon = divided(polygon, other, near)[0] or (
+                    polygon if k > i and is_same(plane, other, near) else None)
+        area = plane_of(polygon) if polygon and len(polygon) > 2 else None
+        if area and area[2] > near:
+            kept.append((plane, polygon))
+    return kept
+
+
+def bounded(half_spaces, near):
+    """The planes of a convex solid that bound it, and its corners; None where nothing is inside."""
+    return of_sides(sides_of(half_spaces, near), near)
+
+
+def of_sides(kept, near):
+    """The same of the planes with their polygons."""
+    corners = []
+    for _, polygon in kept:
+        corners += [corner for corner in polygon
+                    if not any(math.dist(corner, other) <= near for other in corners)]
+    if len(kept) < 4 or any(max(abs(part) for part in corner) > REACH / 2 * near for corner in corners):
+        return None
+    return [plane for plane, _ in kept], corners
+
+
+def is_same(one, other, near):
+    return dot(one[0], other[0]) > 1 - 1e-9 and abs(one[1] - other[1]) <= near
+
+
+def axes_on(normal):
+    """Two directions on a plane, square to one another and of length 1."""
+    axis = min(range(3), key=lambda i: abs(normal[i]))
+    along = [float(i == axis) - normal[axis] * normal[i] for i in range(3)]
+    long = lengthwise(along)
+    along = [part / long for part in along]
+    return along, [normal[(i + 1) % 3] * along[(i + 2) % 3] - normal[(i + 2) % 3] * along[(i + 1) % 3]
+                   for i in range(3)]
+
+
+def square_on(plane, wide):
+    """A square of that width, to each side, on a plane."""
+    normal, far = plane
+    along, across = ([wide * part for part in axis] for axis in axes_on(normal))
+    return [[far * normal[i] + one * along[i] + other * across[i] for i in range(3)]
+            for one, other in ((1, 1), (-1, 1), (-1, -1), (1, -1))]

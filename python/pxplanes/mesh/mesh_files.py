@@ -1,0 +1,263 @@
+"""Reads the files OFF, STL, OBJ, PLY and 3MF: what `model` draws from. A mesh is points,
+and facets as lists of the numbers of their points."""
+import io
+import math
+import re
+import struct
+import xml.etree.ElementTree
+import zipfile
+
+from pxplanes.errors import Trouble
+
+LARGEST = 4000000
+
+
+def floats(words, what):
+    try:
+        numbers = [float(word) for word in words]
+    except ValueError:
+        raise Trouble("%s has a word that is no number" % what)
+    if any(not math.isfinite(number) or abs(number) > 1e9 for number in numbers):
+        raise Trouble("%s has a number that is too large" % what)
+    return numbers
+
+
+def read_off(data):
+    """The mesh of an OFF file; colours behind points and facets are passed over."""
+    lines = [line.split("#")[0].split() for line in data.decode("latin-1").split("\n")]
+    lines = [line for line in lines if line]
+    if not lines or not re.fullmatch(r"(ST)?C?N?OFF", lines[0][0]):
+        raise Trouble("this is no OFF file")
+    lines = lines[1:] if len(lines[0]) == 1 else [lines[0][1:]] + lines[1:]
+    counts = [int(number) for number in floats(lines[0][:2] if lines else [], "the head")]
+    if len(counts) != 2 or not all(0 < count <= LARGEST for count in counts):
+        raise Trouble("the head has no counts of points and facets up to %d" % LARGEST)
+    rows = lines[1:1 + counts[0]]
+    points = [floats(row[:3], "a point") for row in rows]
+    if len(points) < counts[0] or any(len(point) < 3 for point in points):
+        raise Trouble("the file has fewer points than its head says")
+    facets = []
+    for row in lines[1 + counts[0]:1 + sum(counts)]:
+        count = int(floats(row[:1], "a facet")[0])
+        facets.append([int(number) for number in floats(row[1:1 + max(count, 0)], "a facet")])
+        if len(facets[-1]) != count:
+            raise Trouble("a facet names a point that is not there")
+    if len(facets) < counts[1]:
+        raise Trouble("the file has fewer facets than its head says")
+    return checked(points, facets)
+
+
+def checked(points, facets):
+    """The mesh, where each facet names three points or more, and all of them are there."""
+    if not points or not facets or len(points) > LARGEST or len(facets) > LARGEST:
+        raise Trouble("the file has no points and facets, or more than %d" % LARGEST)
+    if any(len(facet) < 3 or any(not 0 <= at < len(points) for at in facet) for facet in facets):
+        raise Trouble("a facet names a point that is not there")
+    return points, facets
+
+
+def merged(points, facets):
+    """A mesh in which points at one place have one number."""
+    numbers = {}
+    own = [numbers.setdefault(tuple(point), len(numbers)) for point in points]
+    return [list(point) for point in numbers], [[own[at] for at in facet] for facet in facets]
+
+
+def read_obj(data):
+    """The mesh of an OBJ file: its points and faces; a number below 0 counts from the last point."""
+    points, facets = [], []
+    for line in data.decode("latin-1").replace("\\\n", " ").split("\n"):
+        words = line.split("#")[0].split()
+        if words[:1] == ["v"]:
+            points.append(floats(words[1:4], "a point"))
+        elif words[:1] == ["f"]:
+            numbers = [int(number) for number in floats([word.split("/")[0] for word in words[1:]], "a face")]
+            facets.append([number - 1 if number > 0 else len(points) + number for number in numbers])
+    if any(len(point) < 3 for point in points):
+        raise Trouble("a point has fewer than three numbers")
+    return merged(*checked(points, facets))
+
+
+PLY_FORMS = {"char": "b", "uchar": "B", "short": "h", "ushort": "H", "int": "i", "uint": "I", "float": "f", "double": "d",
+             "int8": "b", "uint8": "B", "int16": "h", "uint16": "H", "int32": "i", "uint32": "I", "float32": "f", "float64": "d"}
+
+
+def read_ply(data):
+    """The mesh of a PLY file, of words or raw."""
+    head, _, body = data.partition(b"end_header")
+    lines = [line.split() for line in head.decode("latin-1").replace("\r", "").split("\n")]
+    try:
+        if lines[0] != ["ply"]:
+            raise Trouble("this is no PLY file")
+        form = next(line[1] for line in lines if line[:1] == ["format"])
+        body = body[body.index(b"\n") + 1:]
+        take = ply_words(body) if form == "ascii" else ply_raw(body, "<" if form == "binary_little_endian" else ">")
+        found, own = {}, None
+        for line in lines:
+            if line[:1] == ["element"]:
+                own = found[line[1]] = (int(line[2]), [])
+            elif line[:1] == ["property"]:
+                own[1].append(line[1:])
+        rows = {name: [ply_row(properties, take) for _ in range(min(count, LARGEST + 1))]
+                for name, (count, properties) in found.items()}
+        points = [[float(row[axis]) for axis in "xyz"] for row in rows["vertex"]]
+        facets = [row.get("vertex_indices", row.get("vertex_index")) for row in rows["face"]]
+        return merged(*checked(points, [[int(at) for at in facet] for facet in facets]))
+    except (IndexError, KeyError, ValueError, TypeError, StopIteration, struct.error):
+        raise Trouble("the PLY file is damaged, or has no points and faces")
+
+
+def ply_words(body):
+    words = iter(body.split())
+    return lambda kind: float(next(words))
+
+
+def ply_raw(body, order):
+    at = [0]
+
+    def take(kind):
+        number = struct.unpack_from(order + PLY_FORMS[kind], body, at[0])[0]
+        at[0] += struct.calcsize(PLY_FORMS[kind])
+        return number
+
+    return take
+
+
+def ply_row(properties, take):
+    out = {}
+    for words in properties:
+        if words[0] == "list":
+            out[words[3]] = [take(words[2]) for _ in range(int(take(words[1])))]
+        else:
+            out[words[1]] = take(words[0])
+    return out
+
+
+PATH = "{http://schemas.microsoft.com/3dmanufacturing/production/2015/06}path"
+
+
+def read_3mf(data):
+    """The meshes of a 3MF file, each at the place that its build gives it; parts may be in files of their own within it."""
+    try:
+        with zipfile.ZipFile(io.BytesIO(data)) as file:
+            names = [name for name in file.namelist() if name.lower().endswith(".model")]
+            roots = {"/" + name: xml.etree.ElementTree.fromstring(file.read(name)) for name in names}
+    except (zipfile.BadZipFile, xml.etree.ElementTree.ParseError, RuntimeError, KeyError):
+        raise Trouble("this is no 3MF file")
+    first = next((name for name, root in roots.items() if any(local(each) == "item" for each in root.iter())), None)
+    if first is None:
+        raise Trouble("this is no 3MF file, or its build has no item")
+    objects = {(name, each.get("id")): each for name, root in roots.items() for each in root.iter() if local(each) == "object"}
+    points, facets = [], []
+
+    def add(place, name, matrices, depth):
+        each = objects.get((place, name))
+        if each is None or depth > 16:
+            raise Trouble("the 3MF file names an object that is not there")
+        first = len(points)
+        own = list(each.iter())
+        points.extend(placed(floats([vertex.get(axis, "x") for axis in "xyz"], "a point"), matrices)
+                      for vertex in own if local(vertex) == "vertex")
+        facets.extend([first + int(triangle.get(corner, "-1")) for corner in ("v1", "v2", "v3")]
+                      for triangle in own if local(triangle) == "triangle")
+        for part in own:
+            if local(part) == "component":
+                add(part.get(PATH, place), part.get("objectid"), [part.get("transform")] + matrices, depth + 1)
+
+    try:
+        for item in roots[first].iter():
+            if local(item) == "item":
+                add(item.get(PATH, first), item.get("objectid"), [item.get("transform")], 0)
+    except ValueError:
+        raise Trouble("the 3MF file has a triangle that is none")
+    return merged(*checked(points, facets))
+
+
+def local(element):
+    """The name of an element without its namespace."""
+    return element.tag.rpartition("}")[2]
+
+
+def placed(point, matrices):
+    """A point under matrices of twelve numbers, column by column as 3MF has them, the innermost first."""
+    for words in filter(None, matrices):
+        m = floats(words.split(), "a transform")
+        if len(m) != 12:
+            raise Trouble("a transform has twelve numbers")
+        point = [sum(point[k] * m[3 * k + i] for k in range(3)) + m[9 + i] for i in range(3)]
+    return point
+
+
+def of_triangles(corners):
+    numbers = {}
+    facets = [[numbers.setdefault(tuple(corner), len(numbers)) for corner in corners[i:i + 3]]
+              for i in range(0, len(corners), 3)]
+    return [list(point) for point in numbers], facets
+
+
+def raw_triangles(data):
+    """How many triangles a raw STL file has, whatever its header says and whatever follows them; 0 where it is one of words."""
+    count = struct.unpack("<I", data[80:84])[0] if len(data) >= 84 else 0
+    is_whole = 0 < count and len(data) >= 84 + 50 * count
+    is_words = data[:5].lower() == b"solid" and b"vertex" in data[:2000].lower()
+    return count if is_whole and (len(data) == 84 + 50 * count or not is_words) else 0
+
+
+def soup(kind, data):
+    """The triangles of STL files and of OFF files of triangles as a NumPy array, N by 3 corners by 3 numbers; None for others, or
+    where NumPy is not there."""
+    try:
+        import numpy
+    except ImportError:
+        return None
+    if kind == "stl" and raw_triangles(data):
+        form = numpy.dtype([("normal", "<f4", 3), ("corners", "<f4", (3, 3)), ("more", "<u2")])
+        found = numpy.frombuffer(data, form, raw_triangles(data), 84)["corners"].astype(float)
+    elif kind == "stl":
+        words = [line.split()[1:4] for line in data.split(b"\n") if line.lstrip()[:6].lower() == b"vertex"]
+        try:
+            found = numpy.array(words, dtype=float).reshape(-1, 3, 3)
+        except ValueError:
+            return None
+    elif kind == "off" and b"#" not in data:
+        words = data.split()
+        if len(words) < 4 or words[0] != b"OFF" or not (words[1] + words[2]).isdigit():
+            return None
+        points, faces = int(words[1]), int(words[2])
+        try:
+            rest = numpy.array(words[4:], dtype=float)
+        except ValueError:
+            return None
+        tail = rest[3 * points:]
+        if points == 0 or faces == 0 or len(tail) != 4 * faces or (tail[::4] != 3).any():
+            return None
+        numbers = tail.reshape(-1, 4)[:, 1:].astype(int)
+        if numbers.min() < 0 or numbers.max() >= points:
+            return None
+        found = rest[:3 * points].reshape(-1, 3)[numbers]
+    else:
+        return None
+    return found if found.size and numpy.isfinite(found).all() and abs(found).max() <= 1e9 else None
+
+
+def read_stl(data):
+    """The mesh of an STL file, of words or raw."""
+    if raw_triangles(data):
+        count = min(raw_triangles(data), LARGEST + 1)
+        corners = [struct.unpack("<3f", data[84 + 50 * i + 12 * k:96 + 50 * i + 12 * k])
+                   for i in range(count) for k in (1, 2, 3)]
+        corners = [floats(corner, "a corner") for corner in corners]
+    else:
+        lines = [line.split() for line in data.decode("latin-1").split("\n")]
+        lines = [line for line in lines if line]
+        if not lines or lines[0][0].lower() != "solid":
+            raise Trouble("this is no STL file")
+        corners = [floats(line[1:4], "a corner") for line in lines if line[0].lower() == "vertex"]
+    if not corners or len(corners) % 3 or any(len(corner) != 3 for corner in corners):
+        raise Trouble("the file has no whole triangles")
+    if len(corners) > 3 * LARGEST:
+        raise Trouble("the file has more than %d triangles" % LARGEST)
+    return of_triangles(corners)
+
+
+READERS = {"off": read_off, "stl": read_stl, "obj": read_obj, "ply": read_ply, "3mf": read_3mf}

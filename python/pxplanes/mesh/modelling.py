@@ -1,0 +1,567 @@
+"""Makes a scene's text of a model; docs/MODELLING.md explains each step."""
+import copy
+import importlib.util
+import math
+import os
+from dataclasses import dataclass
+from typing import Optional, Sequence
+
+from pxplanes.mesh import bounding
+from pxplanes.mesh import csg
+from pxplanes.mesh import facets
+from pxplanes import ends
+from pxplanes.errors import Trouble
+from pxplanes.scene import limits
+from pxplanes.mesh import openscad
+from pxplanes.mesh import perspective
+from pxplanes.scene import rays
+from pxplanes.scene import scenes
+from pxplanes.mesh import solids
+from pxplanes.mesh import views
+
+# The bits of a depth and its fraction bits, where the model is not in perspective and no others are asked.
+USUAL_DEPTH = (12, 8)
+SIDE_SIZE = 2 ** 20
+LIGHT = (-0.42, -0.74, 0.53)
+DULL = 0.35
+KINDS_OF_PLANES = ("front", "back", "side")
+KINDS = ("csg", "scad", "off", "stl", "obj", "ply", "3mf")
+PROJECTIONS = {"o": False, "ortho": False, "p": True, "perspective": True}
+OF_PERSPECTIVE = ("eye", "at", "fov", "near", "far")
+LEAST_DEPTH_BITS = 12
+BESIDE = 0.001
+LEAST_COLUMNS = 8
+
+
+def spelled(tree, names):
+    """The expression of a tree; long unions and intersections become balanced."""
+    if not isinstance(tree, tuple):
+        return names[id(tree)]
+    sign, trees = tree
+    return halved(sign, [spelled(part, names) for part in trees])
+
+
+def halved(sign, parts):
+    if len(parts) == 1:
+        return parts[0]
+    half = len(parts) // 2
+    return "(%s %s %s)" % (halved(sign, parts[:half]), sign, halved(sign, parts[half:]))
+
+
+def value(form, place):
+    return form[0] * place[0] + form[1] * place[1] + form[2]
+
+
+def rounded(form, parts, low, high):
+    """A plane in whole parts of a cell, true in the middle of these corners; and by how many cells
+    it is off at the worst of them."""
+    a, b = (round(part * parts) for part in form[:2])
+    middle = [(one + other) / 2 for one, other in zip(low[:2], high)]
+    c = round(value(form, middle) * parts - a * middle[0] - b * middle[1])
+    corners = [(x, y) for x in (low[0], high[0]) for y in (low[1], high[1])]
+    off = max(abs(value((a, b, c), corner) / parts - value(form, corner)) for corner in corners)
+    return (a, b, c), off
+
+
+def whole_side(form):
+    """A side in whole numbers, as exact as they may be."""
+    factor = SIDE_SIZE / max(abs(form[0]), abs(form[1]))
+    factor = min(factor, (limits.MAX_CONSTANT - 1) / max(abs(form[2]), 1e-9))
+    return tuple(round(part * factor) for part in form)
+
+
+def shaded(colour, normal, view):
+    """A colour by the way that a surface looks: light comes from the upper left."""
+    right, away, up = view.turned(normal)
+    light = max(0, right * LIGHT[0] + away * LIGHT[1] + up * LIGHT[2])
+    return tuple(round(part * (DULL + (1 - DULL) * light)) for part in colour)
+
+
+class Steep(Trouble):
+    """A plane too steep for a front or a back, whose face is at some pixel."""
+
+
+def is_steep(form, parts):
+    """Whether a plane cannot be a front or a back. It is taken for a side, if its face is at no pixel."""
+    return max(abs(form[0]), abs(form[1])) * parts > limits.MAX_SLOPE
+
+
+def pixel_of(form, places, size):
+    """A pixel at which a steep plane passes between the least and the greatest depth of its corners, which are at these places; None
+    for none."""
+    a, b, c = form
+    along = 0 if abs(a) >= abs(b) else 1
+    depths = [value(form, place) for place in places]
+    low, high = ([end(place[i] for place in places) for i in (0, 1)] for end in (min, max))
+    other = 1 - along
+    for at in range(max(0, math.ceil(low[other])), min(size[other] - 1, math.floor(high[other])) + 1):
+        ends = sorted((depth - form[other] * at - c) / form[along] for depth in (min(depths), max(depths)))
+        first = math.ceil(max(ends[0], low[along], 0))
+        if first <= min(ends[1], high[along], size[along] - 1):
+            return (first, at) if along == 0 else (at, first)
+    return None
+
+
+def planes_of(solid, view, parts, flat):
+    """Kind, plane and colour of each of a solid's planes, and the worst rounding of one with what it is."""
+    out, worst, counts = [], (0, ""), {}
+    for number, (normal, far) in enumerate(solid.planes):
+        kind, form = view.half_space(normal, far)
+        low, high = view.where(normal, far)
+        if kind != "side" and is_steep(form, parts):
+            places = view.places(solid.corners[number])
+            at = pixel_of(form, places, view.size) if places else None
+            if at:
+                raise Steep("%s: a plane that is too steep for a %s is seen at x %d, y %d; --depth W F with fewer bits makes it less steep, "
+                            "and `pxplanes convert --draw MAPS` draws it at any depth" % (solid.name(), kind, *at))
+            a, b, c = form[0], form[1], form[2] - (low[2] + high[2]) / 2
+            kind, form = "side", (-a, -b, -c) if kind == "front" else (a, b, c)
+        counts[kind] = counts.get(kind, 0) + 1
+        if kind == "side":
+            out.append((kind, whole_side(form), ()))
+            continue
+        plane, off = rounded(form, parts, low, high)
+        worst = max(worst, (off, "%s %d" % (kind, counts[kind])))
+        outward = normal if kind == "front" else [-part for part in normal]
+        out.append((kind, plane, solid.colour if flat else shaded(solid.colour, outward, view)))
+    return out, worst
+
+
+def box_of(places):
+    """The columns and the rows of the box of a solid's corners in the picture, from and to; None where it
+    is too far away to be written."""
+    if not places or max(abs(part) for place in places for part in place) > limits.MAX_SLOPE:
+        return None
+    return [(math.ceil(min(parts) - BESIDE), math.floor(max(parts) + BESIDE)) for parts in zip(*places)]
+
+
+def sides_of_box(box):
+    """The sides of a box, where planes that are nearly one would leave it far away."""
+    (left, right), (top, bottom) = box
+    return [("side", side, ()) for side in ((1, 0, -left), (-1, 0, right), (0, 1, -top), (0, -1, bottom))]
+
+
+class Laid:
+    """A solid as a scene has it: its planes, the box that is kept around it, if any, and its worst rounding
+    of a plane with what that is. `counts` says how many planes of each kind are written."""
+
+    def __init__(self, solid, planes, worst, box):
+        self.solid, self.planes, self.worst = solid, planes + (sides_of_box(box) if box else []), worst
+        self.counts = {kind: sum(own == kind for own, _, _ in self.planes) for kind in KINDS_OF_PLANES}
+        self.parts = max(1, *(-(-count // limits.MAX_PLANES_OF_A_KIND) for count in self.counts.values()))
+        self.faces = self.parts + self.counts["front"] + self.counts["back"]
+
+    def lines(self, name):
+        """Its lines, and how its names are joined. One with more planes of a kind than a solid may have is
+        the common part of several, each with some of the planes of every way."""
+        names = [name] if self.parts == 1 else ["%s_%d" % (name, part + 1) for part in range(self.parts)]
+        own = [["solid %s %d %d %d" % ((each,) + self.solid.colour)] for each in names]
+        given = dict.fromkeys(self.counts, 0)
+        for kind, plane, colour in self.planes:
+            own[given[kind] % self.parts].append(" ".join(map(str, (kind,) + plane + colour)))
+            given[kind] += 1
+        return [line for lines in own for line in lines], halved("*", names)
+
+    def met(self, view, choices, columns, is_first):
+        """The same by the planes alone that bound it, or its first cell, at some pixel of these columns; None where it is beside them."""
+        (width, height), (depth, fraction) = choices.size, choices.bits
+        box = box_of(view.places(self.solid.points)) or [(0, width - 1), (0, height - 1)]
+        box = [(max(low, least), min(high, most)) for (low, high), (least, most) in zip(box, (columns, (0, height - 1)))]
+        if any(low > high for low, high in box):
+            return None
+        needed = bounding.needed([plane[:2] for plane in self.planes], 2 ** depth - 1, fraction, box, is_first)
+        return Laid(self.solid, [plane for number, plane in enumerate(self.planes) if number in needed], self.worst, box)
+
+
+def laid_out(tree, view, choices):
+    """How each solid of a tree is drawn, by its identity."""
+    out = {}
+    for solid, _ in solids.leaves(tree):
+        planes, worst = planes_of(solid, view, 2 ** choices.bits[1], choices.flat)
+        out[id(solid)] = Laid(solid, planes, worst, box_of(view.places(solid.points)) if solid.is_part else None)
+    return out
+
+
+def most_faces(choices):
+    """How many faces a scene of these depths may have."""
+    return min(limits.MAX_FACES, 2 ** ((scenes.BITS - 2) // 2 - sum(choices.bits)) - 1)
+
+
+def is_within(tree, laid, choices):
+    """Whether one scene may have all solids of a tree, and their products."""
+    own = [laid[id(solid)] for solid, _ in solids.leaves(tree)]
+    return (sum(each.parts for each in own) <= choices.solids
+            and sum(each.faces for each in own) <= most_faces(choices)
+            and products(tree, laid) <= limits.MAX_PRODUCTS)
+
+
+def products(tree, laid, added=True):
+    """How many products a tree has, or where it is taken away its complement (docs/PICTURE.md, "Sums of products")."""
+    if not isinstance(tree, tuple):
+        return 1 if added else laid[id(tree)].parts
+    counts = [products(part, laid, added != (tree[0] == "-" and at > 0)) for at, part in enumerate(tree[1])]
+    return sum(counts) if (tree[0] == "+") == added else math.prod(counts)
+
+
+def restricted(tree, laid, view, choices, columns, is_seen):
+    """A tree by the planes that bound its solids at the pixels of these columns, and how it is laid out. Where what is seen is
+    enough, the operands of a union are bounded by what they have in front."""
+    firsts, out = set(map(id, operands(tree))) if is_seen else (), {}
+
+    def within(solid):
+        own = laid[id(solid)].met(view, choices, columns, id(solid) in firsts)
+        if own:
+            solid = copy.copy(solid)
+            out[id(solid)] = own
+        return solid if own else None
+
+    return solids.each(tree, within), out
+
+
+def operands(tree):
+    """The operands of a union, and of unions in it; the tree itself where it is none."""
+    if isinstance(tree, tuple) and tree[0] == "+":
+        return [own for part in tree[1] for own in operands(part)]
+    return [tree]
+
+
+def as_one(tree, view, choices, is_seen=False):
+    """A tree as one scene has it, and how it is laid out: by all planes of its solids, or where these are too many, by
+    those that bound them at some pixel, and at last, where what is seen is enough, by those that bound what is."""
+    laid = laid_out(tree, view, choices)
+    if is_within(tree, laid, choices):
+        return tree, laid
+    for way, what in ((False, "a solid"), (True, "what is seen of a solid"))[:1 + is_seen]:
+        fewer, met = restricted(tree, laid, view, choices, (0, choices.size[0] - 1), way)
+        if fewer and is_within(fewer, met, choices):
+            ends.say("pxplanes convert", "of %d planes, too many for a scene, those %d are drawn that bound %s at some pixel, as %d solids; "
+                     "the picture is the same, and finer or wider ones are not" % (
+                         count_of(laid), count_of(met), what, sum(own.parts for own in met.values())))
+            return fewer, met
+    if fewer and products(fewer, met) > limits.MAX_PRODUCTS:
+        parts = packed(several(fewer, met, view, choices), choices)
+        if len(parts) == 1:
+            ends.say("pxplanes convert", "its %d products are too many for a scene, so that it is drawn as the union of what it is in %d "
+                     "parts of the picture; the picture is the same, and finer or wider ones are not" % (products(fewer, met), len(parts[0][0])))
+            return solids.joined("+", parts[0][0]), parts[0][1]
+    raise Trouble("the model makes no scene: %s; fewer facets or a smaller picture take less, and --out makes several scenes of it" %
+                     too_much(fewer or tree, met if fewer else laid, choices))
+
+
+def too_much(tree, laid, choices):
+    if products(tree, laid) > limits.MAX_PRODUCTS:
+        return "it has %d products, and a scene has at most %d" % (products(tree, laid), limits.MAX_PRODUCTS)
+    return "at the pixels of the picture it has %d solids of %d faces, and a scene has at most %d of %d" % (
+        sum(own.parts for own in laid.values()), sum(own.faces for own in laid.values()),
+        choices.solids, most_faces(choices))
+
+
+def count_of(laid):
+    return sum(len(own.planes) for own in laid.values())
+
+
+def several(tree, laid, view, choices, columns=None):
+    """The trees of scenes whose nearer depths are the picture of a tree, and how each is laid out: the operands of a union
+    one after another, and what is too much for a scene by the planes that bound what is seen, then by halves of the picture."""
+    if is_within(tree, laid, choices):
+        return [(tree, {id(solid): laid[id(solid)] for solid, _ in solids.leaves(tree)})]
+    if isinstance(tree, tuple) and tree[0] == "+" and not columns:
+        parts = [own for part in operands(tree) for own in several(part, laid, view, choices)]
+        return [(solids.joined("+", trees), own) for trees, own in packed(parts, choices)]
+    low, high = columns or (0, choices.size[0] - 1)
+    part, own = restricted(tree, laid, view, choices, (low, high), True)
+    if part is None or is_within(part, own, choices):
+        return [(part, own)] if part else []
+    if high - low < LEAST_COLUMNS:
+        raise Trouble("the model makes no scenes: in columns %d to %d alone, %s; fewer facets or a smaller picture take less" % (
+            low, high, too_much(part, own, choices)))
+    middle = (low + high) // 2
+    return [each for half in ((low, middle), (middle + 1, high)) for each in several(tree, laid, view, choices, half)]
+
+
+def packed(parts, choices):
+    """Trees with how they are laid out, one after another as many together as a scene may have."""
+    out = []
+    for tree, laid in parts:
+        if out and is_within(("+", out[-1][0] + [tree]), {**out[-1][1], **laid}, choices):
+            out[-1][0].append(tree)
+            out[-1][1].update(laid)
+        else:
+            out.append(([tree], dict(laid)))
+    return out
+
+
+def text_of(tree, laid, view, choices, counts):
+    """The text of a tree's scene, and the worst rounding; `counts` has how many solids of each kind have a name."""
+    (width, height), (depth, fraction) = choices.size, choices.bits
+    lines = view.notes() + ["pxscene 3" if fraction else "pxscene 1", "picture %d %d" % (width, height),
+                            "depth %d %d" % (depth, fraction) if fraction else "depth %d" % depth]
+    names, worst = {}, (0, "")
+    for solid, _ in solids.leaves(tree):
+        counts[solid.kind] = counts.get(solid.kind, 0) + 1
+        name = "%s_%d" % (solid.kind, counts[solid.kind])
+        own, names[id(solid)] = laid[id(solid)].lines(name)
+        off, where = laid[id(solid)].worst
+        lines, worst = lines + own, max(worst, (off, where and "%s of %s" % (where, name)))
+    return "\n".join(lines + ["show " + spelled(tree, names), "end", ""]), worst
+
+
+def scene_of(tree, view, choices):
+    """The text of the scene, and the worst rounding."""
+    return text_of(*as_one(tree, view, choices), view, choices, {})
+
+
+def checked(text):
+    try:
+        scene = scenes.read(text.encode())
+        scenes.pixel_memory(scene)
+        return scene
+    except scenes.Refusal as refusal:
+        raise Trouble("the model makes no scene: %s%s" % (
+            refusal.note, "; " + refusal.limit if refusal.limit else ""))
+
+
+@dataclass
+class Choices:
+    """How a model becomes a scene: what the options of `pxplanes convert` say.
+
+    `size` is the picture in pixels, 1 to 512 a side; `depth` has the bits of a depth and its fraction bits; `view` turns the model
+    as OpenSCAD's $vpr does, in degrees; `scale` is pixels to a unit. `camera` has the numbers of OpenSCAD's --camera, 6 or 7;
+    `eye` and `at` are points of the model; `fov` is the picture's height in degrees; `near` and `far` are distances along the axis."""
+
+    view: Sequence[float] = (55.0, 0.0, 25.0)
+    size: Sequence[int] = (128, 96)
+    depth: Optional[Sequence[int]] = None
+    scale: Optional[float] = None
+    camera: Optional[Sequence[float]] = None
+    projection: Optional[str] = None
+    eye: Optional[Sequence[float]] = None
+    at: Optional[Sequence[float]] = None
+    fov: Optional[float] = None
+    near: Optional[float] = None
+    far: Optional[float] = None
+    flat: bool = False
+    kind: Optional[str] = None
+    solids: int = limits.MAX_SOLIDS
+    bits: Sequence[int] = USUAL_DEPTH
+
+    def __post_init__(self) -> None:
+        """Raises `Trouble` for what does not go together, or is out of range."""
+        for name, count in (("size", 2), ("depth", 2), ("view", 3)):
+            given = getattr(self, name)
+            if given is not None and len(given) != count:
+                raise Trouble("%s needs %d numbers" % (name, count))
+        own = [name for name in OF_PERSPECTIVE if getattr(self, name) is not None]
+        word = self.projection or ("p" if own else "o")
+        if own and not PROJECTIONS[word]:
+            raise Trouble("--%s is for --projection p" % own[0])
+        if (self.eye is None) != (self.at is None) or self.eye is not None and self.camera is not None:
+            raise Trouble("--eye and --at go together, and without --camera")
+        if self.eye is not None and self.at is not None:
+            self.camera = [*self.eye, *self.at]
+        if self.camera is not None and self.scale is not None:
+            raise Trouble("--camera says the scale and what the picture has; --scale does not go with it")
+        self.in_perspective = PROJECTIONS[word]
+        if self.in_perspective and self.scale is not None:
+            raise Trouble("--scale is for --projection o")
+        self.bits = list(self.depth or USUAL_DEPTH)
+        depth, fraction = self.bits
+        if not (all(1 <= side <= limits.MAX_PICTURE_SIZE for side in self.size) and 1 <= depth <= limits.MAX_DEPTH_BITS
+                and 0 <= fraction <= min(limits.MAX_FRACTION_BITS, limits.MAX_DEPTH_BITS - depth)
+                and (self.scale is None or self.scale > 0)):
+            raise Trouble("the picture is from 1 to 512 pixels a side, --depth W from 1 to 24, F from 0 to "
+                          "8, both to 24, and a scale above 0")
+        if not 1 <= self.solids <= limits.MAX_SOLIDS:
+            raise Trouble("--solids is a number from 1 to %d" % limits.MAX_SOLIDS)
+
+
+def tree_of(name, kind):
+    """The tree of the convex solids of the model in a file."""
+    return solids.divided(whole_tree(name, kind))
+
+
+def whole_tree(name, kind):
+    """The tree of the model in a file, in which meshes are not divided."""
+    if kind == "scad":
+        return csg.read(openscad.csg_of(name), os.path.dirname(name))
+    if kind == "csg":
+        return csg.read(ends.content(name), os.path.dirname(name))
+    return csg.of_mesh_file(kind, ends.content(name))
+
+
+def wanted_bits(size, faces):
+    """Depth and fraction bits by which no plane is off by more than a cell, and distances are best."""
+    off = (size[0] + size[1] - 2) / 4 + 0.5
+    fraction = min(limits.MAX_FRACTION_BITS, math.ceil(math.log2(off)))
+    return [min(limits.MAX_DEPTH_BITS, (scenes.BITS - 2) // 2 - faces.bit_length()) - fraction, fraction]
+
+
+def before_camera(choices, bits, tree):
+    """The view of the perspective camera that is choices, or of one that has the whole model."""
+    common = (choices.fov, choices.size, 2 ** bits[0] - 1, (choices.near, choices.far), tree)
+    if choices.camera is not None:
+        return perspective.of_camera(choices.camera, *common)
+    return perspective.fitted(choices.view, *common)
+
+
+def in_perspective(choices, tree):
+    """The view of a perspective camera, and the bits that it wants: so few of depth that no plane is
+    too steep which has a face in the picture. They are taken where no others are said."""
+    planes = [plane for solid, _ in solids.leaves(tree) for plane in solid.planes]
+    bits = wanted_bits(choices.size, min(limits.MAX_FACES, len(solids.leaves(tree)) + len(planes)))
+    view = before_camera(choices, bits, tree)
+    forms = [form for kind, form in (view.half_space(*plane) for plane in planes if view.shows(*plane)) if kind != "side"]
+    steepest = 2 ** bits[1] * max((abs(part) for form in forms for part in form[:2]), default=0)
+    if steepest > limits.MAX_SLOPE:
+        bits[0] = max(LEAST_DEPTH_BITS, bits[0] - math.ceil(math.log2(steepest / limits.MAX_SLOPE)))
+        view = before_camera(choices, bits, tree)
+    if not choices.depth:
+        choices.bits = bits
+        return view, bits
+    return before_camera(choices, choices.bits, tree), bits
+
+
+def tell(shown, view, worst, choices, wanted):
+    """Says how the planes were rounded, and what of the model the picture does not have."""
+    off, where = worst
+    if where:
+        ends.say("pxplanes convert", "the worst plane is rounded by %.2g cells of %d within %s: %s" % (
+            off, 2 ** choices.bits[0] - 1, "its face" if wanted else "the picture", where))
+    if wanted:
+        distances = view.camera.distances
+        ends.say("pxplanes convert", "near %.4g, far %.4g; a distance is off by at most %.2g, at far; the picture wants "
+                 "--depth %d %d" % (distances.near, distances.far, (off + 1) * distances.far ** 2 / distances.scale, *wanted))
+    for line in view.cut_off():
+        ends.say("pxplanes convert", line)
+    if not any(map(rays.shows_anything, shown)):
+        ends.say("pxplanes convert", "the picture is empty: %s" % view.why_empty())
+
+
+def read(name, choices):
+    """The tree of the model in a file, in which meshes are not divided."""
+    kind = choices.kind or os.path.splitext(name)[1][1:].lower() or "csg"
+    if kind not in KINDS or kind == "scad" and name == "-":
+        raise Trouble("%s is no .csg, .scad, .off, .stl, .obj, .ply or .3mf; --kind says what it is" % name)
+    return there(whole_tree(name, kind))
+
+
+def there(tree):
+    if tree is None:
+        raise Trouble("the model has no solid")
+    return tree
+
+
+def seen(tree, choices):
+    """How a tree of convex solids is laid into the picture, and the bits that perspective needs."""
+    if choices.in_perspective:
+        return in_perspective(choices, tree)
+    return parallel(tree, choices), None
+
+
+def parallel(tree, choices):
+    """How a tree is laid into the picture without perspective."""
+    far = 2 ** choices.bits[0] - 1
+    if choices.camera is not None:
+        return views.of_camera(choices.camera, choices.size, far, tree)
+    return views.fitted(choices.view, choices.size, choices.scale, far, tree)
+
+
+def made(name, choices):
+    """The text of the scene of the model in a file, and what `tell` is handed to say what there is to say of it."""
+    whole = read(name, choices)
+    tree = there(solids.divided(whole))
+    view, wanted = flatter(tree, choices)
+    looked_at(whole, view, choices)
+    text, worst = text_of(*as_one(tree, view, choices, True), view, choices, {})
+    return text, ([checked(text)], view, worst, choices, wanted)
+
+
+def flatter(tree, choices):
+    """How a tree is laid into the picture; where no depth is asked for, with so few fraction bits that no plane is too steep."""
+    while True:
+        found = seen(tree, choices)
+        try:
+            laid_out(tree, found[0], choices)
+            return found
+        except Steep:
+            if choices.depth or choices.in_perspective or choices.bits[1] == 0:
+                raise
+            choices.bits[1] -= 1
+
+
+def looked_at(whole, view, choices):
+    """`Trouble` where the convex parts of a mesh are not at the pixels of the picture as the mesh is. Without NumPy their volume alone
+    is compared, as each mesh is divided."""
+    meshes = [leaf for leaf, _ in solids.leaves(whole) if isinstance(leaf, solids.Mesh)]
+    if not meshes or importlib.util.find_spec("numpy") is None:
+        return
+    columns = columns_module()
+    for mesh in meshes:
+        laid = list(laid_out(mesh.parts, view, choices).values())
+        rounded = max((own.worst[0] for own in laid), default=0)
+        digit = facets.digit_of(mesh.mesh[0]) * facets.extent(mesh.mesh[0])[0] * solids.growth(mesh.matrix)
+        count, place = columns.unlike(mesh, [[plane[:2] for plane in own.planes] for own in laid], view, choices.size, choices.bits,
+                                      rounded, digit)
+        if count:
+            raise Trouble("%s is not what its convex parts are at %d pixels, the first x %d, y %d; `pxplanes view` and `pxplanes convert "
+                          "--draw MAPS` draw it undivided" % (mesh.name(), count, *place))
+
+
+def made_several(whole, choices):
+    """The texts of scenes whose nearer depths are the picture of a tree in which meshes are not divided, and the same."""
+    tree = there(solids.divided(whole))
+    view, wanted = flatter(tree, choices)
+    looked_at(whole, view, choices)
+    counts, texts, worst = {}, [], (0, "")
+    all_laid = laid_out(tree, view, choices)
+    for part, laid in several(tree, all_laid, view, choices) or [(tree, all_laid)]:
+        text, off = text_of(part, laid, view, choices, counts)
+        texts, worst = texts + [text], max(worst, off)
+    return texts, ([checked(text) for text in texts], view, worst, choices, wanted)
+
+
+def columns_module():
+    """The module `columns`; `Trouble` where NumPy is not there."""
+    try:
+        from pxplanes.mesh import columns
+    except ImportError:
+        raise Trouble("this needs NumPy, which this Python has not (Debian's python3-numpy)") from None
+    return columns
+
+
+def by_columns(tree, choices):
+    """The picture of a tree by columns (docs/MODELLING.md, "Columns"). `Trouble` where NumPy is not there."""
+    columns, leaves = columns_module(), solids.leaves(tree)
+    if choices.in_perspective:
+        choices.bits = list(choices.depth or wanted_bits(choices.size, 2 * limits.MAX_SOLIDS + 2))
+        fov = choices.fov or views.FIELD
+        numbers = choices.camera or perspective.around(choices.view, fov, choices.size, tree)
+        view = columns.Before(numbers, fov, choices.size, 2 ** choices.bits[0] - 1, (choices.near, choices.far), leaves)
+    else:
+        view = parallel(tree, choices)
+    drawing = columns.draw(tree, [leaf for leaf, _ in leaves], view, choices.size, choices.bits)
+    ends.say("pxplanes convert", "drawn by columns: %d triangles, %d columns in %d scenes; a depth is rounded by at most %.2g cells of %d" % (
+        len(drawing.corners), drawing.columns, drawing.scenes, drawing.rounded, 2 ** choices.bits[0] - 1))
+    for line in view.cut_off():
+        ends.say("pxplanes convert", line)
+    if (drawing.shown < 0).all():
+        ends.say("pxplanes convert", "the picture is empty: %s" % view.why_empty())
+    return drawing
+
+
+def portrait(name):
+    """The picture of the model in a file by columns, in perspective, so that it fills the picture; and the colours of its leaves."""
+    choices = Choices(projection="p")
+    tree = read(name, choices)
+    choices.camera, choices.size = columns_module().portrait(solids.leaves(tree), choices.view, views.FIELD)
+    return by_columns(tree, choices), [leaf.colour for leaf, _ in solids.leaves(tree)]
+
+
+def is_one_scene(tree, choices):
+    """Whether the convex solids of a tree, none of which has to be divided, make one scene by all of their planes."""
+    if any(isinstance(leaf, solids.Mesh) for leaf, _ in solids.leaves(tree)):
+        return False
+    try:
+        return is_within(tree, laid_out(tree, seen(tree, choices)[0], choices), choices)
+    except Trouble:
+        return False

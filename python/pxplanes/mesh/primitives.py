@@ -1,0 +1,94 @@
+"""OpenSCAD's primitives as points and facets: what `model` draws from. A facet is a list of the
+numbers of its points."""
+import math
+
+from pxplanes.errors import Trouble
+
+MOST_SIDES = 1000
+
+
+def cube(size, center):
+    low = [-side / 2 if center else 0 for side in size]
+    points = [[low[0] + size[0] * x, low[1] + size[1] * y, low[2] + size[2] * z]
+              for x in (0, 1) for y in (0, 1) for z in (0, 1)]
+    return points, [[0, 1, 3, 2], [4, 6, 7, 5], [0, 4, 5, 1],
+                    [2, 3, 7, 6], [0, 2, 6, 4], [1, 5, 7, 3]]
+
+
+def fragments(radius, settings):
+    """How many sides OpenSCAD gives a circle."""
+    count, angle, length = settings
+    if radius < 1e-9:
+        return 3
+    if count <= 0:
+        count = math.ceil(max(min(360 / angle, radius * 2 * math.pi / length), 5))
+    if count > MOST_SIDES:
+        raise Trouble("has circles of more than %d sides" % MOST_SIDES)
+    return int(max(count, 3))
+
+
+def ring(radius, height, count):
+    turns = [2 * math.pi * i / count for i in range(count)]
+    return [[radius * math.cos(turn), radius * math.sin(turn), height] for turn in turns]
+
+
+def between(first, second, count):
+    """The facets between two rings of points that begin at these numbers."""
+    return [[first + i, first + (i + 1) % count, second + (i + 1) % count, second + i]
+            for i in range(count)]
+
+
+def cylinder(height, below, above, center, settings):
+    count = fragments(max(below, above), settings)
+    low = -height / 2 if center else 0
+    if below <= 0 or above <= 0:
+        base, tip = (low + height, low) if below <= 0 else (low, low + height)
+        points = ring(max(below, above), base, count) + [[0, 0, tip]]
+        return points, [list(range(count))] + [[i, (i + 1) % count, count] for i in range(count)]
+    points = ring(below, low, count) + ring(above, low + height, count)
+    ends = [list(range(count)), list(range(count, 2 * count))]
+    return points, ends + between(0, count, count)
+
+
+def sphere(radius, settings):
+    count = fragments(radius, settings)
+    rings = (count + 1) // 2
+    points, facets = [], []
+    for i in range(rings):
+        turn = math.pi * (i + 0.5) / rings
+        points += ring(radius * math.sin(turn), radius * math.cos(turn), count)
+        if i:
+            facets += between((i - 1) * count, i * count, count)
+    return points, facets + [list(range(count)), list(range((rings - 1) * count, rings * count))]
+
+
+def settings(found):
+    return found.get("$fn", 0), found.get("$fa", 12), found.get("$fs", 2)
+
+
+def solid(name, found):
+    """The points and facets of a primitive by its arguments; None where it has no inside."""
+    if name == "polyhedron":
+        return found["points"], [[int(at) for at in facet] for facet in found["faces"]]
+    if name == "sphere":
+        return sphere(found["r"], settings(found)) if found["r"] > 0 else None
+    if name == "cube":
+        size = found["size"] if isinstance(found["size"], list) else [found["size"]] * 3
+        return cube(size, found.get("center")) if min(size) > 0 else None
+    below, above = found["r1"], found["r2"]
+    if min(found["h"], max(below, above)) <= 0 or min(below, above) < 0:
+        return None
+    return cylinder(found["h"], below, above, found.get("center"), settings(found))
+
+
+def flat(name, found):
+    """The corners of a flat primitive, one after another; None where it has no inside."""
+    if name == "polygon":
+        return [tuple(point[:2]) for point in found["points"]]
+    if name == "circle":
+        corners = ring(found["r"], 0, fragments(found["r"], settings(found)))
+        return [(x, y) for x, y, _ in corners] if found["r"] > 0 else None
+    wide, high = found["size"] if isinstance(found["size"], list) else [found["size"]] * 2
+    left, low = (-wide / 2, -high / 2) if found.get("center") else (0.0, 0.0)
+    corners = [(left, low), (left + wide, low), (left + wide, low + high), (left, low + high)]
+    return corners if min(wide, high) > 0 else None

@@ -1,0 +1,224 @@
+"""Convex solids as `model` places them, and the trees that they are joined to. A tree is None for
+nothing, a solid, or (sign, trees)."""
+import functools
+import itertools
+
+from pxplanes import ends
+from pxplanes.mesh import facets
+from pxplanes.errors import Trouble
+
+AS_IS = [[1, 0, 0, 0], [0, 1, 0, 0], [0, 0, 1, 0]]
+
+
+class Solid:
+    """`points` are its corners, and perhaps others of it; `planes` as in facets.py. One that is a part of
+    another, whose planes may be nearly one, is kept within the box of its corners in the picture."""
+
+    def __init__(self, kind, line, points, planes, colour, is_part=False, sides=None):
+        self.kind, self.line, self.colour, self.is_part = kind, line, colour, is_part
+        self.points, self.planes, self.sides = points, planes, sides
+
+    def name(self):
+        return "line %d: %s" % (self.line, self.kind) if self.line else "the file"
+
+    @functools.cached_property
+    def corners(self):
+        """Of each of its planes the corners on it, in order round it."""
+        cloud = facets.Cloud(self.points)
+        near = facets.NEAR * facets.SIX_DIGITS * max(map(abs, cloud.low + cloud.high))
+        return [facets.in_order([point for point in cloud.beyond(normal, far - near) if facets.dot(normal, point) - far <= near], normal)
+                for normal, far in self.planes]
+
+    def moved(self, matrix, colour):
+        """The solid under a matrix, in this colour; `Trouble` where the matrix makes it flat."""
+        if matrix == AS_IS:
+            return Solid(self.kind, self.line, self.points, self.planes, colour, self.is_part, self.sides)
+        turned, sign = cofactors(matrix)
+        points = placed(matrix, self.points)
+        cloud, planes = facets.Cloud(points), []
+        for normal, _ in self.planes:
+            way = [sign * facets.dot(row, normal) for row in turned]
+            long = facets.lengthwise(way)
+            way = [part / long for part in way]
+            planes.append((way, cloud.farthest(way)))
+        return Solid(self.kind, self.line, points, planes, colour, self.is_part, self.sides)
+
+
+class Mesh:
+    """A mesh at its place, which is divided into convex parts only where these are needed. `read` gives its points and facets, `soup`
+    its triangles as an array, where that is quicker, and `words` says where the mesh is in a refusal."""
+
+    is_part, planes = False, ()
+
+    def __init__(self, kind, line, read, colour, words="%s", soup=None, matrix=AS_IS, divide=None):
+        self.kind, self.line, self.read, self.colour, self.words, self.soup = kind, line, read, colour, words, soup
+        self.matrix, self.divide = matrix, divide or of_file
+
+    def name(self):
+        return "line %d: %s" % (self.line, self.kind) if self.line else "the file"
+
+    @functools.cached_property
+    def mesh(self):
+        try:
+            return self.read()
+        except Trouble as bad:
+            raise Trouble(self.words % bad)
+
+    @functools.cached_property
+    def points(self):
+        found = self.soup and self.soup()
+        if found is not None:
+            from pxplanes.mesh import columns
+            return columns.corners_of(self).reshape(-1, 3)
+        return placed(self.matrix, self.mesh[0])
+
+    @property
+    def sides(self):
+        return self.mesh[1]
+
+    def moved(self, matrix, colour):
+        """The mesh under a matrix, in this colour."""
+        return Mesh(self.kind, self.line, self.read, colour, self.words, self.soup, times(matrix, self.matrix), self.divide)
+
+    def divided(self):
+        """The tree of its convex parts."""
+        try:
+            tree = self.divide(*self.mesh, self.colour, self.line)
+            self.parts = each(tree, lambda solid: solid.moved(self.matrix, self.colour))
+            return self.parts
+        except Trouble as bad:
+            raise Trouble(self.words % bad)
+
+
+def divided(tree):
+    """The tree in which each mesh is its convex parts."""
+    return each(tree, lambda leaf: leaf.divided() if isinstance(leaf, Mesh) else leaf)
+
+
+def placed(matrix, points):
+    """The points under a matrix of three rows of four."""
+    return [[facets.dot(row, point) + row[3] for row in matrix] for point in points]
+
+
+def cofactors(matrix):
+    """What turns normals as the matrix turns points, and the sign of its determinant."""
+    rows = [[matrix[(i + 1) % 3][(j + 1) % 3] * matrix[(i + 2) % 3][(j + 2) % 3]
+             - matrix[(i + 1) % 3][(j + 2) % 3] * matrix[(i + 2) % 3][(j + 1) % 3] for j in range(3)]
+            for i in range(3)]
+    size = facets.dot(matrix[0], rows[0])
+    longest = max(abs(part) for row in matrix for part in row[:3])
+    if abs(size) <= 1e-12 * longest ** 3:
+        raise Trouble("is flat")
+    return rows, 1 if size > 0 else -1
+
+
+def growth(matrix):
+    """By how much a matrix makes lengths greater, at most."""
+    return max(1e-300, sum(part * part for row in matrix for part in row[:3]) ** 0.5)
+
+
+def times(outer, inner):
+    inner = inner + [[0, 0, 0, 1]]
+    return [[sum(outer[row][k] * inner[k][column] for k in range(4)) for column in range(4)]
+            for row in range(3)]
+
+
+def of_mesh(kind, line, points, sides, colour, numbers=None, is_exact=False):
+    """The tree of a mesh: one solid where it is convex, and else the convex parts of it."""
+    flat = facets.flat_facets(points, sides)
+    if len(flat) > len(sides):
+        sides, numbers = flat, None
+    try:
+        return Solid(kind, line, points, planes_of(points, sides, numbers, is_exact), colour, sides=sides)
+    except Trouble as bad:
+        if not str(bad).startswith("is not convex"):
+            raise
+        try:
+            found = facets.cells(points, sides)
+        except Trouble as why:
+            raise Trouble("%s, and its parts are not taken: it %s" % (bad, why))
+        if not found:
+            raise Trouble("%s, and nothing is inside of it" % bad)
+        ends.say("pxplanes convert", "%s: %s %s; it is drawn as %d convex solids" % (
+            "line %d" % line if line else "the file", kind, bad, len(found)))
+    return joined("+", [Solid(kind, line, corners, planes, colour, True) for planes, corners in found])
+
+
+def planes_of(points, sides, numbers, is_exact):
+    """The planes of a convex solid, whose points may be exact although they have six digits."""
+    try:
+        return facets.planes(points, sides, numbers, is_exact)
+    except Trouble as bad:
+        if "too thin for the digits" not in str(bad):
+            raise
+        try:
+            return facets.planes(points, sides, numbers, True)
+        except Trouble:
+            raise bad
+
+
+def of_file(points, sides, colour, line=0):
+    """The tree of a mesh that may have several parts, or shells within others; `line` is that of
+    the node which has it, if any."""
+    shells = facets.parts(points, sides)
+    if len({facets.volume(*shell[:2]) > 0 for shell in shells}) > 1:
+        hollows, shells = facets.hollows(shells)
+        if hollows:
+            return joined("+", [of_mesh("part", line, own, turned, colour) for own, turned in hollows]
+                          + [of_file(*shell[:2], colour, line) for shell in shells])
+    trees = []
+    for number, (own, turned, numbers) in enumerate(shells, 1):
+        try:
+            trees.append(of_mesh("part", line, own, turned, colour, numbers))
+        except Trouble as bad:
+            raise Trouble("solid %d of the file %s" % (number, bad))
+    return joined("+", trees)
+
+
+def joined(sign, trees):
+    """Trees under a sign, where a tree without solids is the empty set."""
+    if sign == "*" and None in trees or sign == "-" and trees[:1] == [None]:
+        return None
+    trees = [tree for tree in trees if tree is not None]
+    if len(trees) < 2:
+        return trees[0] if trees else None
+    if sign == "-":
+        return "-", [trees[0], joined("+", trees[1:])]
+    return sign, trees
+
+
+def each(tree, change):
+    """The tree with what `change` makes of each of its leaves."""
+    if tree is None or not isinstance(tree, tuple):
+        return None if tree is None else change(tree)
+    return joined(tree[0], [each(part, change) for part in tree[1]])
+
+
+def leaves(tree, added=True):
+    """The leaves of a tree in their order, each with whether it is added."""
+    if tree is None or not isinstance(tree, tuple):
+        return [] if tree is None else [(tree, added)]
+    sign, trees = tree
+    return [pair for i, part in enumerate(trees) for pair in leaves(part, added != (sign == "-" and i == 1))]
+
+
+def signs(tree):
+    return {tree[0]}.union(*map(signs, tree[1])) if isinstance(tree, tuple) else set()
+
+
+def convex_parts(tree, meet):
+    """The convex shapes whose union a tree without a difference is; `meet` makes one of several."""
+    if tree is None or not isinstance(tree, tuple):
+        return [] if tree is None else [tree]
+    lists = [convex_parts(part, meet) for part in tree[1]]
+    if tree[0] == "+":
+        return [part for parts in lists for part in parts]
+    return [found for found in map(meet, itertools.product(*lists)) if found]
+
+
+def met(parts):
+    """The common part of convex solids; None where there is none."""
+    size, _ = facets.extent([point for part in parts for point in part.points])
+    found = facets.bounded([plane for part in parts for plane in part.planes],
+                           facets.NEAR * facets.SIX_DIGITS * size)
+    return found and Solid(parts[0].kind, parts[0].line, found[1], found[0], parts[0].colour)

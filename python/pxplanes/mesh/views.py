@@ -1,0 +1,129 @@
+"""Lays a model into a picture: its turn, its scale, and what of it can show. What `model` draws by."""
+import math
+
+from pxplanes.mesh import solids
+from pxplanes.mesh import turns
+from pxplanes.errors import Trouble
+
+FILLS = 0.92
+STEEP = 1e-9
+FIELD = 22.5
+EDGES = ("left", "right", "bottom", "top")
+
+
+class View:
+    """From the model to the picture: right and down in pixels, and away from the eye in cells.
+    `box` bounds what can show, along the picture's right, away and up."""
+
+    def __init__(self, rows, size, far, tree):
+        self.rows, self.size, self.far = rows, size, far
+        box = shown(rows, tree)
+        self.has_common = box is not None
+        low, high = self.box = box or around([box_of(rows, solid.points) for solid, _ in solids.leaves(tree)])
+        self.cells = FILLS * far / max(high[1] - low[1], 1e-9)
+        self.nearest = low[1] - (1 - FILLS) / 2 * far / self.cells
+
+    def placed(self, scale, left, top):
+        """With so many pixels to a unit, and the origin at this place."""
+        self.scale, self.left, self.top = scale, left, top
+        return self
+
+    def turned(self, point):
+        return turns.turned(self.rows, point)
+
+    def places(self, points):
+        """The columns and rows of points."""
+        seen = [self.turned(point) for point in points]
+        return [(self.left + self.scale * right, self.top - self.scale * up) for right, _, up in seen]
+
+    def half_space(self, normal, far):
+        """The kind of a half-space, and A, B, C of its plane in cells; of a side in any unit."""
+        right, away, up = self.turned(normal)
+        form = (-right / self.scale, up / self.scale, far - away * self.nearest
+                + (right * self.left - up * self.top) / self.scale)
+        if abs(away) < STEEP:
+            return "side", form
+        return "front" if away < 0 else "back", tuple(self.cells / away * part for part in form)
+
+    def notes(self):
+        """Comments that the scene begins with."""
+        return []
+
+    def where(self, normal, far):
+        """Where a plane is to be true: in the middle of these corners, here those of the picture."""
+        return (0, 0, 0), (self.size[0] - 1, self.size[1] - 1, 0)
+
+    def cut_off(self):
+        """What the edges of the picture cut off of what can show, in a line for each."""
+        return ["the model is cut off at the %s of the picture, by %.1f pixels" % pair for pair in self.beyond()]
+
+    def beyond(self):
+        """The edges of the picture beyond which what can show goes on, and by how many pixels."""
+        low, high = self.box
+        beyond = (-self.left - self.scale * low[0], self.left + self.scale * high[0] - (self.size[0] - 1),
+                  self.top - self.scale * low[2] - (self.size[1] - 1), self.scale * high[2] - self.top)
+        return [pair for pair in zip(EDGES, beyond) if pair[1] >= 1]
+
+    def why_empty(self):
+        if not self.has_common:
+            return "what the model intersects has no common part"
+        if self.beyond():
+            return "the model is beyond its edges"
+        return "nothing is left of the model, or what is left is smaller than a pixel"
+
+
+def box_of(rows, points):
+    if hasattr(points, "shape"):
+        seen = [points @ row for row in rows]
+        return [float(own.min()) for own in seen], [float(own.max()) for own in seen]
+    seen = [turns.turned(rows, point) for point in points]
+    return [min(point[i] for point in seen) for i in range(3)], [max(point[i] for point in seen) for i in range(3)]
+
+
+def shown(rows, tree):
+    """The box of what can show of a tree: of what is added, and where solids intersect the common
+    part of theirs; None where they have none."""
+    if not isinstance(tree, tuple):
+        return box_of(rows, tree.points)
+    boxes = [shown(rows, part) for part in tree[1]]
+    if tree[0] == "-":
+        return boxes[0]
+    if tree[0] == "*":
+        return met(boxes) if None not in boxes else None
+    return around([box for box in boxes if box])
+
+
+def met(boxes):
+    low = [max(low[i] for low, _ in boxes) for i in range(3)]
+    high = [min(high[i] for _, high in boxes) for i in range(3)]
+    return (low, high) if all(a < b for a, b in zip(low, high)) else None
+
+
+def around(boxes):
+    if not boxes:
+        return None
+    return ([min(low[i] for low, _ in boxes) for i in range(3)],
+            [max(high[i] for _, high in boxes) for i in range(3)])
+
+
+def fitted(turn, size, scale, far, tree):
+    """What can show in the middle of the picture, and so large that it fills it."""
+    view = View(turns.rows_of(turn), size, far, tree)
+    low, high = view.box
+    room = [max(high[i] - low[i], 1e-9) for i in range(3)]
+    scale = scale or FILLS * min(size[0] / room[0], size[1] / room[2])
+    return view.placed(scale, size[0] / 2 - scale * (low[0] + high[0]) / 2,
+                       size[1] / 2 + scale * (low[2] + high[2]) / 2)
+
+
+def of_camera(numbers, size, far, tree):
+    """As OpenSCAD's orthographic camera has it, whose pixels are sampled in their middles."""
+    if len(numbers) == 6:
+        numbers = turns.between(numbers[:3], numbers[3:])
+    place, turn, distance = numbers[:3], numbers[3:6], numbers[6]
+    if distance <= 0:
+        raise Trouble("--camera wants a distance above 0")
+    view = View(turns.rows_of(turn), size, far, tree)
+    scale = size[1] / (2 * distance * math.tan(math.radians(FIELD / 2)))
+    right, _, up = view.turned(place)
+    return view.placed(scale, (size[0] - 1) / 2 - scale * right, (size[1] - 1) / 2 + scale * up)

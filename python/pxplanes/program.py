@@ -1,0 +1,158 @@
+"""Runs the built program for the tools. It is no tool itself."""
+import os
+import re
+import shutil
+import signal
+import subprocess
+import tempfile
+import time
+
+from pxplanes.errors import Trouble
+from pxplanes.ends import TOP
+
+DEFAULT = os.path.join(TOP, "crates", "px_program", "out", "px_program")
+# The same for processors of x86-64-v3, and what these have beyond x86-64-v2.
+NEWER_END = "-x86-64-v3"
+NEWER = DEFAULT + NEWER_END
+NEWER_FLAGS = {"avx", "avx2", "bmi1", "bmi2", "f16c", "fma", "abm", "movbe", "xsave"}
+SLOW = 2 * 10 ** 7
+
+
+def is_newer():
+    """Whether the processor has all that x86-64-v3 names."""
+    try:
+        with open("/proc/cpuinfo") as file:
+            flags = next((line for line in file if line.startswith("flags")), "")
+    except OSError:
+        return False
+    return NEWER_FLAGS <= set(flags.split())
+
+
+def newer_of(path):
+    """The build for newer processors beside a program; None where there is none, or an older one."""
+    newer = path + NEWER_END
+    return newer if os.access(newer, os.X_OK) and os.path.getmtime(path) <= os.path.getmtime(newer) else None
+
+
+def built():
+    """The program that was built for this processor."""
+    return os.path.isfile(DEFAULT) and is_newer() and newer_of(DEFAULT) or DEFAULT
+
+
+def builds(path):
+    """The places that a program is installed at, each with the file that comes there: for newer processors too, where it is built."""
+    first = path.removesuffix(NEWER_END)
+    yield DEFAULT, first
+    if newer_of(first):
+        yield NEWER, newer_of(first)
+
+
+def place_of(path):
+    """Where the program is: as said, or as the environment's PXPLANES_PROGRAM says, or as built."""
+    return os.path.abspath(path or os.environ.get("PXPLANES_PROGRAM") or built())
+
+
+def find(path):
+    """A program to run; None where there is none."""
+    path = place_of(path)
+    return path if os.path.isfile(path) and os.access(path, os.X_OK) else None
+
+
+def needed(path):
+    program = find(path)
+    if program is None:
+        raise Trouble("no program at %s; ./pxplanes builds it" % place_of(path))
+    return program
+
+
+def descendants(pid):
+    """The processes below one, by their numbers."""
+    parents = {}
+    for leaf in os.listdir("/proc"):
+        if leaf.isdigit():
+            try:
+                with open("/proc/%s/stat" % leaf) as file:
+                    parents[int(leaf)] = int(file.read().rsplit(")", 1)[1].split()[1])
+            except OSError:
+                continue
+    found = {pid}
+    while True:
+        more = {child for child, parent in parents.items() if parent in found} - found
+        if not more:
+            return found - {pid}
+        found |= more
+
+
+def copied(pid, copy):
+    """Whether a process below one runs the program that `rt try` built; it is copied then."""
+    for child in descendants(pid):
+        try:
+            with open("/proc/%d/cmdline" % child) as file:
+                words = file.read().split("\0")
+            built = next((word for word in words if os.path.basename(word) == "program" and os.path.isfile(word)), None)
+            if built:
+                shutil.copyfile(built, copy)
+                os.chmod(copy, 0o755)
+                return True
+        except OSError:
+            continue
+    return False
+
+
+def unproved(folder):
+    """The program as `rt try` builds it, without proofs and with checks at run time, copied into a folder.
+
+    `rt try` keeps no file: it is copied while it draws a picture that takes it some seconds."""
+    if shutil.which("rt") is None:
+        raise Trouble("there is no command rt; README.md says what is needed")
+    copy = os.path.join(folder, "program")
+    words = ["rt", "try", "--steps", "1000", "--seconds", "600", "--", "tile", "4096", "4096"]
+    with open(os.path.join(TOP, "gallery", "house.scene"), "rb") as scene, tempfile.TemporaryFile() as notes:
+        tried = subprocess.Popen(words, cwd=os.path.join(TOP, "crates", "px_program"), stdin=scene,
+                                 stdout=subprocess.DEVNULL, stderr=notes, start_new_session=True)
+        try:
+            while tried.poll() is None:
+                if copied(tried.pid, copy):
+                    return copy
+                time.sleep(0.05)
+            notes.seek(0)
+            raise Trouble("not built: %s" % notes.read().decode("utf-8", "replace").strip().split("\n")[0])
+        finally:
+            if tried.poll() is None:
+                os.killpg(tried.pid, signal.SIGKILL)
+                tried.wait()
+
+
+def answer(program, words, text, seconds=None):
+    """The status, the output and the note, a line without its end, of one run; it may be cut short
+    after so many seconds, with `subprocess.TimeoutExpired`."""
+    done = subprocess.run([program] + words, input=text, capture_output=True, timeout=seconds)
+    return done.returncode, done.stdout, done.stderr.decode("latin-1").strip("\n")
+
+
+def cost(program, text):
+    """How many operations and clocks a scene takes; `Bad` with the program's note, refused."""
+    status, output, note = answer(program, ["cost"], text)
+    counts = re.match(rb"macros (\d+)\nclocks (\d+)\n\Z", output)
+    if status != 0 or counts is None:
+        raise Trouble(note or "the program gives no clocks, and status %d" % status)
+    return int(counts.group(1)), int(counts.group(2))
+
+
+def is_quick(clocks, width, height, seconds):
+    """Whether a picture surely takes less than so many seconds, on any machine."""
+    wide, high = grid(width, height)
+    return clocks * wide * high < seconds * SLOW
+
+
+def grid(width, height):
+    """The pixels of the array that draws a picture of this size: powers of two, at least 2."""
+    return tuple(max(2, 1 << (side - 1).bit_length()) for side in (width, height))
+
+
+def spoken(seconds):
+    """A time as people say it."""
+    for unit, size in (("days", 86400), ("hours", 3600), ("minutes", 60)):
+        if seconds >= 2 * size:
+            return "%.0f %s" % (seconds / size, unit)
+    return "%.0f seconds" % seconds if seconds >= 9.5 else "%.1f seconds" % seconds

@@ -1,0 +1,66 @@
+"""Writes the text of a scene, and of scenes made of one: coarser, finer, or a tile of it. A plane
+keeps its values where the pixels are the same (docs/PICTURE.md, "Refinement" and "Tiles")."""
+import copy
+
+from pxplanes.scene import limits
+from pxplanes.scene import rays
+
+
+def expression(scene):
+    return rays.folded(scene.show, lambda at: scene.solids[at].name,
+                       lambda sign, left, right: "(%s %s %s)" % (left, sign, right))
+
+
+def lines_of(solid):
+    faces = sorted([(face.number, "front", face) for face in solid.fronts]
+                   + [(face.number, "back", face) for face in solid.backs])
+    return (["solid %s %d %d %d" % ((solid.name,) + solid.colour)]
+            + ["%s %d %d %d %d %d %d" % ((kind,) + face.plane + face.colour) for _, kind, face in faces]
+            + ["side %d %d %d" % side.plane for side in solid.sides])
+
+
+def text_of(scene):
+    """The canonical text of a scene (docs/SCENES.md)."""
+    version = 3 if scene.fraction_bits else 2 if "^" in scene.show else 1
+    depth = "depth %d %d" % (scene.depth_bits, scene.fraction_bits) if version == 3 else "depth %d" % scene.depth_bits
+    lines = ["pxscene %d" % version, "picture %d %d" % (scene.width, scene.height), depth]
+    lines += [line for solid in scene.solids for line in lines_of(solid)]
+    return "\n".join(lines + ["show " + expression(scene), "end", ""])
+
+
+def changed(scene, width, height, plane_of, fraction=0):
+    """The scene of another size, with what `plane_of` makes of each plane."""
+    other = copy.deepcopy(scene)
+    other.width, other.height, other.fraction_bits = width, height, scene.fraction_bits + fraction
+    for solid in other.solids:
+        for face in solid.fronts + solid.backs + solid.sides:
+            face.plane = plane_of(*face.plane)
+    return other
+
+
+def within(number, most):
+    return max(-most, min(most, number))
+
+
+def coarser(scene, factor):
+    """The scene with the pixels alone whose column and row are multiples of the factor; a slope that
+    is past a scene's limits ends there."""
+    most = limits.MAX_SLOPE
+    return changed(scene, -(-scene.width // factor), -(-scene.height // factor),
+                   lambda a, b, c: (within(factor * a, most), within(factor * b, most), c))
+
+
+def finer(scene, factor):
+    return changed(scene, factor * scene.width, factor * scene.height, lambda a, b, c: (a, b, factor * c),
+                   factor.bit_length() - 1)
+
+
+def tile(scene, left, top, width, height):
+    return changed(scene, width, height, lambda a, b, c: (a, b, a * left + b * top + c))
+
+
+def alone(scene):
+    """The scene with its first solid that is shown, and nothing else of it."""
+    other = copy.copy(scene)
+    other.show = [next(node for node in scene.show if isinstance(node, int))]
+    return other

@@ -1,0 +1,78 @@
+"""Slips of the hand in scenes, drawn at random from a seed: one key, a line lost, two lines swapped. What the tests of mending count."""
+import random
+import string
+
+from pxplanes.explain import kinds, readings
+from pxplanes.scene import scenes
+
+KEYS = string.ascii_letters + string.digits + "-+*^(),;._#= "
+
+
+def one(lines, at, chance):
+    """The lines with one slip at a line with words, what the slip is, and the lines that it took part in."""
+    what, line = chance.choice(("other", "other", "more", "less", "swapped", "lost line", "swapped lines", "far lines")), lines[at]
+    if what == "lost line":
+        return lines[:at] + [""] + lines[at + 1:], what, {at}
+    if what in ("swapped lines", "far lines"):
+        other = min(at + 1, len(lines) - 1) if what == "swapped lines" else chance.randrange(len(lines))
+        out = list(lines)
+        out[at], out[other] = lines[other], lines[at]
+        return out, what, {at, other}
+    key, place = chance.choice(KEYS), chance.randrange(len(line.split("#")[0].rstrip()))
+    slipped = {"other": line[:place] + key + line[place + 1:], "more": line[:place] + key + line[place:],
+               "less": line[:place] + line[place + 1:],
+               "swapped": line[:place] + line[place:place + 2][::-1] + line[place + 2:]}[what]
+    return lines[:at] + [slipped] + lines[at + 1:], what, {at}
+
+
+def slipped(text, count, chance):
+    """A text with so many slips, in lines of their own, each of which alone has it refused; and what they are. None if one has not."""
+    lines, whats, taken = text.split("\n")[:-1], [], set()
+    own = [place for place, line in enumerate(lines) if line.split("#")[0].strip()]
+    out = list(lines)
+    for at in chance.sample(own, count):
+        state = chance.getstate()
+        alone, what, touched = one(lines, at, chance)
+        if touched & taken or drawn("\n".join(alone).encode() + b"\n") is not None:
+            return None
+        chance.setstate(state)
+        out = one(out, at, chance)[0]
+        taken |= touched
+        whats.append(what)
+    return "\n".join(out) + "\n", whats
+
+
+def drawn(text):
+    """What a scene draws: all but the names of its solids; None for a refused one."""
+    try:
+        scene = scenes.read(text)
+        scenes.pixel_memory(scene)
+    except scenes.Refusal:
+        return None
+    planes = [[[(face.plane, face.colour) for face in kind] for kind in (solid.fronts, solid.backs, solid.sides)] for solid in scene.solids]
+    return scene.width, scene.height, scene.depth_bits, scene.fraction_bits, [each.colour for each in scene.solids], planes, scene.show
+
+
+def counted(texts, count, most, seed):
+    """Of so many refused texts with one slip, or with two up to `most`: how many have one reading at each mistake, are mended as meant, and
+    otherwise; those mended otherwise, and those not mended."""
+    chance = random.Random(seed)
+    counts, wrong, left = {"refused": 0, "one reading": 0, "as meant": 0, "otherwise": 0}, [], []
+    while counts["refused"] < count:
+        text = chance.choice(texts)
+        found = slipped(text, 1 if most == 1 else chance.randint(2, most), chance)
+        if found is None or drawn(found[0].encode()) is not None:
+            continue
+        new, whats = found
+        counts["refused"] += 1
+        mending = readings.mended(new.encode())
+        is_mended = mending.is_whole and not kinds.cure(new.encode())
+        counts["one reading"] += is_mended or all(len(each.candidates) == 1 for each in mending.mistakes)
+        if not is_mended:
+            left.append((whats, [(each.number, str(each.refusal.note), len(each.candidates)) for each in mending.mistakes], new, text))
+        elif drawn(mending.text) == drawn(text.encode()):
+            counts["as meant"] += 1
+        else:
+            counts["otherwise"] += 1
+            wrong.append((whats, mending.changes, new))
+    return counts, wrong, left

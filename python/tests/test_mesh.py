@@ -1,0 +1,187 @@
+"""Pictures of models, pixel by pixel beside rays that share no code with the tool."""
+import random
+import shutil
+
+import pytest
+import support
+
+numpy = pytest.importorskip("numpy")
+import ray_judge
+from pxplanes.errors import Trouble
+from pxplanes.image import netpbm
+from pxplanes.mesh import columns, csg, facets, modelling, solids
+from pxplanes import program as programs
+
+SIZE = (36, 27)
+assert modelling.__file__.startswith(support.TOP)
+NEEDS_OPENSCAD = pytest.mark.skipif(shutil.which("openscad") is None, reason="no openscad")
+CUBE = "multmatrix([[%g,0,0,%g],[0,%g,0,%g],[0,0,%g,%g],[0,0,0,1]]) { cube(size = [1, 1, 1], center = true); }\n"
+
+
+@pytest.fixture(autouse=True)
+def named(built, monkeypatch):
+    monkeypatch.setenv("PXPLANES_PROGRAM", built)
+
+
+def tree_of(text):
+    return csg.read(text.encode(), ".")
+
+
+def judged(tree, **options):
+    """The wrong pixels of a tree by columns, and how many pixels the rays have."""
+    choices = modelling.Choices(**{"size": SIZE, **options})
+    drawing = modelling.by_columns(tree, choices)
+    leaves = [leaf for leaf, _ in solids.leaves(tree)]
+    away = ray_judge.distances(tree, leaves, [columns.corners_of(leaf) for leaf in leaves], drawing.lens, choices.size)
+    return ray_judge.wrong_pixels(drawing.depths, 2 ** choices.bits[0] - 1, away, drawing.lens)
+
+
+def judged_scene(tree, text, choices, view):
+    """The same of a tree's one scene, drawn by the program."""
+    status, output, note = programs.answer(programs.needed(None), ["render"], text.encode())
+    assert status == 0, note
+    lens = columns.lens_of(view)
+    leaves = [leaf for leaf, _ in solids.leaves(tree)]
+    away = ray_judge.distances(tree, leaves, [columns.corners_of(leaf) for leaf in leaves], lens, choices.size)
+    return ray_judge.wrong_pixels(netpbm.images(output)[0].numbers(), 2 ** choices.bits[0] - 1, away, lens)
+
+
+def ball(radius, place, rounds=8):
+    """A ball as a mesh, so that it is no solid of OpenSCAD's own: points, facets, as `polyhedron` has them."""
+    rings = [[(radius * numpy.sin(a) * numpy.cos(b), radius * numpy.sin(a) * numpy.sin(b), radius * numpy.cos(a))
+              for b in numpy.arange(rounds) * 2 * numpy.pi / rounds] for a in numpy.arange(1, rounds) * numpy.pi / rounds]
+    points = [(0.0, 0.0, radius)] + [p for ring in rings for p in ring] + [(0.0, 0.0, -radius)]
+    last, out = len(points) - 1, []
+    for j in range(rounds):
+        k = (j + 1) % rounds
+        out += [[0, 1 + j, 1 + k], [last, last - rounds + k, last - rounds + j]]
+        for i in range(rounds - 2):
+            a, b = 1 + i * rounds, 1 + (i + 1) * rounds
+            out += [[a + j, b + j, b + k], [a + j, b + k, a + k]]
+    return [[float(p + q) for p, q in zip(point, place)] for point in points], out
+
+
+def dented(radius, place):
+    """A ball with dents, which is not convex."""
+    points, sides = ball(radius, (0, 0, 0))
+    return [[part * (0.6 if at % 3 == 0 else 1) + own for part, own in zip(point, place)] for at, point in enumerate(points)], sides
+
+
+def mesh(points, sides):
+    return solids.Mesh("part", 0, lambda: (points, sides), (200, 100, 50))
+
+
+@pytest.mark.parametrize("projection", ["o", "p"])
+@pytest.mark.parametrize("what", ["one", "union", "minus convex", "minus a mesh", "common", "hollow"])
+def test_meshes_by_columns_are_as_rays_have_them(what, projection):
+    one, other = mesh(*dented(10, (0, 0, 0))), mesh(*dented(6, (5, -6, 4)))
+    box = tree_of(CUBE % (8, 3, 8, -4, 30, 2))
+    points, sides = ball(10, (0, 0, 0))
+    inner, turned = ball(7, (0, 0, 0))
+    hollow = mesh(points + inner, sides + [[at + len(points) for at in side[::-1]] for side in turned])
+    tree = {"one": one, "union": ("+", [one, other]), "minus convex": ("-", [one, box]), "minus a mesh": ("-", [one, other]),
+            "common": ("*", [one, other]), "hollow": ("-", [hollow, box])}[what]
+    bad, there = judged(tree, projection=projection)
+    assert not bad and there > 40
+
+
+@pytest.mark.parametrize("seed", range(10))
+def test_random_expressions_by_columns_are_as_rays_have_them(seed):
+    draw = random.Random(seed)
+
+    def leaf():
+        place = [draw.uniform(-6, 6) for _ in range(3)]
+        if draw.random() < 0.4:
+            return mesh(*dented(draw.uniform(4, 8), place))
+        words = [part for i in range(3) for part in (draw.uniform(4, 14), place[i])]
+        return tree_of("multmatrix([[0.8,-0.6,0,0],[0.6,0.8,0,0],[0,0,1,0],[0,0,0,1]]) { %s }" % (CUBE % tuple(words)))
+
+    tree = leaf()
+    for _ in range(draw.randint(2, 5)):
+        tree = (draw.choice("+-*-+"), [tree, leaf()])
+    options = {"projection": draw.choice("op"), "view": [draw.uniform(0, 180), 0, draw.uniform(0, 360)]}
+    assert judged(tree, **options)[0] == []
+
+
+def test_faces_that_are_one_leave_no_film():
+    plate = CUBE % (20, 0, 20, 0, 4, 0)
+    tree = tree_of("difference() { %s %s %s }" % (plate, CUBE % (6, 4, 6, 4, 4, 0), CUBE % (6, -5, 6, -5, 2, 1)))
+    for options in ({}, {"projection": "p"}, {"view": [0, 0, 0]}):
+        bad, there = judged(tree, **options)
+        assert not bad and there > 60
+
+
+def test_what_the_near_plane_cuts_has_a_cap():
+    tree = mesh(*ball(10, (0, 0, 0)))
+    choices = modelling.Choices(size=SIZE, eye=(0, -30, 0), at=(0, 0, 0), near=25)
+    drawing = modelling.by_columns(tree, choices)
+    depths = drawing.depths
+    assert depths[SIZE[1] // 2, SIZE[0] // 2] == 0 and drawing.shown[SIZE[1] // 2, SIZE[0] // 2] == len(drawing.corners)
+    away = ray_judge.distances(tree, [tree], [drawing.corners], drawing.lens, SIZE)
+    assert ray_judge.wrong_pixels(depths, 2 ** choices.bits[0] - 1, away, drawing.lens)[0] == []
+
+
+def test_an_open_mesh_shows_both_sides_and_is_refused_in_a_difference():
+    points, sides = ball(10, (0, 0, 0))
+    torn = mesh(points, sides[:len(sides) // 2])
+    assert judged(torn, view=[120, 0, 30])[0] == []
+    with pytest.raises(Trouble, match="is not closed near .* must be"):
+        modelling.by_columns(("-", [torn, tree_of(CUBE % (8, 0, 8, 0, 30, 0))]), modelling.Choices(size=SIZE))
+
+
+def test_a_wall_too_steep_for_a_front_is_no_side():
+    text = "cylinder($fn = 12, $fa = 12, $fs = 2, h = 30, r1 = 10, r2 = 9.9, center = false);"
+    tree = tree_of(text)
+    with pytest.raises(modelling.Steep, match="is seen at x .* fewer bits"):
+        modelling.laid_out(tree, modelling.seen(tree, modelling.Choices(view=(0, 0, 0), depth=(16, 7)))[0],
+                           modelling.Choices(view=(0, 0, 0), depth=(16, 7)))
+    bad, there = judged(tree, view=(0, 0, 0), depth=(16, 7), size=(128, 96))
+    assert not bad and there > 2000
+
+
+def test_a_bar_with_many_holes_is_one_scene(tmp_path):
+    holes = "".join("multmatrix([[1,0,0,%g],[0,1,0,5],[0,0,1,-1],[0,0,0,1]]) { cylinder($fn = 64, $fa = 12, $fs = 2, h = 12, r1 = 3, r2 = 3, "
+                    "center = false); }\n" % (6 + 10.5 * i) for i in range(11))
+    path = tmp_path / "bar.csg"
+    path.write_text("difference() { cube(size = [120, 10, 10], center = false); %s }" % holes)
+    choices = modelling.Choices(size=(96, 72))
+    text, (_, view, *_) = modelling.made(str(path), choices)
+    tree = modelling.tree_of(str(path), "csg")
+    laid = modelling.laid_out(tree, view, choices)
+    assert modelling.products(tree, laid) > 1024
+    bad, there = judged_scene(tree, text, choices, view)
+    assert not bad and there > 500
+
+
+def test_products_are_those_of_docs():
+    """(a - (b - c)) is (a and not b) or (a and c): two products; taken away, what has parts is as many."""
+    a, b, c = (tree_of(CUBE % (1, i, 1, 0, 1, 0)) for i in range(3))
+    laid = {id(own): type("Laid", (), {"parts": parts}) for own, parts in ((a, 1), (b, 1), (c, 3))}
+    assert modelling.products(("-", [a, ("-", [b, c])]), laid) == 2
+    assert modelling.products(("-", [a, c]), laid) == 3
+    assert modelling.products(("-", [a, ("+", [c, c])]), laid) == 9
+    assert modelling.products(("*", [("+", [a, b]), ("+", [a, b, c])]), laid) == 6
+
+
+def test_the_volume_of_parts_is_compared():
+    cube = [[x, y, z] for x in (0, 2) for y in (0, 2) for z in (0, 2)]
+    sides = [[0, 1, 3, 2], [4, 6, 7, 5], [0, 4, 5, 1], [2, 3, 7, 6], [0, 2, 6, 4], [1, 5, 7, 3]]
+    polygons = [[cube[at] for at in side] for side in sides]
+    assert facets.exact_volume(polygons) == 6 * 8
+    planes = facets.planes(cube, sides)
+    facets.same_volume(polygons, [facets.sides_of(planes, 1e-6)], 1e-6)
+    half = [(normal, min(far, 1) if normal[0] > 0.5 else far) for normal, far in planes]
+    with pytest.raises(Trouble, match="a volume of 4 as convex parts and of 8 as it is"):
+        facets.same_volume(polygons, [facets.sides_of(half, 1e-6)], 1e-6)
+
+
+@NEEDS_OPENSCAD
+def test_a_text_of_slim_facets_is_refused_as_parts_and_right_by_columns(tmp_path):
+    path = tmp_path / "sage.scad"
+    path.write_text('linear_extrude(2) translate([300,200]) text("Sage", size=10, $fn=64);')
+    with pytest.raises(Trouble, match="a volume of .* draw it undivided|convex parts are at .* pixels"):
+        modelling.made(str(path), modelling.Choices())
+    tree = modelling.read(str(path), modelling.Choices())
+    for projection in "op":
+        bad, there = judged(tree, projection=projection, size=(96, 40))
+        assert not bad and there > 300

@@ -1,0 +1,55 @@
+"""Renderers with planted mistakes, over the suite: a mistake is named by its own cause or by none."""
+import numpy as np
+import pytest
+
+import mistakes
+import renderer_by_products
+import singles
+from pxplanes.compare import causes, picture, verdict
+from pxplanes.suite import golden
+
+PLANTED = list(mistakes.planted())
+# Named by more than one scene of whole numbers, each mistake that has a cause; so many must be, of both renderers.
+LEAST_NAMED = 60
+
+
+@pytest.mark.parametrize("kind, name, word, draw", PLANTED, ids=["%s: %s" % row[:2] for row in PLANTED])
+def test_a_mistake_is_named_rightly_or_not_at_all(kind, name, word, draw):
+    said, found = mistakes.outcome(draw, word)
+    assert said == (mistakes.NAMED if word else said if said == mistakes.RIGHT and name in RIGHT else mistakes.NONE), found
+
+
+# What is right: these must be alike.
+RIGHT = ("right", "right, real", "float32, 1e-6 noise")
+
+
+def test_so_many_mistakes_have_a_cause():
+    assert sum(word is not None for _, _, word, _ in PLANTED) >= LEAST_NAMED and len(PLANTED) >= 110
+
+
+def test_both_pictures_and_the_golden_maps_are_the_same():
+    for case in mistakes.CASES:
+        own = golden.maps_of(golden.SUITE, case.kind, case.name)
+        depths, faces = renderer_by_products.Renderer().draw(case.text.decode())
+        shown = picture.picture(case.scene, picture.RIGHT, *picture.grid(case.scene))
+        for found in (depths.ravel(), shown.depths):
+            assert np.array_equal(found, own.depths.ravel()), case.title
+        for found in (faces.ravel(), shown.faces):
+            assert np.array_equal(found, own.faces.ravel()), case.title
+
+
+# ---- real renderers in single precision
+
+@pytest.mark.parametrize("way", singles.WAYS)
+def test_a_right_renderer_in_single_precision_is_alike_in_all_scenes(way):
+    assert not any((each.state == verdict.WRONG).any() for each in singles.samples(way))
+
+
+@pytest.mark.parametrize("nearer", [0.4, 0.01])
+def test_what_is_too_near_is_alike_only_where_single_precision_has_room(nearer):
+    for each in singles.samples(singles.plain, lambda depths: depths - nearer):
+        assert (each.state == verdict.WRONG).any() or each.room() >= nearer / 2 or not (each.real.faces > 0).any(), each.scene.name
+
+
+def test_thresholds_are_written_down_once():
+    assert (causes.PIXELS, causes.SCENES, causes.ALONE, causes.PAIRS, causes.ERRORS, causes.MARGIN) == (20, 3, 200, 16, 0.005, 10)

@@ -1,0 +1,132 @@
+"""The debugger of `pxplanes trace`: its answers from a pipe and on a terminal, against what `pxplanes debug` answers clock by clock."""
+import os
+import pty
+import subprocess
+import sys
+
+import pytest
+import support
+from pxplanes.machine import debugger, sessions
+from pxplanes.scene import scenes
+
+TRIANGLE = os.path.join(support.TOP, "docs", "scenes", "triangle.scene")
+FACE_BITS, KEY = 2, 6
+PIXELS = ((7, 8), (0, 0), (3, 3))
+
+
+def content(path):
+    with open(path, "rb") as file:
+        return file.read()
+
+
+def environment(built):
+    return dict(os.environ, PYTHONPATH=os.path.join(support.TOP, "python"), PXPLANES_PROGRAM=built, PYTHONDONTWRITEBYTECODE="1")
+
+
+@pytest.fixture
+def session(built, monkeypatch):
+    monkeypatch.setenv("PXPLANES_PROGRAM", built)
+    return debugger.Debugger(content(TRIANGLE))
+
+
+def every_clock(built, x, y):
+    """The words of a pixel's answer at each clock from 0 on."""
+    total = 561
+    commands = [line for clock in range(total + 1) for line in (b"until %d" % clock, b"pixel %d %d" % (x, y))]
+    return [each[0].split() for each in sessions.held(built, content(TRIANGLE), commands)[1::2]]
+
+
+@pytest.mark.parametrize("pixel", PIXELS)
+@pytest.mark.parametrize("thing", ("enable", "carry", "latch", "bit 0", "bit 9"))
+def test_until_changes(built, session, thing, pixel):
+    """Each change of a register or a bit is met, in order, with the old and the new value, and no other one."""
+    words = every_clock(built, *pixel)
+    bit = int(thing.split()[1]) if " " in thing else None
+    at = {"enable": 6, "carry": 8, "latch": 10}.get(thing)
+    values = [int(each[at]) if bit is None else int(each[4][bit:bit + 1]) for each in words]
+    wanted = [(clock, values[clock], values[clock - 1]) for clock in range(1, len(values)) if values[clock] != values[clock - 1]]
+    found = []
+    while True:
+        told = session.told("until %s %d %d" % (thing, *pixel))
+        if "any more" in told[0]:
+            break
+        new, old = told[0].split(": ")[1].split(", and ")
+        found.append((session.now, int(new), int(old.split()[0])))
+    assert found == wanted
+
+
+def test_until_rises(built, session):
+    """Only rises are met, if those alone are asked for."""
+    values = [int(each[6]) for each in every_clock(built, 7, 8)]
+    rises = [clock for clock in range(1, len(values)) if values[clock] > values[clock - 1]]
+    found = []
+    while "any more" not in session.told("until enable 7 8 rises")[0]:
+        found.append(session.now)
+    assert found == rises
+
+
+def test_face_and_depth(session):
+    """A face wins with its depth: docs/PICTURE.md's picture of this scene has face 2 and depth 5 at 7 8."""
+    assert session.told("until face 7 8")[0] == "face of pixel 7 8: 2, and 0 before"
+    session.told("watch 7 8")
+    session.told("run")
+    assert "best key depth 5 face 2" in session.told("where")[-1]
+
+
+def test_back(session):
+    """`back` goes clocks back, and alone takes back the last move."""
+    session.told("until 300")
+    session.told("step 7")
+    assert session.now == 307
+    session.told("back")
+    assert session.now == 300
+    session.told("back 40")
+    assert session.now == 260 and "clock 260 of 561" in session.told("where")[0]
+
+
+def test_plane(session):
+    """A bit plane has a block for each pixel: enable after the sides is the triangle that the sides leave."""
+    session.told("until 536")
+    scene = scenes.read(content(TRIANGLE))
+    sides = [side.plane for side in scene.solids[0].sides]
+    lines = session.told("plane enable")[:-1]
+    shown = {(x, 2 * row + low) for row, line in enumerate(lines) for x, block in enumerate(line) for low in (0, 1)
+             if block in ("\u2580\u2588", "\u2584\u2588")[low]}
+    assert shown == {(x, y) for x in range(16) for y in range(16) if all(a * x + b * y + c >= 0 for a, b, c in sides)}
+
+
+@pytest.mark.parametrize("line, said", (
+    ("hello", "is no command"), ("step x", "is no number"), ("pixel 99 0", "array"), ("until depth", "unless a pixel"), ("watch 1", "takes"),
+    ("until bit 99 0 0", "bits 0 to"), ("tree 0 0", "no such place"), ("until colour 1 1", "until takes"), ("run 3", "takes")))
+def test_mistakes(session, line, said):
+    """A line that asks for nothing that there is moves nothing, and its answer says why."""
+    assert said in session.told(line)[0] and session.now == 0
+
+
+def test_pipe(built):
+    """From a pipe each line is answered before the next is given."""
+    process = subprocess.Popen([sys.executable, "-m", "pxplanes", "trace", TRIANGLE], stdin=subprocess.PIPE, stdout=subprocess.PIPE, text=True,
+                               env=environment(built), bufsize=1)
+    process.stdin.write("until 553\n")
+    assert process.stdout.readline().startswith("clock 553 of 561, pass 5 of 5")
+    process.stdout.readline()
+    process.stdin.write("watch 7 8\n")
+    assert process.stdout.readline().startswith("pixel 7 8: enable 1")
+    process.stdin.close()
+    assert process.wait(30) == 0 and not process.stdout.read()
+
+
+def test_terminal(built):
+    """On a terminal there is a prompt, and `help`; the end of the input ends it."""
+    master, slave = pty.openpty()
+    process = subprocess.Popen([sys.executable, "-m", "pxplanes", "trace", TRIANGLE], stdin=slave, stdout=slave, stderr=slave,
+                               env=dict(environment(built), TERM="dumb"), start_new_session=True)
+    os.close(slave)
+    seen = b""
+    for line, wanted in ((None, b"(pxplanes) "), (b"help\n", b"takes back the last move"), (b"step\n", b"clock 1 of 561"), (b"quit\n", None)):
+        if line:
+            os.write(master, line)
+        while wanted and wanted not in seen:
+            seen += os.read(master, 10000)
+    assert process.wait(30) == 0
+    os.close(master)

@@ -1,0 +1,31 @@
+"""The pictures that `pxplanes view` makes: NumPy's are those of plain Python, and small maps have the colours worked out by hand."""
+import random
+
+import numpy as np
+import pytest
+
+from pxplanes.cli import view
+from pxplanes.image import netpbm, shades, show
+
+
+@pytest.mark.parametrize("seed", range(5))
+def test_numpy_makes_the_same(seed):
+    draw = random.Random(seed)
+    depths = [draw.choice((draw.randrange(1 << 24), 511, 0)) for _ in range(7 * 5)]
+    faces = [draw.choice((0, draw.randrange(4096))) for _ in range(7 * 5)]
+    shape = lambda numbers: np.array(numbers, np.uint32).reshape(5, 7)
+    pixels = lambda colours: np.array(colours, np.uint8).reshape(5, 7, 3)
+    shown = [face != 0 for face in faces]
+    assert (shades.greys_of_depths(shape(depths), shape(faces) != 0) == pixels(show.greys_of_depths(depths, shown))).all()
+    assert (shades.by_table(shape(faces), show.colours_of_faces) == pixels(show.colours_of_faces(faces))).all()
+    masks = [face & 255 for face in faces]
+    assert (shades.by_table(shape(masks), show.colours_of_lights) == pixels(show.colours_of_lights(masks))).all()
+
+
+def test_a_small_map_by_hand():
+    """Depths 10, 20 and the background 31: the nearest is 240, the farthest 60, and the background dark blue."""
+    head, numbers = b"P6\n3 1\n255\n", b"\0\0\x0a\0\0\x14\0\0\x1f"
+    found = view.of_maps(head + numbers + head + b"\0\0\1\0\0\2\0\0\0", "depths")[0]
+    assert [list(map(int, pixel)) for pixel in np.array(found.colours).reshape(-1, 3)] == [[240] * 3, [60] * 3, [24, 24, 64]]
+    picture = netpbm.png_content(view.png(found))
+    assert picture == netpbm.png_content(netpbm.png(3, 1, [(240,) * 3, (60,) * 3, (24, 24, 64)]))

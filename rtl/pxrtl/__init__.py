@@ -1,0 +1,1 @@
+"""The command `rtl/rtl`: checks, proves, draws and measures the machine in Verilog."""

@@ -1,0 +1,314 @@
+"""The words of `rtl/rtl`, and what each command does."""
+import argparse
+import os
+import re
+import shutil
+import sys
+import tempfile
+from typing import Callable, Iterator
+
+from pxrtl import against, chips, directed, marking, programs, proving, simulation, sources, whole
+from pxrtl.shared import RTL, Bad, ends, program
+
+BITS, RANDOM, FIELD, FEW = 72, 1000, 8, 4
+SIZES = ((1, 1), (1, 2), (2, 2), (3, 2)) + tuple((nx, 1) for nx in range(3, 10)) + tuple((1, ny) for ny in range(3, 10))
+STATUS = "Ends with 0 if all is right (prove: for every size that docs/PROMISES.md names), 1 if something is wrong,\n" \
+    "3 if something is not decided or not asked, 2 for trouble."
+
+
+def own_files() -> dict[str, str]:
+    """The file of each module in rtl/."""
+    return dict({module: simulation.own(module) for module in simulation.MODULES},
+                **{module: os.path.join(RTL, "chip", module + ".v") for module in ("sequencer", "word")})
+
+
+def files_of(said: argparse.Namespace, folder: str) -> tuple[dict[str, str], dict[str, str]]:
+    """The file of each module, given or ours; and those that were given."""
+    given = {module: getattr(said, module) for module in proving.PROOFS if getattr(said, module, None)}
+    files = own_files()
+    files.update({module: sources.ready(path, module, folder) for module, path in given.items()})
+    return files, given
+
+
+def row_lines(rows, faults, still=(), width: int = 13) -> Iterator[str]:
+    """A line for each row, and under each that differs how."""
+    by_row = {fault.row: fault for fault in faults}
+    for row in list(rows) + [directed.BETWEEN] * (directed.BETWEEN in by_row):
+        if row not in by_row:
+            yield "  %-*s %s" % (width, row, "not seen: nothing had to change, in the states that were reached"
+                                 if row in still else "right")
+        else:
+            yield "  %-*s WRONG" % (width, row)
+            yield "    clock %d, %s" % (by_row[row].clock, by_row[row].text)
+
+
+def differs(title, rows, faults, still, waves) -> int:
+    """Prints the table of a module that differs, and where its waveforms are."""
+    print("\n".join([title + ":"] + list(row_lines(rows, faults, still))))
+    print("waveforms of the clocks around the first, found and expected: %s" % waves)
+    return proving.WRONG
+
+
+def sizes_for(asked) -> list[tuple[int, int]]:
+    """The arrays on which sums are tried, small ones first. A column depends on its height alone; a tree has runs of
+    its own at each size."""
+    fits = {"tree": lambda nx, ny: max(nx, ny) < FEW, "column": lambda nx, ny: nx == 1, "array": lambda nx, ny: True}
+    return sorted((size for size in SIZES if any(module in asked and fit(*size) for module, fit in fits.items())),
+                  key=sum)
+
+
+def check_modules(files, given, said, folder) -> int:
+    """Directed runs of the given modules, or of all; then random microinstructions. The status."""
+    asked, run = set(given) or set(simulation.MODULES), (said.simulator, said.seconds)
+    if "pixel" in asked:
+        clocks, faults, still = directed.pixel(folder, files, *run, RANDOM, said.seed, said.waves)
+        if faults:
+            status = differs("one pixel, %d clocks, each act at each place" % clocks, directed.ROWS, faults, still,
+                             said.waves)
+            print("".join(line + "\n" for line in sources.latches(files["pixel"], "pixel", folder)), end="")
+            return status
+        print("one pixel, %d clocks, each act at each place: nothing differs" % clocks)
+    if "node" in asked:
+        clocks, faults = directed.node(folder, files, *run, said.seed, said.waves)
+        if faults:
+            rows = ["%s %s" % (kind, move) for kind in ("even", "odd") for move in directed.MOVES]
+            return differs("both nodes, %d clocks" % clocks, rows, faults, (), said.waves)
+        print("both nodes, %d clocks: nothing differs" % clocks)
+    if "tree" in asked:
+        levels, faults = directed.tree(folder, files, *run, said.seed, said.waves)
+        if faults:
+            return differs("a tree of %d levels" % levels, directed.MOVES, faults, (), said.waves)
+        print("trees of 1 to %d levels: nothing differs" % levels)
+    made, title = against.at_random(said.random or RANDOM, said.seed,
+                                    BITS), "%d random microinstructions on 4 by 2 pixels" % (
+        said.random or RANDOM)
+    lines = against.check_micros(made, 2, 1, BITS, files, said, folder)
+    if lines:
+        print("%s:\n%s" % (title, "\n".join(lines)))
+        return proving.WRONG
+    print("%s: nothing differs" % title)
+    sizes = sizes_for(asked)
+    for nx, ny in sizes:
+        lines = against.check_micros(against.sums(nx, ny, said.seed, FIELD), nx, ny, FIELD, files, said, folder,
+                                     every=4)
+        if lines:
+            print("sums on %d by %d pixels:\n%s" % (1 << nx, 1 << ny, "\n".join(lines)))
+            return proving.WRONG
+    if sizes:
+        print("sums on arrays of %d sizes, up to %d pixels wide and %d high: nothing differs" % (
+            len(sizes), 1 << max(nx for nx, _ in sizes), 1 << max(ny for _, ny in sizes)))
+    return noted(given)
+
+
+def noted(given) -> int:
+    """Prints what tools read differently in the given files: then a run says nothing about what Yosys makes of them."""
+    notes = ["%s: not decided: %s" % (module, note) for module, path in given.items() for note in sources.notes(path)]
+    print("".join(note + "\n" for note in notes), end="")
+    return proving.UNDECIDED if notes else proving.PROVED
+
+
+def check(said) -> int:
+    if said.texts and (said.micros or said.random):
+        raise Bad("texts are not run together with --random or --micros; --help says more")
+    with tempfile.TemporaryDirectory(prefix="px-rtl-") as folder:
+        files, given = files_of(said, folder)
+        if said.micros:
+            nx, ny, made = against.read_micros(ends.content(said.micros))
+            lines = against.check_micros(made, nx, ny, BITS, files, said, folder)
+            print("\n".join(lines or ["%s: %d microinstructions on %d by %d pixels, compared after each: nothing differs" % (
+                said.micros, len(made), 1 << nx, 1 << ny)]))
+            return int(bool(lines))
+        if not said.texts:
+            return check_modules(files, given, said, folder)
+        statuses = []
+        for path in said.texts:
+            lines, status = against.check_text(path, ends.content(path), files, said, folder)
+            print("\n".join(lines), flush=True)
+            statuses.append(status)
+        return proving.worst(statuses)
+
+
+def prove(said) -> int:
+    programs.needed("yosys")
+    asked = [module for module in proving.PROOFS if getattr(said, module)] or list(proving.PROOFS)
+    statuses = []
+    with tempfile.TemporaryDirectory(prefix="px-rtl-") as folder:
+        files, _ = files_of(said, folder)
+        for module in asked:
+            for line in proving.proved(module, files, said.seconds, said.simulator,
+                                       **({"whole_to": said.levels} if module == "tree" else {})):
+                print(line.text, flush=True)
+                statuses.append(line.status)
+    return proving.worst(statuses)
+
+
+def draw(said) -> int:
+    with tempfile.TemporaryDirectory(prefix="px-rtl-") as folder:
+        files, _ = files_of(said, folder)
+        print("\n".join(against.drawn(folder, files, ends.content(said.scene), said)))
+    return proving.PROVED
+
+
+def whole_(said) -> int:
+    statuses, built = [], program.needed(said.program)
+    with tempfile.TemporaryDirectory(prefix="px-rtl-") as folder:
+        files, _ = files_of(said, folder)
+        for path in said.scenes:
+            lines, status = whole.check(path, ends.content(path), built, files, said.size, said.times)
+            print("\n".join(lines), flush=True)
+            statuses.append(status)
+    return proving.worst(statuses)
+
+
+def bytes_(said) -> int:
+    _, _, operations, _ = chips.operations(ends.content(said.text), said)
+    sys.stdout.buffer.write(chips.bytes_of(operations))
+    return proving.PROVED
+
+
+def chip(said) -> int:
+    statuses = []
+    for path in said.texts:
+        with tempfile.TemporaryDirectory(prefix="px-rtl-") as folder:
+            line, status = chips.check(path, ends.content(path), said, folder)
+        print(line, flush=True)
+        statuses.append(status)
+    return proving.worst(statuses)
+
+
+def fpga(said) -> int:
+    with tempfile.TemporaryDirectory(prefix="px-rtl-") as folder:
+        lines, bitstream = chips.fitted(folder, said.board, *(said.size or (0, 0)))
+        print("\n".join(lines))
+        if said.out:
+            shutil.copyfile(bitstream, said.out)
+    return proving.PROVED
+
+
+def counted(module, chosen) -> tuple[int, int]:
+    """Cells and flip-flops of a module with its parameters, as Yosys makes them."""
+    script = "read_verilog %s; %s hierarchy -top %s; synth -flatten; abc -g gates; opt_clean; stat" % (
+        simulation.own(module), "".join("chparam -set %s %d %s; " % (it + (module,)) for it in chosen.items()), module)
+    printed = programs.made([programs.needed("yosys"), "-p", script], RTL)
+    table = printed[printed.rindex("Number of cells:"):]
+    cells = dict((name, int(number)) for name, number in re.findall(r"^\s+(\$_\w+_)\s+(\d+)$", table, re.M))
+    return sum(cells.values()), sum(number for name, number in cells.items() if "DFF" in name)
+
+
+def gates(said) -> int:
+    row = "%-22s %7s %11s %8s %9s"
+    print(row % ("module", "cells", "flip-flops", "gates", "memory"))
+    for bits in said.bits or [16, 32, BITS]:
+        cells, stored = counted("pixel", {"N": bits})
+        print(row % ("pixel of %d bits" % bits, cells, stored, cells - stored, "%.0f%%" % (100 * bits / stored)))
+    for odd in (0, 1):
+        cells, stored = counted("node", {"ODD": odd})
+        print((row % ("node, %s" % ("odd" if odd else "even"), cells, stored, cells - stored, "")).rstrip())
+    cells, stored = counted("multipliers", {})
+    print((row % ("two multipliers", cells, stored, cells - stored, "")).rstrip())
+    return proving.PROVED
+
+
+def marks(said) -> int:
+    return marking.marked(said.folder, said.simulator, said.seconds, said.prove, ends.jobs(said.jobs), said.page)
+
+
+def number_from(least: int) -> Callable[[str], int]:
+    def number(word: str) -> int:
+        if not word.isdigit() or int(word) < least:
+            raise argparse.ArgumentTypeError("%r is no number from %d on" % (word, least))
+        return int(word)
+    return number
+
+
+def reader() -> ends.Words:
+    """The words of the command, with the help that argparse makes of them."""
+    shown = {"formatter_class": argparse.ArgumentDefaultsHelpFormatter, "allow_abbrev": False, "epilog": STATUS}
+    words = ends.Words(prog="rtl",
+                       description="Checks, proves, draws and measures the machine in Verilog (docs/RTL.md).",
+                       epilog=STATUS,
+                       formatter_class=argparse.RawDescriptionHelpFormatter)
+    commands = words.add_subparsers(dest="command", required=True, parser_class=ends.Words, metavar="COMMAND")
+
+    def command(name: str, says: str, does: Callable[..., int]) -> ends.Words:
+        part = commands.add_parser(name, help=says, description=says[0].upper() + says[1:] + ".", **shown)
+        part.set_defaults(does=does)
+        return part
+
+    checking = command("check",
+                       "run modules, scenes or listings in a simulator, and compare them with the tables or the program", check)
+    checking.add_argument("texts", nargs="*", metavar="TEXT", help="a scene or a listing; - is standard input")
+    checking.add_argument("--clocks", type=number_from(1), default=sys.maxsize, metavar="N",
+                          help="run only the first N microinstructions")
+    checking.add_argument("--every-clock", action="store_true",
+                          help="compare after each clock, not after each operation")
+    checking.add_argument("--random", type=number_from(1), default=0, metavar="N",
+                          help="run N random microinstructions")
+    checking.add_argument("--seed", type=number_from(0), default=1, metavar="N", help="the seed of what is random")
+    checking.add_argument("--micros", metavar="FILE", help="run the microinstructions of FILE, a line each")
+    checking.add_argument("--waves", default="rtl-difference.vcd", metavar="FILE",
+                          help="where waveforms of a difference go")
+    proofs = command("prove",
+                     "show by Yosys that a module is its table's for every state, and compare it in simulators", prove)
+    for module in ("sequencer", "word"):
+        proofs.add_argument("--" + module, metavar="FILE", help="prove this file instead of rtl/chip/%s.v" % module)
+    proofs.add_argument("--levels", type=int, choices=range(1, proving.LEVELS + 1), default=proving.SMALL, metavar="N",
+                        help="the largest tree that is proved state by state, 1 to %d levels" % proving.LEVELS)
+    grading = command("marks", "check each file of a folder as a pixel, and print a table of files by acts", marks)
+    grading.add_argument("folder", metavar="FOLDER", help="the folder of the files (%s)" % ", ".join(sources.KINDS))
+    grading.add_argument("--page", metavar="FILE", help="write the table as an HTML page too")
+    grading.add_argument("--prove", action="store_true", help="prove each file too")
+    grading.add_argument("--jobs", metavar="N", help="files that are looked at side by side")
+    drawing = command("draw", "print the picture that the array holds after a scene's last clock", draw)
+    drawing.add_argument("scene", metavar="SCENE")
+    running = command("whole",
+                      "run whole scenes on an array by Verilator, and compare each operation with the library for C",
+                      whole_)
+    running.add_argument("scenes", nargs="+", metavar="SCENE")
+    running.add_argument("--size", type=int, choices=range(1, 7), nargs=2, default=whole.SIZE, metavar=("NX", "NY"),
+                         help="the array has 2^NX by 2^NY pixels")
+    running.add_argument("--times", action="store_true", help="print how long both took")
+    sending = command("bytes", "write the bytes that a chip on a board must receive", bytes_)
+    sending.add_argument("text", metavar="TEXT")
+    simulated = command("chip",
+                        "send scenes or listings to the chip in a simulation, and compare the answer with `play`", chip)
+    simulated.add_argument("texts", nargs="+", metavar="TEXT")
+    fitting = command("fpga", "fit a chip on a board's FPGA, and print what it takes", fpga)
+    fitting.add_argument("--board", choices=sorted(chips.BOARDS), required=True, help="the board")
+    fitting.add_argument("--size", type=number_from(1), nargs=2, metavar=("NX", "NY"),
+                         help="the chip has 2^NX by 2^NY pixels")
+    fitting.add_argument("--out", metavar="FILE", help="write the bitstream")
+    counting = command("gates", "count the gates of a pixel, a node and two multipliers by Yosys", gates)
+    counting.add_argument("--bits", type=number_from(1), action="append", metavar="N",
+                          help="memory bits of a pixel (16, 32 and 72)")
+    for part in (checking, drawing, running, sending, simulated):
+        part.add_argument("--program", metavar="PROGRAM",
+                          help="the program to compare with, if not the one that was built")
+    for part in (checking, drawing, sending, simulated):
+        part.add_argument("--coarser", type=number_from(1), default=1, metavar="K",
+                          help="take only each K-th column and row of a scene")
+    for part in (checking, drawing, simulated, grading):
+        part.add_argument("--simulator", choices=("iverilog", "verilator"),
+                          help="iverilog, or verilator if only that is installed")
+    proofs.add_argument("--simulator", choices=("iverilog", "verilator"),
+                        help="compare in this simulator alone, not in all that are installed")
+    for part in (checking, drawing, simulated, grading, proofs):
+        part.add_argument("--seconds", type=number_from(1), default=simulation.SECONDS, metavar="N",
+                          help="seconds of a processor for each simulation or question")
+    for part in (checking, drawing, running, proofs):
+        for module in simulation.MODULES:
+            part.add_argument("--" + module, metavar="FILE", help="use this file instead of rtl/%s.v" % module)
+    return words
+
+
+def main(words: list[str]) -> int:
+    """Does what the words say, and gives the status."""
+    said = reader().parse_args(words)
+    return said.does(said)
+
+
+def run() -> None:
+    """The command: trouble is one line and status 2."""
+    if {"-h", "--help"} & set(sys.argv[1:]):
+        reader().parse_args(sys.argv[1:])
+    ends.run("rtl", "", main)

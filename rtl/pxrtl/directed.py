@@ -1,0 +1,252 @@
+"""Directed and random runs of one module in a simulator, compared with its table.
+
+A pixel is given each act at each place, enabled and not, with both carries and both bits of all that the act reads,
+and it is
+opened in between. After each such act comes a clock in which nothing is done, so that a late result is seen."""
+import itertools
+import os
+import random
+import re
+
+from pxrtl import simulation
+from pxrtl.shared import micros
+
+BITS = 72
+BETWEEN = "no clock"
+ROWS = micros.ACTS + ("open",)
+MOVES = ("hold", "clear", "feed")
+AROUND = 12
+WIDE = 8
+# What of a pixel's state an act reads or may spoil: e(nable), c(arry), s(tored), l(atch), and t(ree), v(alue) of the
+# inputs.
+READS = {"nop": "ecst", "enable-all": "ec", "enable-carry": "ecv", "enable-tree": "etv", "enable-bit": "esv",
+         "set-carry": "ecv",
+         "fetch": "es", "store-tree": "et", "store-latch": "el", "store-const": "ev", "toggle": "es",
+         "carry-tree": "ects",
+         "carry-latch": "ecls", "add-tree": "ects"}
+ANSWER = re.compile(r"^clock (\d+) row (\d+) found (\S+) due (\S+) before (\S+) late ([01x])$", re.M)
+MOVED = re.compile(r"^moved ([01]+)$", re.M)
+NODE_ANSWER = re.compile(r"^clock (\d+) row (\d+) odd ([01]) found (\S+) due (\S+) before (\S+)$", re.M)
+TREE_ANSWER = re.compile(r"^clock (\d+) row (\d+) (\w+) (\d+) found (\S) due (\S)$", re.M)
+
+
+class Input:
+    """What a pixel is told in a clock: an act with its place and value, or `open`, and the bit of its leaf."""
+
+    def __init__(self, act="nop", place=0, value=0, tree=0, opens=False):
+        self.act, self.place, self.value, self.tree, self.opens = act, place, value, tree, opens
+
+    def code(self):
+        return "%04x" % (self.tree << 14 | self.value << 13 | self.opens << 12 | micros.ACTS.index(self.act) << 8 |
+        self.place)
+
+    def text(self):
+        return "open" if self.opens else micros.Micro(self.act, self.place, self.value).text().split(" ", 1)[1]
+
+
+def prepared(draw, place, bits):
+    """Inputs that bring a pixel into a state: enable, carry, the bit at the place, and the latch."""
+    other = (place + 1 + draw.randrange(BITS - 1)) % BITS
+    yield Input("enable-all")
+    if "l" in bits:
+        yield Input("store-const", other, bits["l"])
+        yield Input("fetch", other)
+    if "s" in bits:
+        yield Input("store-const", place, bits["s"])
+    if "c" in bits or not bits.get("e", 1):
+        carry = bits.get("c", draw.randrange(2))
+        yield Input("set-carry", 0, carry)
+        if not bits.get("e", 1):
+            yield Input("enable-carry", 0, 1 - carry)
+
+
+def tried(draw, act, place):
+    """Each combination of what an act reads, at a place."""
+    for values in itertools.product((0, 1), repeat=len(READS[act])):
+        bits = dict(zip(READS[act], values))
+        for step in prepared(draw, place, bits):
+            step.tree = draw.randrange(2)
+            yield step
+        tree = bits.get("t", draw.randrange(2))
+        at = place if act in micros.HAVE_A_PLACE else draw.randrange(256)
+        yield Input(act, at, bits.get("v", draw.randrange(2)), tree)
+        yield Input(tree=1 - tree, place=draw.randrange(256))
+
+
+def opened(draw, place):
+    """The pixel is opened in the midst of what it is told, twice, from a state of ones."""
+    for step in prepared(draw, place, {"s": 1, "c": 1, "l": 1, "e": 1}):
+        yield step
+    yield Input(draw.choice(micros.ACTS), place, 1, 1, True)
+    yield Input()
+    yield Input("store-const", place, 1, 1, True)
+    yield Input()
+
+
+def filled(draw):
+    """Any bits in the memory."""
+    yield Input("enable-all")
+    for place in range(BITS):
+        yield Input("store-const", place, draw.randrange(2))
+
+
+def at_random(draw, count):
+    """So many random inputs; every second one is at the place of the one before it."""
+    place = 0
+    for number in range(count):
+        act = draw.choice(micros.ACTS + ("enable-all",) * 4)
+        place = place if number % 2 else draw.randrange(BITS)
+        at = place if act in micros.HAVE_A_PLACE else draw.randrange(256)
+        yield Input(act, at, draw.randrange(2), draw.randrange(2), draw.randrange(60) == 0)
+
+
+def begun(draw):
+    """A pixel that was opened, with any bits in its memory."""
+    return [Input(opens=True), Input()] + list(filled(draw))
+
+
+def inputs(seed, count):
+    """The directed inputs, and then so many random ones."""
+    draw = random.Random(seed)
+    made = begun(draw)
+    for place in range(BITS):
+        for act in micros.ACTS:
+            if act in micros.HAVE_A_PLACE or place % 12 == 0:
+                made += tried(draw, act, place)
+        made += opened(draw, place)
+        if place % 8 == 0:
+            made += filled(draw)
+    return made + list(at_random(draw, count))
+
+
+class Fault:
+    """A row's first difference: at which clock, what is told of it, and the rest of the line."""
+
+    def __init__(self, row, clock, text):
+        self.row, self.clock, self.text = row, clock, text
+
+    def line(self):
+        return "clock %d, %s: %s" % (self.clock, self.row, self.text)
+
+
+def parted(bits):
+    """Memory from bit 0 on, enable, carry, latch."""
+    return [bits[:-3][::-1]] + list(bits[-3:])
+
+
+def wrong_of(found, due):
+    names = ("enable", "carry", "latch")
+    at = next((at for at, pair in enumerate(zip(found[0], due[0])) if pair[0] != pair[1]), None)
+    told = ["memory bit %d is %s, and %s is expected" % (at, found[0][at], due[0][at])] if at is not None else []
+    return told + ["%s is %s, and %s is expected" % it for it in zip(names, found[1:], due[1:]) if it[1] != it[2]]
+
+
+def fault_of(match, told):
+    """What a line of the bench's answers says, in words."""
+    clock, row, found, due, before, late = match
+    if int(row) == len(ROWS):
+        return Fault(BETWEEN, int(clock), "it changes between two clocks: %s" %
+                     "; ".join(wrong_of(parted(found), parted(due))))
+    step, found, due, before = told[int(clock)], parted(found), parted(due), parted(before)
+    seen = ["tree %d" % step.tree] + ["%s %s" % it for it in zip(("enable", "carry", "latch"), before[1:])]
+    if step.act in micros.HAVE_A_PLACE and not step.opens:
+        seen.insert(0, "its bit %s" % before[0][step.place])
+    unset = "x" in "".join(found) or "z" in "".join(found)
+    when = "a bit that is x was never set: does `open` make it 0?" if unset else \
+        "it comes one clock late" if late == "1" else "as before" if found == before else ""
+    text = "`%s` with %s: %s%s" % (step.text(), ", ".join(seen), "; ".join(wrong_of(found, due)), when and "; " + when)
+    return Fault(ROWS[int(row)], int(clock), text)
+
+
+def shown(bench, faults, waves):
+    """Has the bench write the waveforms of the clocks around the first fault."""
+    if faults and waves:
+        first = min(fault.clock for fault in faults)
+        bench.run("answers.txt", "+vcd=" + os.path.abspath(waves), "+from=%d" % max(0, first - AROUND), "+to=%d" %
+                  (first + 3))
+
+
+def pixel(folder, files, simulator, seconds, count, seed, waves=None, only_random=False):
+    """How many clocks were run, the first fault of each act that has one, and the acts that never had anything to
+    change."""
+    draw = random.Random(seed)
+    told = begun(draw) + list(at_random(draw, count)) if only_random else inputs(seed, count)
+    with open(os.path.join(folder, "inputs.hex"), "w") as file:
+        file.writelines(step.code() + "\n" for step in told)
+    with open(os.path.join(folder, "texts.hex"), "w") as file:
+        file.writelines(simulation.in_hex(step.text(), 24) + "\n" for step in told)
+    bench = simulation.Simulation(folder, "px_pixel_bench", [simulation.proof("px_acts.v"),
+            simulation.bench("px_pixel_bench.v"), files["pixel"]],
+                           {"N": BITS, "CLOCKS": len(told)}, simulator, seconds=seconds, has_waves=not only_random)
+    answers = bench.run("answers.txt")
+    faults = [fault_of(match, told) for match in ANSWER.findall(answers)]
+    moved = MOVED.search(answers).group(1)[::-1]
+    still = [row for row, bit in zip(ROWS, moved) if bit == "0" and row != "nop"]
+    shown(bench, faults, waves)
+    return len(told), faults, still
+
+
+def moves(draw, count, levels=1):
+    """Inputs of a node or a tree: a clear, feeds until the last level has bits of its own, then any, mostly feeds;
+    line, parent, feed,
+    clear from the top."""
+    yield 1
+    for _ in range(2 * levels):
+        yield draw.randrange(4) << 2 | 2
+    for _ in range(count):
+        yield draw.randrange(4) << 2 | draw.choice((0, 1, 2, 2, 2, 2, 2, 2, 3))
+
+
+def move_text(code, above):
+    """What a node or a tree is told, in words."""
+    move = MOVES[1 if code & 1 else 2 if code & 2 else 0]
+    return "%s, %s %d, line %d" % (move, above, code >> 2 & 1, code >> 3)
+
+
+def written(folder, told, above):
+    with open(os.path.join(folder, "inputs.hex"), "w") as file:
+        file.writelines("%x\n" % it for it in told)
+    with open(os.path.join(folder, "texts.hex"), "w") as file:
+        file.writelines(simulation.in_hex(move_text(it, above), 24) + "\n" for it in told)
+
+
+def node(folder, files, simulator, seconds, seed, waves=None, count=400):
+    """How many clocks were run on both nodes, and the first fault of each row of each kind."""
+    told = list(moves(random.Random(seed), count))
+    written(folder, told, "parent")
+    bench = simulation.Simulation(folder, "px_node_bench", [simulation.bench("px_node_bench.v"), files["node"]],
+                                  {"CLOCKS": len(told)}, simulator,
+                                  seconds=seconds, has_waves=bool(waves))
+    faults = []
+    for clock, row, odd, found, due, before in NODE_ANSWER.findall(bench.run("answers.txt")):
+        kind, step = "odd" if odd == "1" else "even", told[int(clock)]
+        wrong = ["%s is %s, and %s is expected" % it for it in zip(("its output", "its carry"), found, due)
+                 if it[1] != it[2]]
+        faults.append(Fault("%s %s" % (kind, MOVES[int(row)]), int(clock),
+                            "parent %d, line %d, output %s, carry %s: %s" % (
+            step >> 2 & 1, step >> 3, before[0], before[1], "; ".join(wrong))))
+    shown(bench, faults, waves)
+    return len(told), faults
+
+
+def tree(folder, files, simulator, seconds, seed, waves=None, sizes=range(1, 10), count=None):
+    """The greatest size of a tree that was run, and the first fault of each row of the first size that has one."""
+    for levels in sizes:
+        told = list(moves(random.Random(seed), count or (100 if levels < WIDE else 14), levels))
+        written(folder, told, "root")
+        bench = simulation.Simulation(folder, "px_tree_bench", [simulation.bench("px_tree_bench.v"), files["node"],
+                files["tree"]],
+                               {"LEVELS": levels, "CLOCKS": len(told)}, simulator, seconds=seconds,
+                                      has_waves=bool(waves))
+        faults = []
+        for clock, row, vector, at, found, due in TREE_ANSWER.findall(bench.run("answers.txt")):
+            level = max(1, int(at)).bit_length() - 1
+            name = "leaf %s" % at if vector == "leaves" else "bit %s of %s" % (at, vector) if int(at) < 2 else \
+                "node %d of level %d, its %s" % (int(at) - (1 << level), level, "output" if vector == "outs"
+                                                 else "carry")
+            faults.append(Fault(MOVES[int(row)], int(clock), "tree of %d levels: %s is %s, and %s is expected" %
+                                (levels, name, found, due)))
+        if faults:
+            shown(bench, faults, waves)
+            return levels, faults
+    return max(sizes), []

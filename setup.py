@@ -1,0 +1,46 @@
+"""Puts the library and the page into the wheel; all else about the package is in pyproject.toml."""
+import glob
+import os
+import shutil
+
+from setuptools import Distribution, setup
+from setuptools.command.build_py import build_py
+from wheel.bdist_wheel import bdist_wheel
+
+HERE = os.path.dirname(os.path.abspath(__file__))
+# Where `./pxplanes --library` and tools/package put the library.
+LIBRARIES = os.environ.get("PXPLANES_PACKED") or os.path.join(HERE, "package", "lib")
+LIBRARY = "libpxplanes.so"
+# The library is for this system alone, and for every Python.
+TAG = "py3", "none", "manylinux_2_17_x86_64"
+
+
+class WithLibrary(build_py):
+    """Copies the library, for newer processors too, and the page beside the modules."""
+
+    def run(self):
+        super().run()
+        if self.editable_mode:
+            return
+        if not os.path.isfile(os.path.join(LIBRARIES, LIBRARY)):
+            raise SystemExit("there is no %s in %s: ./pxplanes --library makes it" % (LIBRARY, LIBRARIES))
+        to = os.path.join(self.build_lib, "pxplanes")
+        for path in (os.path.join(LIBRARIES, LIBRARY), *glob.glob(os.path.join(LIBRARIES, "glibc-hwcaps", "*", LIBRARY))):
+            place = os.path.join(to, os.path.relpath(path, LIBRARIES))
+            os.makedirs(os.path.dirname(place), exist_ok=True)
+            shutil.copyfile(path, place)
+            os.chmod(place, 0o755)
+        shutil.copyfile(os.path.join(HERE, "page", "pxplanes.html"), os.path.join(to, "pxplanes.html"))
+
+
+class ForLinux(bdist_wheel):
+    def get_tag(self):
+        return TAG
+
+
+class WithBinary(Distribution):
+    def has_ext_modules(self):
+        return True
+
+
+setup(cmdclass={"build_py": WithLibrary, "bdist_wheel": ForLinux}, distclass=WithBinary)
