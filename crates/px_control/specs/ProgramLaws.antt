@@ -1,4 +1,4 @@
--- What holds of the program of every scene that can be run. Only proofs and private functions stand on it.
+-- What holds of the program of every scene that can be run. Clauses of public calls stand on it.
 use Rattle.std.specs.Prelude.{◌^◌, ◌<◌, ◌≤◌, All, length}
 use Rattle.px_macro.specs.Macros.{IsLawful}
 use Rattle.px_macro.specs.declared.operation.Macro.{Macro}

@@ -18,4 +18,5 @@ pub use fault::JobFault;
 pub use job::Job;
 pub use law::{MAX_LAYOUT_BITS, law_of_grids, law_of_pictures, law_of_sizes};
 pub use place::Place;
+pub use program::Program;
 pub use total::{cost, law_of_clocks};

@@ -8,8 +8,11 @@ use px_sched::Cursor;
 #[derive(Clone, Copy)]
 pub struct Place {
     pub(crate) cursor: Cursor,
-    pub(crate) clock: u64,
-    pub(crate) operation: u64,
-    pub(crate) micro: u32,
-    pub(crate) current: Option<Macro>,
+    /// How many broadcasts were made.
+    pub clock: u64,
+    /// The operation that runs, or that comes next, counted from 0.
+    pub operation: u64,
+    /// Which of its micros is broadcast next, counted from 0.
+    pub micro: u32,
+    pub current: Option<Macro>,
 }

@@ -5,7 +5,7 @@ ghost use Rattle.px_sched.specs.Cursors.{Stands};
 ghost use Rattle.px_asm.specs.Micros.{micro_at as micro_of};
 ghost use Rattle.px_array.specs.Slots.{HasWorked};
 ghost use Rattle.px_macro.specs.Macros.{IsLawful, IsLawfulInMore};
-ghost use Rattle.px_prune.specs.Kept.{crowd_of};
+ghost use Rattle.px_prune.specs.Kept.{crowd_of, plan_of};
 ghost use Rattle.px_pixel.specs.Acts.{HasPlace};
 ghost use Rattle.px_model.specs.Scenes.{SceneView};
 ghost use Rattle.px_sched.specs.Layouts.{layout_of, need_of};
@@ -32,7 +32,7 @@ use std::marker::Model;
 
 /// The program of a scene: what is broadcast, clock by clock.
 #[derive(Drop)]
-pub(crate) struct Program<'s> {
+pub struct Program<'s> {
     scene: &'s Scene,
     plan: Plan,
     layout: Layout,
@@ -57,7 +57,7 @@ impl<'s> Model for Program<'s> {
 
 impl<'s> Program<'s> {
     /// The program of a scene for pixels of so many memory bits.
-    pub(crate) fn new(alloc: Global, scene: &'s Scene, bits: u32) -> Result<Program<'s>, JobFault>
+    pub fn new(alloc: Global, scene: &'s Scene, bits: u32) -> Result<Program<'s>, JobFault>
         ensures ok { IfOk result (λ program. program ≡ scene.now) }
         ensures enough { OnOk result (need_of (layout_of scene.now) ≤ bits) }
         ensures short { bits < need_of (layout_of scene.now) →
@@ -82,7 +82,7 @@ impl<'s> Program<'s> {
     }
 
     /// What holds of it.
-    pub(crate) fn laws(&self)
+    pub fn laws(&self)
         ensures good { IsGoodProgram self.now }
         ensures can_run { CanRun self.now }
         ensures more { IsLawfulInMore }
@@ -91,12 +91,12 @@ impl<'s> Program<'s> {
     }
 
     /// The place before the first broadcast.
-    pub(crate) fn first(&self) -> Place
+    pub fn first(&self) -> Place
         ensures stands { StandsFor self.now result }
         ensures clock { result.clock ≡ 0 }
     {
         self.laws();
-        let mut cursor = Cursor::start();
+        let mut cursor = self.start();
         let current = self.give(&mut cursor);
         Place {
             cursor,
@@ -105,6 +105,15 @@ impl<'s> Program<'s> {
             micro: 0,
             current,
         }
+    }
+
+    /// Before the first operation of the passes.
+    pub fn start(&self) -> Cursor
+        ensures given { result.given ≡ 0 }
+        ensures stands { Stands self.now result }
+    {
+        self.laws();
+        Cursor::start()
     }
 
     /// Goes past the micros of the operation that runs, up to one of them.
@@ -132,10 +141,11 @@ impl<'s> Program<'s> {
 
     /// The next operation of the passes.
     #[inline(always)]
-    pub(crate) fn give(&self, cursor: &mut Cursor) -> Option<Macro>
+    pub fn give(&self, cursor: &mut Cursor) -> Option<Macro>
         requires { Stands self.now cursor.old }
         ensures operation { result ≡ slice_get (passes self.now) cursor.old.given }
         ensures some { OnSome result (cursor.new.given ≡ cursor.old.given + 1) }
+        ensures end { IfNone result (cursor.old.given ≡ length (passes self.now)) }
         ensures stays { IfNone result (cursor.new ≡ cursor.old) }
         ensures stands { Stands self.now cursor.new }
     {
@@ -143,7 +153,7 @@ impl<'s> Program<'s> {
     }
 
     /// What is broadcast at a place, where an operation runs.
-    fn micro(&self, place: &Place, m: &Macro) -> Micro
+    pub fn micro(&self, place: &Place, m: &Macro) -> Micro
         requires stands { StandsFor self.now place.now }
         requires here { place.now.current ≡ Some m.now }
         ensures value { result
@@ -247,7 +257,7 @@ impl<'s> Program<'s> {
     }
 
     /// How many operations and how many clocks the program has.
-    pub(crate) fn cost(&self) -> (u64, u64)
+    pub fn cost(&self) -> (u64, u64)
         ensures operations { result.0 ≡ length (passes self.now) }
         ensures clocks { result.1 ≡ total self.now }
         ensures few { total self.now < 2 ^ 43 }
@@ -257,8 +267,22 @@ impl<'s> Program<'s> {
         cost(self.scene, &self.plan, &self.layout)
     }
 
+    /// The scene itself.
+    pub fn scene(&self) -> &Scene
+        ensures { result.now ≡ self.now }
+    {
+        self.scene
+    }
+
+    /// The products of the scene that are drawn.
+    pub fn plan(&self) -> &Plan
+        ensures { result.now.products.items ≡ plan_of self.now }
+    {
+        &self.plan
+    }
+
     /// The scene's layout.
-    pub(crate) fn layout(&self) -> Layout
+    pub fn layout(&self) -> Layout
         ensures value { result ≡ layout_of self.now }
         ensures can_run { CanRun self.now }
     {
@@ -266,7 +290,7 @@ impl<'s> Program<'s> {
     }
 
     /// The exponents of the scene's grid.
-    pub(crate) fn grid(&self) -> (u32, u32)
+    pub fn grid(&self) -> (u32, u32)
         ensures { result ≡ (columns_of self.now, rows_of self.now) }
     {
         (self.columns, self.rows)

@@ -24,7 +24,7 @@ const HELD: usize = 512;
 
 impl<'s> Program<'s> {
     /// Makes so many broadcasts from a place on, and answers the place behind them.
-    pub(crate) fn run_clocks<A: Operating>(&self, from: &Place, array: &mut A, clocks: u64) -> Place
+    pub fn run_clocks<A: Operating>(&self, from: &Place, array: &mut A, clocks: u64) -> Place
         requires stands { StandsFor self.now from.now }
         requires left { from.now.clock + clocks ≤ total self.now }
         requires at { IsAt A.BITS self.now from.now.clock (A.view array.old).device }

@@ -1,7 +1,7 @@
 -- The broadcasts of operations, one operation after another.
-use Rattle.px_num.proofs.Basics.{◌≡◌, ℕ, suc, ◌+◌, ◌-◌, ◌<◌, ◌≤◌, min, List, ◌∷◌, ◌++◌, length, take, drop, get_or}
-use Rattle.px_num.proofs.Basics.{Some, sym, ap, ◌∙◌, arith, inl, inr, length-append, between, flat_map, slice_get}
-use Rattle.px_num.proofs.Basics.{drop-cons, take-append-add, take-append_seam, cases_lt, take-append-drop}
+use Rattle.px_num.proofs.Basics.{◌≡◌, ℕ, suc, ◌+◌, ◌-◌, ◌<◌, ◌≤◌, List, ◌∷◌, ◌++◌, length, take, drop, get_or}
+use Rattle.px_num.proofs.Basics.{Some, sym, ap, ◌∙◌, arith, length-append, between, flat_map, slice_get}
+use Rattle.px_num.proofs.Basics.{drop-cons, take-append-add, take-append_seam, take-append-drop}
 use Rattle.px_num.proofs.Basics.{take-append-le, take_all, flat_map-cons, get_or_from_slice_get, slice_get-get_or}
 use Rattle.px_num.proofs.Basics.{slice_get_within, between_from_start}
 use Rattle.std.proofs.lemmas.List.{length-take-le}
@@ -115,29 +115,17 @@ pub rows_are : (bits : ℕ) (l : ListingView) (n : ℕ) (device : Device) → de
 rows_are bits l n device is =
     ap (λ (d : Device). d.state.tree.ny) is ∙ ny-after_clocks (take n (broadcasts l)) (zero_state bits l.nx l.ny)
 
--- no clock changes nothing
-none_made : (ms : List Micro) (d : Device) → all_clocked (between 0 0 ms) d ≡ d
-none_made ms d =
-    ap (λ ms. all_clocked ms d) (between_from_start ms 0)
-    ∙ ap (λ n. record { state = d.state; clocks = n }) (let none : d.clocks + 0 ≡ d.clocks = omega arith in none)
-
--- an array goes on by an operation, as far as clocks are left
-pub goes_on : (bits : ℕ) (l : ListingView) (i : ℕ) (m : Macro) (clock left made : ℕ) (d new : Device)
-    → slice_get l.macros i ≡ Some m → d ≡ device_after bits l (clock - left)
-    → clock - left ≡ min clock (start_in_listing l i)
-    → left ≤ clock → made ≡ min left (cycles m l.nx l.ny) → new ≡ all_clocked (between 0 made (micros m l.nx l.ny)) d
-    → new ≡ device_after bits l (clock - (left - made))
-goes_on bits l i m clock left made d new here at so_far low is clocked = elim (cases_lt 0 left) [
-  | inl some ↦
-      let begun : clock - left ≡ start_in_listing l i = omega (arith, so_far, some, low) in
-      let end : start_in_listing l i + made ≡ clock - (left - made) = omega (arith, begun, is, low) in
-      clocked
-      ∙ (ap (all_clocked (between 0 made (micros m l.nx l.ny))) (at ∙ ap (device_after bits l) begun)
-      ∙ (device_with bits l i made m here (omega (arith, is)) ∙ ap (device_after bits l) end))
-  | inr none ↦
-      let zero_made : made ≡ 0 = omega (arith, none, is) in
-      let end : clock - left ≡ clock - (left - made) = omega (arith, none) in
-      clocked
-      ∙ (ap (λ n. all_clocked (between 0 n (micros m l.nx l.ny)) d) zero_made
-      ∙ (none_made (micros m l.nx l.ny) d ∙ (at ∙ ap (device_after bits l) end)))
-]
+-- an array goes on by the first cycles of an operation
+pub goes_on : (bits : ℕ) (l : ListingView) (i made start : ℕ) (m : Macro) (d new : Device)
+    → slice_get l.macros i ≡ Some m → made ≤ cycles m l.nx l.ny → start ≡ start_in_listing l i
+    → d ≡ device_after bits l start
+    → new ≡ all_clocked (between 0 made (micros m d.state.tree.nx d.state.tree.ny)) d
+    → new ≡ device_after bits l (start + made)
+goes_on bits l i made start m d new here within begun at clocked =
+    let grid : micros m d.state.tree.nx d.state.tree.ny ≡ micros m l.nx l.ny =
+    ap (λ n. micros m n d.state.tree.ny) (columns_are bits l start d at) ∙ ap (micros m l.nx) (rows_are bits l start d at)
+    in
+    clocked
+    ∙ (ap (λ ms. all_clocked (between 0 made ms) d) grid
+    ∙ (ap (all_clocked (between 0 made (micros m l.nx l.ny))) (at ∙ ap (device_after bits l) begun)
+    ∙ (device_with bits l i made m here within ∙ ap (λ n. device_after bits l (n + made)) (sym begun))))

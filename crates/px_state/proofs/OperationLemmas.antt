@@ -1,6 +1,6 @@
 -- The operations of a text, one after another.
 use Rattle.px_num.proofs.Basics.{◌≡◌, ℕ, ◌+◌, ◌<◌, ◌≤◌, true, false, List, [], ◌∷◌, ◌++◌, length, take, drop, get_or}
-use Rattle.px_num.proofs.Basics.{Some, None, Result, Ok, Err, OnOk, inl, inr, sym, subst, ap, ◌∙◌, arith, length-append}
+use Rattle.px_num.proofs.Basics.{Some, None, inl, inr, sym, subst, ap, ◌∙◌, arith, length-append}
 use Rattle.px_num.proofs.Basics.{flat_map, slice_get, cases_lt, take-append-drop, take_all, take_more, flat_map-cons}
 use Rattle.px_num.proofs.Basics.{get_or-flat_map, length-flat_map-take, get_or_from_slice_get, slice_get-get_or}
 use Rattle.px_num.proofs.Basics.{slice_get_within}
@@ -17,17 +17,14 @@ use Rattle.px_sched.specs.declared.step.Step.{Step}
 use Rattle.px_sched.specs.Layouts.{LayoutView, layout_of, need_of}
 use Rattle.px_sched.specs.Passes.{operations, passes, steps}
 use Rattle.px_sched.specs.StepCursors.{literals_in}
-use Rattle.px_listing.specs.Listings.{ListingView}
+use Rattle.px_listing.specs.Reading.{listing_of}
 use Rattle.px_playing.specs.PassesText.{passes_listing}
 use Rattle.px_state.specs.Courses.{start_in_listing}
 use Rattle.px_state.specs.Operations.{HasOperations, IsOfListing, IsOperationBy, IsOperationOf, IsPassed, no_operation}
 use Rattle.px_state.specs.Operations.{operations_before, purpose_of, told}
 use Rattle.px_state.specs.Putting.{IsPutTo}
-use Rattle.px_state.specs.Refusals.{course_of, is_listing}
-use Rattle.px_state.specs.declared.fault.StateFault.{StateFault}
+use Rattle.px_state.specs.Refusals.{is_listing}
 use Rattle.px_state.specs.declared.operation.Operation.{Operation}
-use Rattle.px_state.specs.declared.state.Course.{Course}
-use Rattle.px_state.proofs.TextLemmas.{list_course}
 
 -- those before one, and that one
 pub put_next : (Is : ℕ → Operation → Type 0) (first k : ℕ) (operation : Operation) (old new : List Operation)
@@ -145,22 +142,10 @@ before_within scene pass =
     omega (arith, ap length parts ∙ length-append (flat_map each front) (flat_map each rest))
 
 -- the operations of a text are those of the listing or of the scene that it writes
-pub of_listing : (text : List ℕ) (l : ListingView) (first : ℕ) (list : List Operation)
-    (result : Result Course StateFault)
-    → is_listing text ≡ true → course_of text ≡ l → OnOk result (HasOperations (IsOfListing l) first list)
-    → OnOk result (HasOperations (IsOperationOf text) first list)
-of_listing text l first list (Err fault) flagged is listed = tt
-of_listing text l first list (Ok counts) flagged is listed = λ j within.
-    let operation = get_or list j no_operation in
-    subst (λ b. IsOperationBy b text (first + j) operation) (sym flagged)
-    (subst (λ l. IsOfListing l (first + j) operation) (sym is ∙ list_course text flagged) (listed j within))
+pub of_listing : (text : List ℕ) (k : ℕ) (operation : Operation) → is_listing text ≡ true
+    → IsOfListing (listing_of (worded text)) k operation → IsOperationOf text k operation
+of_listing text k operation flagged listed = subst (λ b. IsOperationBy b text k operation) (sym flagged) listed
 
-pub of_scene : (text : List ℕ) (scene : SceneView) (first : ℕ) (list : List Operation)
-    (result : Result Course StateFault)
-    → is_listing text ≡ false → scene ≡ scene_of (worded text) → OnOk result (HasOperations (IsPassed scene) first list)
-    → OnOk result (HasOperations (IsOperationOf text) first list)
-of_scene text scene first list (Err fault) flagged is passed = tt
-of_scene text scene first list (Ok counts) flagged is passed = λ j within.
-    let operation = get_or list j no_operation in
-    subst (λ b. IsOperationBy b text (first + j) operation) (sym flagged)
-    (subst (λ s. IsPassed s (first + j) operation) is (passed j within))
+pub of_scene : (text : List ℕ) (k : ℕ) (operation : Operation) → is_listing text ≡ false
+    → IsPassed (scene_of (worded text)) k operation → IsOperationOf text k operation
+of_scene text k operation flagged passed = subst (λ b. IsOperationBy b text k operation) (sym flagged) passed

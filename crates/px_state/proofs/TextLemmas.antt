@@ -15,7 +15,6 @@ use Rattle.px_listing.specs.Reading as listing
 use Rattle.px_listing.specs.Reading.{ListFault}
 use Rattle.px_state.specs.Refusals.{IsRefusedBy, course_of, is_listing, refusal_by_bits}
 use Rattle.px_state.specs.Refusals.{list_fault, fault_of_scene, input_refusal, past_text_limit}
-use Rattle.px_state.specs.Keeping.{KeepsArray}
 use Rattle.px_state.specs.declared.fault.StateFault.{StateFault}
 
 pub long_text : (bits : ℕ) (text : List ℕ) → MAX_TEXT_BYTES < length text
@@ -53,13 +52,3 @@ pub scene_refused : (fault : SceneFault) (refusal : Option SceneFault) (job : Op
     → IsRefusedBy (fault_of_scene fault) (option_or (option_map fault_of_scene refusal) job)
 scene_refused fault refusal job (inl memory) = inl (ap fault_of_scene memory)
 scene_refused fault refusal job (inr is) = inr (rw is refl)
-
-pub list_keeps : (fault : ListFault) → KeepsArray (list_fault fault)
-list_keeps (text_fault.Malformed line cause) bits l array = refl
-list_keeps (text_fault.Limit line kind found) bits l array = refl
-list_keeps (text_fault.Memory _) bits l array = inl refl
-
-pub scene_keeps : (fault : SceneFault) → KeepsArray (fault_of_scene fault)
-scene_keeps (text_fault.Malformed line cause) bits l array = refl
-scene_keeps (text_fault.Limit line kind found) bits l array = refl
-scene_keeps (text_fault.Memory _) bits l array = inl refl

@@ -9,6 +9,7 @@ pub mod Cells
 pub mod Clocking
 pub mod Columns
 pub mod Courses
+pub mod Inputs
 pub mod Keeping
 pub mod Operations
 pub mod Packed

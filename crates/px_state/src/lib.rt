@@ -2,18 +2,18 @@
 #![tactic(auto)]
 
 mod acting;
+mod broadcast;
 mod clocks;
 mod columns;
 mod fault;
 mod feeding;
 mod leaves;
-mod listing;
 mod micros;
 mod operation;
 mod operations;
 mod packing;
 mod room;
-mod scene;
+mod running;
 mod shape;
 mod state;
 mod text;

@@ -1,6 +1,5 @@
 //! The operations of a text from one on, as data.
-ghost use Rattle.std.specs.Prelude.{◌≡◌, ℕ, ◌+◌, ◌≤◌, ◌<◌, ◌^◌, get_or, IfErr, IfOk, None, OnErr, OnOk, Some, length, slice_get, take};
-ghost use Rattle.std.specs.Option.{option_or};
+ghost use Rattle.std.specs.Prelude.{◌≡◌, ℕ, ◌+◌, ◌<◌, ◌≤◌, ◌^◌, get_or, Some, length, slice_get, take};
 ghost use Rattle.px_control.specs.ProgramLaws.{IsGoodProgram};
 ghost use Rattle.px_prune.specs.Kept.{plan_of};
 ghost use Rattle.px_sched.specs.Layouts.{layout_of};
@@ -9,6 +8,7 @@ ghost use Rattle.px_sched.specs.StepCursors.{literals_in};
 ghost use Rattle.px_sched.specs.Steps.{IsStep};
 ghost use Rattle.px_playing.specs.PassesText.{passes_listing};
 ghost use Rattle.px_state.specs.Courses.{start_in_listing};
+ghost use Rattle.px_state.specs.Inputs.{IsOperationIn, listing_in};
 ghost use Rattle.px_state.specs.Operations.{
   HasOperations,
   IsOfListing,
@@ -18,52 +18,35 @@ ghost use Rattle.px_state.specs.Operations.{
   purpose_of,
 };
 ghost use Rattle.px_state.specs.Putting.{IsPutTo};
-ghost use Rattle.px_state.specs.Refusals.{IsRefusedBy, refusal_by_bits, operation_refusal};
-ghost use Rattle.px_state.specs.States.{IsCourse};
 
-use crate::fault::StateFault;
-use crate::listing::clocks_of;
-use crate::micros::drawing_of;
+use crate::broadcast::Broadcast;
 use crate::operation::{Operation, no_operation, purpose_of, told};
-use crate::room::judge_operations;
-use crate::state::Course;
 use px_asm::cycles;
-use px_control::cost;
 use px_listing::Listing;
-use px_model::{Scene, laws_of_scenes};
+use px_model::Scene;
 use px_prune::Plan;
 use px_sched::{Layout, Step, StepCursor};
-use std::alloc::Global;
 
-/// Writes the operations of a listing from one on.
-pub(crate) fn operations_of_listing(
-    listing: &Listing,
-    first: u64,
-    list: &mut [Operation],
-) -> Result<Course, StateFault>
-    ensures ok { OnOk result (operation_refusal listing.now (first + length list.old) ≡ None) }
-    ensures course { IfOk result (λ c. IsCourse listing.now c) }
-    ensures operations { OnOk result (HasOperations (IsOfListing listing.now) first list.new) }
-    ensures err { IfErr result (λ fault.
-        operation_refusal listing.now (first + length list.old) ≡ Some fault) }
-    ensures kept { OnErr result (list.new ≡ list.old) }
+/// Writes the operations of what is broadcast from one on, where there are as many.
+pub(crate) fn put_course(course: &Broadcast<'_>, first: u64, list: &mut [Operation])
+    requires within { first + length list.old ≤ length (listing_in course.now).macros }
+    requires end { first + length list.old < 2 ^ 64 }
+    ensures operations { HasOperations (IsOperationIn course.now) first list.new }
     ensures length { length list.new ≡ length list.old }
 {
-    let operations = count_of(listing);
-    judge_operations(first, list.len(), operations)?;
-    put_listing(listing, first, list);
-    Ok(Course {
-        operations,
-        clocks: clocks_of(listing),
-    })
-}
-
-/// How many operations a listing has.
-fn count_of(listing: &Listing) -> u64
-    ensures count { result ≡ length listing.now.macros }
-    ensures few { result < 2 ^ 63 }
-{
-    listing.macros.len() as u64
+    match course {
+        Broadcast::Passes(program) => {
+            program.laws();
+            put_passes(
+                program.scene(),
+                program.plan(),
+                &program.layout(),
+                first,
+                list,
+            );
+        }
+        Broadcast::Listed(listing) => put_listing(listing, first, list),
+    }
 }
 
 /// Writes the operations of a listing from one on, where there are as many.
@@ -80,33 +63,6 @@ fn put_listing(listing: &Listing, first: u64, list: &mut [Operation])
         put(&told(m, clock, &no_operation()), k as u64, first, list);
         clock += u64::from(cycles(m, listing.nx, listing.ny));
     }
-}
-
-/// Writes the operations of a scene from one on, for pixels of so many memory bits.
-pub(crate) fn operations_of_scene(
-    alloc: Global,
-    scene: &Scene,
-    bits: u32,
-    first: u64,
-    list: &mut [Operation],
-) -> Result<Course, StateFault>
-    ensures ok { OnOk result (option_or (refusal_by_bits bits scene.now)
-        (operation_refusal (passes_listing scene.now) (first + length list.old)) ≡ None) }
-    ensures course { IfOk result (λ c. IsCourse (passes_listing scene.now) c) }
-    ensures operations { OnOk result (HasOperations (IsPassed scene.now) first list.new) }
-    ensures err { IfErr result (λ fault. IsRefusedBy fault (option_or (refusal_by_bits bits scene.now)
-        (operation_refusal (passes_listing scene.now) (first + length list.old)))) }
-    ensures kept { OnErr result (list.new ≡ list.old) }
-    ensures length { length list.new ≡ length list.old }
-{
-    laws_of_scenes(scene);
-    let (layout, plan) = drawing_of(alloc, scene, bits)?;
-    let (operations, clocks) = cost(scene, &plan, &layout);
-    if let Err(fault) = judge_operations(first, list.len(), operations) {
-        return Err(fault);
-    }
-    put_passes(scene, &plan, &layout, first, list);
-    Ok(Course { operations, clocks })
 }
 
 /// Writes the operations of a scene's passes from one on, where there are as many.

@@ -1,0 +1,88 @@
+use Rattle.px_num.proofs.Basics.{◌≡◌, Some, refl, sym, ◌∙◌, arith, slice_get, common_steps}
+use Rattle.px_control.proofs.StepLemmas.{lawful_here}
+use Rattle.px_state.specs.Courses.{start_in_listing, total_of_listing}
+use Rattle.px_state.proofs.CourseLemmas.{begins, begins_all, start_within}
+use Rattle.px_state.specs.Inputs.{given_by, listing_in}
+use Rattle.px_state.proofs.PutLemmas.{put_next}
+use Rattle.px_state.proofs.micros.put_course.Goals as goal
+
+pub overflow_add-end : goal.overflow_add-end
+overflow_add-end c = omega (arith, c.requires.within, c.grid-nx.ensures.good.clocks)
+
+pub put_micros-start-requires-clause-lawful : goal.put_micros-start-requires-clause-lawful
+put_micros-start-requires-clause-lawful c =
+    let l = listing_in c.args.course.now in
+    let k = given_by c.args.course.now c.loop-m.mark in
+    let here : slice_get l.macros k ≡ Some c.in-Some.m = sym c.next_macro.ensures.operation ∙ c.in-Some.is in
+    lawful_here 256 l.macros k c.in-Some.m here c.grid-nx.ensures.good.lawful
+
+pub put_micros-start-requires-clause-grid : goal.put_micros-start-requires-clause-grid
+put_micros-start-requires-clause-grid c =
+    rw (c.grid-nx.ensures.columns, c.grid-nx.ensures.rows) c.grid-nx.ensures.good.grid
+
+pub put_micros-start-requires-clause-first : goal.put_micros-start-requires-clause-first
+put_micros-start-requires-clause-first c =
+    omega (arith, c.requires.within, c.grid-nx.ensures.good.clocks, c.loop-m.invariant.same)
+
+pub put_micros-start-requires-clause-start : goal.put_micros-start-requires-clause-start
+put_micros-start-requires-clause-start c =
+    let l = listing_in c.args.course.now in
+    omega (
+      arith,
+      c.loop-m.invariant.start,
+      start_within l (given_by c.args.course.now c.loop-m.mark),
+      c.grid-nx.ensures.good.clocks,
+    )
+
+pub returns-then-end-start-clause-micros : goal.returns-then-end-start-clause-micros
+returns-then-end-start-clause-micros c j within =
+    let l = listing_in c.args.course.now in
+    let k = given_by c.args.course.now c.loop-m.mark in
+    let here : slice_get l.macros k ≡ Some c.in-Some.m = sym c.next_macro.ensures.operation ∙ c.in-Some.is in
+    let made = c.put_micros-start.ensures in
+    let before = c.loop-m.invariant in
+    let end = rw (c.grid-nx.ensures.columns, c.grid-nx.ensures.rows) at made.end in
+    put_next l c.args.first k c.in-Some.m c.loop-m.start c.put_micros-start.result c.loop-m.micros
+    c.put_micros-start.new.micros here before.start end made.length before.put
+    (rw (c.grid-nx.ensures.columns, c.grid-nx.ensures.rows) at made.put) made.kept j within
+    (omega (arith, within, c.if-end-start.true, made.length, before.same))
+
+pub loop-m-preserved : goal.loop-m-preserved
+loop-m-preserved c =
+    let l = listing_in c.args.course.now in
+    let k = given_by c.args.course.now c.loop-m.mark in
+    let here : slice_get l.macros k ≡ Some c.in-Some.m = sym c.next_macro.ensures.operation ∙ c.in-Some.is in
+    let made = c.put_micros-start.ensures in
+    let before = c.loop-m.invariant in
+    let end = rw (c.grid-nx.ensures.columns, c.grid-nx.ensures.rows) at made.end in
+    let given = c.in-Some.ensures.some in
+    record {
+      stands = c.next_macro.ensures.stands;
+      start = rw given (omega (arith, end, before.start, begins l k c.in-Some.m here));
+      put = put_next l c.args.first k c.in-Some.m c.loop-m.start c.put_micros-start.result c.loop-m.micros
+          c.put_micros-start.new.micros here before.start end made.length before.put
+          (rw (c.grid-nx.ensures.columns, c.grid-nx.ensures.rows) at made.put) made.kept;
+      same = made.length ∙ before.same;
+    }
+
+pub returns-clause-micros : goal.returns-clause-micros
+returns-clause-micros c j within =
+    let l = listing_in c.args.course.now in
+    let k = given_by c.args.course.now c.loop-m.mark in
+    let before = c.loop-m.invariant in
+    let all : start_in_listing l k ≡ total_of_listing l =
+    begins_all l k (omega (arith, c.in_default.ensures.end)) in
+    before.put j within (omega (arith, within, before.same, before.start, all, c.requires.within))
+
+pub loop-m-init : goal.loop-m-init
+loop-m-init c =
+    let given = c.start-mark.ensures.given in
+    record {
+      stands = c.start-mark.ensures.stands;
+      start = rw given refl;
+      put = λ j within low. absurd (omega (arith, low));
+      same = refl;
+    }
+
+pub loop-m-smaller : goal.loop-m-smaller
+loop-m-smaller c = grind (arith, common_steps)

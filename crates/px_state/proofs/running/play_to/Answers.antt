@@ -1,0 +1,99 @@
+use Rattle.px_num.proofs.Basics.{◌≡◌, ◌+◌, ◌<◌, length, get_or, subst, ap, ◌∙◌, arith}
+use Rattle.px_asm.specs.Micros.{cycles}
+use Rattle.px_macro.specs.declared.operation.Macro.TheVariants as m
+use Rattle.px_listing.specs.Listings.{IsListing, ListingView}
+use Rattle.px_state.proofs.CourseLemmas.{begins, columns_are, goes_on, here_in, next_here, rows_are}
+use Rattle.px_state.proofs.running.play_to.Goals as goal
+
+pub make_micros-requires-clause-grid : goal.make_micros-requires-clause-grid
+make_micros-requires-clause-grid g c =
+    let l = c.args.listing.now in
+    let before = c.loop-operation.invariant in
+    let kept : IsListing l = subst IsListing c.listing.view_is c.listing.invariant in
+    let columns = columns_are g.A.Array.BITS l c.loop-operation.start _ before.at in
+    let rows = rows_are g.A.Array.BITS l c.loop-operation.start _ before.at in
+    rw (columns, rows) kept.grid
+
+pub make_micros-requires-clause-within : goal.make_micros-requires-clause-within
+make_micros-requires-clause-within g c =
+    let l = c.args.listing.now in
+    let before = c.loop-operation.invariant in
+    let items = c.deref-m-items.ensures.value ∙ ap (λ (l : ListingView). l.macros) c.listing.view_is in
+    let nx : c.listing.inside.nx ≡ l.nx = ap (λ (l : ListingView). l.nx) c.listing.view_is in
+    let ny : c.listing.inside.ny ≡ l.ny = ap (λ (l : ListingView). l.ny) c.listing.view_is in
+    let columns = columns_are g.A.Array.BITS l c.loop-operation.start _ before.at in
+    let rows = rows_are g.A.Array.BITS l c.loop-operation.start _ before.at in
+    let count : c.from.result ≡ cycles (get_or l.macros c.loop-operation.operation m.All) l.nx l.ny =
+    c.from.ensures ∙ (rw (items, nx, ny) at c.cycles-cycles.ensures.value) in
+    rw (items, columns, rows) (omega (arith, count, c.min-made.ensures))
+
+pub returns-then-made-cycles : goal.returns-then-made-cycles
+returns-then-made-cycles g c =
+    let l = c.args.listing.now in
+    let i = c.loop-operation.operation in
+    let start = c.loop-operation.start in
+    let made = c.min-made.result in
+    let before = c.loop-operation.invariant in
+    let items = c.deref-m-items.ensures.value ∙ ap (λ (l : ListingView). l.macros) c.listing.view_is in
+    let nx : c.listing.inside.nx ≡ l.nx = ap (λ (l : ListingView). l.nx) c.listing.view_is in
+    let ny : c.listing.inside.ny ≡ l.ny = ap (λ (l : ListingView). l.ny) c.listing.view_is in
+    let within : i < length l.macros = rw items at c.loop-operation-test.true in
+    let op = get_or l.macros i m.All in
+    let here = here_in l.macros i within in
+    let count : c.cycles-cycles.result ≡ cycles op l.nx l.ny = rw (items, nx, ny) at c.cycles-cycles.ensures.value in
+    let end : start + made ≡ c.args.clock =
+    omega (arith, c.min-made.ensures, c.from.ensures, c.if-made-cycles.true, before.low) in
+    record {
+      device = rw end at (goes_on g.A.Array.BITS l i made start op _ _ here (omega (arith, count, c.if-made-cycles.true))
+          before.start before.at (rw items at c.make_micros.ensures.device));
+      worked = record {
+        slots = c.make_micros.ensures.worked.slots ∙ before.worked.slots;
+        work = omega (arith, end, c.make_micros.ensures.worked.work, before.worked.work);
+      };
+      coming = next_here l c.args.clock i made op c.micro_at.result here (omega (arith, count, c.if-made-cycles.true))
+          (omega (arith, end, before.start)) (rw (items, nx, ny) at c.micro_at.ensures.value);
+      ended = tt;
+    }
+
+pub loop-operation-preserved : goal.loop-operation-preserved
+loop-operation-preserved g c =
+    let l = c.args.listing.now in
+    let i = c.loop-operation.operation in
+    let start = c.loop-operation.start in
+    let made = c.min-made.result in
+    let before = c.loop-operation.invariant in
+    let items = c.deref-m-items.ensures.value ∙ ap (λ (l : ListingView). l.macros) c.listing.view_is in
+    let nx : c.listing.inside.nx ≡ l.nx = ap (λ (l : ListingView). l.nx) c.listing.view_is in
+    let ny : c.listing.inside.ny ≡ l.ny = ap (λ (l : ListingView). l.ny) c.listing.view_is in
+    let within : i < length l.macros = rw items at c.loop-operation-test.true in
+    let op = get_or l.macros i m.All in
+    let here = here_in l.macros i within in
+    let count : c.cycles-cycles.result ≡ cycles op l.nx l.ny = rw (items, nx, ny) at c.cycles-cycles.ensures.value in
+    record {
+      start = omega (
+        arith,
+        before.start,
+        count,
+        c.min-made.ensures,
+        c.from.ensures,
+        c.if-made-cycles.false,
+        c.from-start.ensures,
+        begins l i op here,
+      );
+      few = omega (
+        arith,
+        before.few,
+        c.min-made.ensures,
+        c.from.ensures,
+        c.from-start.ensures,
+        c.cycles-cycles.ensures.few,
+      );
+      low = omega (arith, before.low, c.min-made.ensures, c.from-start.ensures);
+      at = rw c.from-start.ensures (goes_on g.A.Array.BITS l i made start op _ _ here
+          (omega (arith, count, c.min-made.ensures, c.from.ensures)) before.start before.at
+          (rw items at c.make_micros.ensures.device));
+      worked = record {
+        slots = c.make_micros.ensures.worked.slots ∙ before.worked.slots;
+        work = omega (arith, c.from-start.ensures, c.make_micros.ensures.worked.work, before.worked.work);
+      };
+    }
