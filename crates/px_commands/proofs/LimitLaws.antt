@@ -10,9 +10,6 @@ over n filled = grind (arith, nat_tests)
 under : (n : ℕ) → n ≤ 1048576 → nat_lt 1048576 n ≡ false
 under n most = grind (arith, nat_tests)
 
-below : (n : ℕ) → n < 1048577 → nat_lt 1048576 n ≡ false
-below n less = grind (arith, nat_tests)
-
 pub past_limit : (n : ℕ) → READ_LIMIT ≤ n → nat_lt MAX_TEXT_BYTES n ≡ true
 past_limit n filled = over n filled
 
@@ -20,7 +17,7 @@ pub at_most : (n : ℕ) → n ≤ MAX_TEXT_BYTES → nat_lt MAX_TEXT_BYTES n ≡
 at_most n most = under n most
 
 pub not_filled : (n : ℕ) → n < READ_LIMIT → nat_lt MAX_TEXT_BYTES n ≡ false
-not_filled n less = below n less
+not_filled n less = under n (omega (arith, less))
 
 pub long_is : (bytes : List ℕ) → 1048577 ≤ length bytes → is_long bytes ≡ true
 unfolding is_long

@@ -6,8 +6,8 @@ use Rattle.std.specs.Str.{bytes_eq}
 use Rattle.px_text.specs.Text.{number_of}
 use Rattle.px_commands.specs.declared.command.Command.{Command}
 use Rattle.px_commands.specs.declared.command.Command.TheVariants as c
-use Rattle.px_commands.specs.declared.command.Fineness.{Fineness}
-use Rattle.px_commands.specs.declared.command.Fineness.TheVariants as f
+use Rattle.px_frame.specs.declared.plane.Fineness.{Fineness}
+use Rattle.px_frame.specs.declared.plane.Fineness.TheVariants as f
 use Rattle.px_model.specs.declared.limits.TheConstants.{MAX_BLOCKS, MAX_WIDE_PICTURE_SIZE}
 use Rattle.px_commands.specs.declared.command.Work.{Work}
 use Rattle.px_commands.specs.declared.command.Work.TheVariants as w
@@ -39,11 +39,6 @@ count_to greatest (Some z) = if le_z (pos 1) z && le_z z (pos greatest) then Som
 abbrev pub sampling : Option ℕ → Option Command
 sampling None = None
 sampling (Some n) = Some (c.Sample n)
-
--- how often the pixels on each side are doubled
-abbrev pub doublings : Fineness → ℕ
-doublings f.Two = 1
-doublings f.Four = 2
 
 -- the finer pixels along each side of a pixel
 abbrev pub fineness_of : List ℕ → Option Fineness

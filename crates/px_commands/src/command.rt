@@ -1,6 +1,5 @@
 //! What a run is asked to do.
-ghost use Rattle.std.specs.Prelude.{◌≡◌};
-ghost use Rattle.px_commands.specs.Commands.{doublings};
+use px_frame::Fineness;
 
 /// What the program is asked to do (docs/SCENES.md, "Commands").
 #[derive(Clone, Copy)]
@@ -38,15 +37,6 @@ pub enum Work {
     List,
 }
 
-/// How many finer pixels stand along each side of a pixel.
-#[derive(Clone, Copy)]
-pub enum Fineness {
-    /// Two, so that a pixel is the mean of four.
-    Two,
-    /// Four, so that a pixel is the mean of sixteen.
-    Four,
-}
-
 /// The size of a wide picture in pixels, each side of 1 to `px_model::MAX_WIDE_PICTURE_SIZE`.
 #[derive(Clone, Copy)]
 pub struct Size {
@@ -54,16 +44,4 @@ pub struct Size {
     pub width: u32,
     /// The pixels of a column.
     pub height: u32,
-}
-
-impl Fineness {
-    /// How often the pixels on each side are doubled.
-    pub fn doublings(self) -> u32
-        ensures { result ≡ doublings self }
-    {
-        match self {
-            Fineness::Two => 1,
-            Fineness::Four => 2,
-        }
-    }
 }

@@ -19,7 +19,8 @@ ghost use Rattle.px_commands.specs.Commands.{
   tiling,
 };
 
-use crate::command::{Command, Fineness, Size, Work};
+use crate::command::{Command, Size, Work};
+use px_frame::Fineness;
 use px_model::{MAX_BLOCKS, MAX_WIDE_PICTURE_SIZE};
 use px_text::{few_words, number_of};
 

@@ -1,6 +1,6 @@
 //! Why a text is refused, or what it asks of an array.
 ghost use Rattle.std.specs.Prelude.{◌≡◌};
-ghost use Rattle.px_commands.specs.Refusals.{short_of_bits, too_long, too_many};
+ghost use Rattle.px_commands.specs.Refusals.{too_long};
 
 use px_listing::ListKind;
 use px_scene::{Cause, LimitKind};
@@ -29,28 +29,6 @@ pub enum Kind {
     Tiles,
     /// One of those of listings.
     List(ListKind),
-}
-
-/// The refusal of a scene one of whose lists of products is too long.
-pub fn too_many(count: u32) -> Refusal
-    ensures { result ≡ too_many count }
-{
-    Refusal::Limit {
-        line: 0,
-        kind: Kind::Scene(LimitKind::Products),
-        found: i64::from(count),
-    }
-}
-
-/// The refusal of a scene that needs so many bits of a pixel.
-pub fn short_of_bits(need: u32) -> Refusal
-    ensures { result ≡ short_of_bits need }
-{
-    Refusal::Limit {
-        line: 0,
-        kind: Kind::Scene(LimitKind::PixelMemory),
-        found: i64::from(need),
-    }
 }
 
 /// The refusal of a text that has more bytes than it may have.

@@ -7,7 +7,7 @@ ghost use Rattle.px_commands.specs.Refusals.{scene_limit};
 ghost use Rattle.px_commands.specs.Results.{status_of};
 ghost use Rattle.px_commands.specs.JobStops.{job_stop, products_stop};
 
-use crate::refusal::{Kind, Refusal, short_of_bits, too_many};
+use crate::refusal::{Kind, Refusal};
 use crate::status::Status;
 use px_control::JobFault;
 use px_frame::FineFault;
@@ -149,8 +149,8 @@ impl From<FineFault> for SceneStop {
     }
 }
 
-/// The finer scene is past a limit.
-fn past_limit(kind: LimitKind, found: i64) -> SceneStop
+/// A scene is past a limit that is not one line's.
+pub fn past_limit(kind: LimitKind, found: i64) -> SceneStop
     ensures { result ≡ SceneStop.Refused (scene_limit kind found) }
 {
     SceneStop::Refused(Refusal::Limit {
@@ -165,8 +165,8 @@ pub(crate) fn job_stop(fault: JobFault) -> SceneStop
     ensures { result ≡ job_stop fault }
 {
     match fault {
-        JobFault::PixelMemory { need } => SceneStop::Refused(short_of_bits(need)),
-        JobFault::Products { count } => SceneStop::Refused(too_many(count)),
+        JobFault::PixelMemory { need } => past_limit(LimitKind::PixelMemory, i64::from(need)),
+        JobFault::Products { count } => past_limit(LimitKind::Products, i64::from(count)),
         JobFault::Memory(lack) => SceneStop::Memory(lack),
     }
 }
@@ -176,7 +176,7 @@ pub(crate) fn products_stop(fault: NormalFault) -> SceneStop
     ensures { result ≡ products_stop fault }
 {
     match fault {
-        NormalFault::TooMany { count } => SceneStop::Refused(too_many(count)),
+        NormalFault::TooMany { count } => past_limit(LimitKind::Products, i64::from(count)),
         NormalFault::Memory(lack) => SceneStop::Memory(lack),
     }
 }

@@ -12,7 +12,7 @@ use Rattle.px_scene.specs.Scenes.{SceneView}
 use Rattle.px_scene.specs.Text.{worded}
 use Rattle.px_scene.specs.Reading.{scene_of}
 use Rattle.px_frame.specs.Finer.{fine_scene}
-use Rattle.px_commands.specs.Commands.{doublings}
+use Rattle.px_frame.specs.Refined.{doublings}
 use Rattle.px_commands.specs.declared.command.Work.{Work}
 use Rattle.px_commands.specs.declared.refusal.Refusal.{Refusal}
 use Rattle.px_commands.specs.declared.stop.Stop.{Stop}

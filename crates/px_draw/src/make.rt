@@ -81,7 +81,7 @@ fn make<O: Sink, A: Operating>(
 }
 
 /// Draws a scene on the array, and writes images of it.
-fn make_images<O: Sink, A: Operating>(
+pub(crate) fn make_images<O: Sink, A: Operating>(
     alloc: Global,
     scene: &Scene,
     planes: &[Plane],

@@ -10,11 +10,9 @@ ghost use Rattle.px_commands.specs.Outcomes.{unless_refused};
 ghost use Rattle.px_commands.specs.Results.{status_in, status_of};
 ghost use Rattle.px_commands.specs.Stops.{DoesWork, StopsAt, stop_at, stopped};
 ghost use Rattle.px_draw.specs.Tiling.{DrawsTiles, tiled, tiles_refusal, wide_fault_refusal, wide_images};
-ghost use Rattle.px_commands.specs.declared.stop.SceneStop.{SceneStop};
-ghost use Rattle.px_commands.specs.declared.refusal.Refusal.{Refusal};
 
 use px_asm::Operating;
-use px_commands::{Kind, Refusal, SceneStop, Size, Stop, short_of_bits, too_many};
+use px_commands::{Kind, Refusal, SceneStop, Size, Stop, past_limit};
 use px_io::{Failed, Sink};
 use px_scene::{LimitKind, Scene};
 use px_tile::{WideFault, render_tiles, write_wide};
@@ -63,25 +61,16 @@ fn stop_of(fault: WideFault) -> SceneStop
     ensures { result ≡ stop_at (wide_fault_refusal fault) }
 {
     match fault {
-        WideFault::Tiles { found } => past_limit(Kind::Tiles, i64::from(found)),
-        WideFault::Coefficient { found } => {
-            past_limit(Kind::Scene(LimitKind::Coefficient), found)
-        }
-        WideFault::PixelMemory { need } => SceneStop::Refused(short_of_bits(need)),
-        WideFault::Products { count } => SceneStop::Refused(too_many(count)),
+        WideFault::Tiles { found } => SceneStop::Refused(Refusal::Limit {
+            line: 0,
+            kind: Kind::Tiles,
+            found: i64::from(found),
+        }),
+        WideFault::Coefficient { found } => past_limit(LimitKind::Coefficient, found),
+        WideFault::PixelMemory { need } => past_limit(LimitKind::PixelMemory, i64::from(need)),
+        WideFault::Products { count } => past_limit(LimitKind::Products, i64::from(count)),
         WideFault::Memory(lack) => SceneStop::Memory(lack),
     }
-}
-
-/// A wide picture is past a limit.
-fn past_limit(kind: Kind, found: i64) -> SceneStop
-    ensures { result ≡ SceneStop.Refused (Refusal.Limit 0 kind found) }
-{
-    SceneStop::Refused(Refusal::Limit {
-        line: 0,
-        kind,
-        found,
-    })
 }
 
 /// Writes the two images of a wide picture, and finishes.

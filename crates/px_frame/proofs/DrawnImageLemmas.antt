@@ -2,9 +2,8 @@
 use Rattle.px_num.proofs.Basics.{◌≡◌, ℕ, ◌+◌, ◌<◌, List, [], ◌∷◌, ◌++◌, length, take, drop, get_or, refl, ap, sym, ◌∙◌}
 use Rattle.px_num.proofs.Basics.{append-nil, flat_map-append, take_more, take-append-drop}
 use Rattle.px_model.specs.Scenes.{SceneView}
-use Rattle.px_frame.specs.Picture.{picture_image}
+use Rattle.px_frame.specs.Images.{images, picture_image}
 use Rattle.px_frame.specs.declared.plane.Plane.{Plane}
-use Rattle.px_frame.specs.Images.{images}
 
 -- the images before one of them, that one, and those behind it
 pub images_at : (scene : SceneView) (planes : List Plane) (i : ℕ) (d : Plane) → i < length planes

@@ -8,5 +8,6 @@ pub mod PictureLemmas
 pub mod RefusalLemmas
 pub mod RowLaws
 pub mod ScaleLemmas
+pub mod ShownLemmas
 pub mod StripLemmas
 pub mod Words

@@ -1,21 +1,19 @@
 -- Means of the same samples, and the image of means over the picture of the finer scene.
-use Rattle.px_num.proofs.Basics.{◌≡◌, ◌≢◌, ℕ, zero, suc, ◌+◌, ◌*◌, ◌/◌, ◌%◌, ◌^◌, ◌<◌, ◌≤◌, List, refl, ap, sym, subst}
-use Rattle.px_num.proofs.Basics.{◌∙◌, arith, mul-div-le, mul-le-mul_left, pow_pos, range_with_len, sum_by}
+use Rattle.px_num.proofs.Basics.{◌≡◌, ◌≢◌, ℕ, zero, suc, ◌+◌, ◌*◌, ◌/◌, ◌%◌, ◌^◌, ◌<◌, ◌≤◌, List, [], ◌∷◌, refl, ap, sym}
+use Rattle.px_num.proofs.Basics.{subst, ◌∙◌, append-nil, arith, mul-div-le, mul-le-mul_left, pow_pos, range_with_len}
+use Rattle.px_num.proofs.Basics.{sum_by}
 use Rattle.std.proofs.Math.Nat.{mul-div_cancel_left}
 use Rattle.px_model.specs.declared.solid.Colour.{Colour}
-use Rattle.px_model.specs.declared.limits.TheConstants.{MAX_PICTURE_SIZE}
-use Rattle.px_model.specs.Scenes.{SceneView, colour_in_scene, faces_of}
-use Rattle.px_array.specs.Arrays.{State}
-use Rattle.px_sched.specs.Layouts.{LayoutView, number_part}
-use Rattle.px_num.proofs.RangeLaws.{same_parts}
-use Rattle.px_frame.specs.Picture.{image_of_pixels, colour_at, row_of_pixels}
-use Rattle.px_frame.specs.Stored.{HasRows, StoresFaces, stored_colour, stored_face}
-use Rattle.px_frame.specs.Strips.{HoldsRow, strip_number}
-use Rattle.px_frame.proofs.RowLaws.{same_pixels}
+use Rattle.px_model.specs.Scenes.{SceneView, faces_of}
 use Rattle.px_frame.specs.Finer.{fine_scene}
-use Rattle.px_frame.specs.Refined.{mean, mean_pixel}
+use Rattle.px_frame.specs.Images.{images, picture_image}
+use Rattle.px_frame.specs.MeanSums.{HoldsFaces}
+use Rattle.px_frame.specs.Picture.{image_of_pixels, colour_at}
+use Rattle.px_frame.specs.Refined.{doublings, mean, mean_pixel, refined_image}
 use Rattle.px_frame.specs.RefinedLaw.{MeansAreRefined}
-use Rattle.px_frame.specs.MeanSums.{HoldsFaces, strip_colour}
+use Rattle.px_frame.specs.Strips.{strip_number}
+use Rattle.px_frame.specs.declared.plane.Fineness.{Fineness}
+use Rattle.px_frame.specs.declared.plane.Plane.TheVariants as p
 use Rattle.px_frame.proofs.MeanSumLaws.{sum_more}
 
 sum_same : (f g : ℕ → ℕ) (count : ℕ) → ((k : ℕ) → k < count → f k ≡ g k)
@@ -28,7 +26,7 @@ sum_same f g (suc n) same =
     grind (arith, sum_more)
 
 -- a pixel of so many by so many, each cut into k by k
-in_block : (k x w i : ℕ) → x < w → i < k → k * x + i < k * w
+pub in_block : (k x w i : ℕ) → x < w → i < k → k * x + i < k * w
 in_block k x w i left inside = grind (arith, mul-le-mul_left)
 
 module _ (s x y : ℕ) where
@@ -37,7 +35,7 @@ module _ (s x y : ℕ) where
       → mean s f x y ≡ mean s g x y
   mean_same f g same = grind (arith, sum_same)
 
-  pixel_same : (c d : (x y : ℕ) → Colour)
+  pub pixel_same : (c d : (x y : ℕ) → Colour)
       → ((i j : ℕ) → i < 2 ^ s → j < 2 ^ s → c (2 ^ s * x + i) (2 ^ s * y + j) ≡ d (2 ^ s * x + i) (2 ^ s * y + j))
       → mean_pixel s c x y ≡ mean_pixel s d x y
   pixel_same c d same =
@@ -50,24 +48,26 @@ module _ (s x y : ℕ) where
       rw (red, green, blue) refl
 
 pub means_refined : MeansAreRefined
-means_refined s scene layout state shows =
+means_refined s scene =
     let fine = fine_scene s scene in
     let width : 2 ^ s * scene.width / 2 ^ s ≡ scene.width = mul-div_cancel_left scene.width (pow_pos s) in
     let height : 2 ^ s * scene.height / 2 ^ s ≡ scene.height = mul-div_cancel_left scene.height (pow_pos s) in
-    ap (λ m. image_of_pixels m (2 ^ s * scene.height / 2 ^ s) (mean_pixel s (stored_colour fine layout state))) width
-    ∙ ap (λ m. image_of_pixels scene.width m (mean_pixel s (stored_colour fine layout state))) height
-    ∙ same_pixels scene.width scene.height (mean_pixel s (stored_colour fine layout state))
-    (mean_pixel s (colour_at fine))
-    (λ x y left above. pixel_same s x y (stored_colour fine layout state) (colour_at fine)
-    (λ i j p q. ap (colour_in_scene fine.solids) ((shows (2 ^ s * x + i) (2 ^ s * y + j)
-    (in_block (2 ^ s) x scene.width i left p) (in_block (2 ^ s) y scene.height j above q)).face)))
+    ap (λ m. image_of_pixels m (2 ^ s * scene.height / 2 ^ s) (mean_pixel s (colour_at fine))) width
+    ∙ ap (λ m. image_of_pixels scene.width m (mean_pixel s (colour_at fine))) height
+
+-- the images of the finer scene that are of means alone
+pub images_refined : (fineness : Fineness) (scene : SceneView)
+    → images (fine_scene (doublings fineness) scene) (p.Means fineness ∷ []) ≡ refined_image (doublings fineness) scene
+images_refined fineness scene =
+    append-nil (picture_image (fine_scene (doublings fineness) scene) (p.Means fineness))
+    ∙ means_refined (doublings fineness) scene
 
 -- a block of so many rows as fit into a height
 pub block_fits : (s y height : ℕ) → y < height / 2 ^ s → 2 ^ s * y + 2 ^ s ≤ height
 block_fits s y height above = grind (arith, mul-le-mul_left, mul-div-le)
 
 -- the rows of a block are in one strip
-in_strip : (s y j : ℕ) → s ≤ 2 → j < 2 ^ s → (2 ^ s * y + j) / 8 ≡ 2 ^ s * y / 8
+pub in_strip : (s y j : ℕ) → s ≤ 2 → j < 2 ^ s → (2 ^ s * y + j) / 8 ≡ 2 ^ s * y / 8
 in_strip zero y j few low = omega arith
 in_strip (suc zero) y j few low = omega arith
 in_strip (suc (suc zero)) y j few low = omega arith
@@ -79,30 +79,6 @@ next_in_strip zero y few further = omega (arith, further)
 next_in_strip (suc zero) y few further = omega (arith, further)
 next_in_strip (suc (suc zero)) y few further = omega (arith, further)
 next_in_strip (suc (suc (suc k))) y few further = absurd (omega arith)
-
-module _
-    (s y : ℕ) (fine : SceneView) (layout : LayoutView) (state : State) (strip : List ℕ) (few : s ≤ 2)
-    (high : 2 ^ s * y + 2 ^ s ≤ fine.height) (rows : HasRows fine state)
-    (held : HoldsRow strip (number_part layout layout.key_b) state fine.width (2 ^ s * y))
-  where
-    face_held : (x j : ℕ) → x < fine.width → j < 2 ^ s
-        → strip_number strip x (2 ^ s * y + j) ≡ stored_face layout state x (2 ^ s * y + j)
-    face_held x j left low = held.each x (2 ^ s * y + j) left (in_strip s y j few low) (omega (arith, high, rows, low))
-
-    -- a row of means over what a strip has is one over what the array stores
-    pub row_held : (width : ℕ) → 2 ^ s * width ≤ fine.width
-        → row_of_pixels width (mean_pixel s (strip_colour fine strip)) y
-        ≡ row_of_pixels width (mean_pixel s (stored_colour fine layout state)) y
-    row_held width wide =
-        same_parts (λ x. mean_pixel s (strip_colour fine strip) x y)
-        (λ x. mean_pixel s (stored_colour fine layout state) x y)
-        0 width (λ x from left. pixel_same s x y (strip_colour fine strip) (stored_colour fine layout state)
-        (λ i j p q. ap (colour_in_scene fine.solids) (face_held (2 ^ s * x + i) j
-        (omega (arith, in_block (2 ^ s) x width i (omega (arith, left)) p, wide)) q)))
-
-    pub faces_held : fine.width ≤ MAX_PICTURE_SIZE → fine.height ≤ MAX_PICTURE_SIZE → StoresFaces fine layout state
-        → HoldsFaces fine strip (2 ^ s * y) (2 ^ s)
-    faces_held wide most faces = grind (arith, face_held)
 
 -- one row of them
 pub one_row : (scene : SceneView) (strip : List ℕ) (top across j : ℕ) → j < across → HoldsFaces scene strip top across

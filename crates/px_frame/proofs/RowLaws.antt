@@ -1,15 +1,13 @@
 -- Rows by their pixels, and images by their rows, as they are written one after another; images of the same numbers.
-use Rattle.px_num.proofs.Basics.{◌≡◌, ℕ, ◌+◌, ◌-◌, ◌/◌, ◌^◌, ◌<◌, ◌≤◌, refl, ap, sym, ◌∙◌, arith, List, [], ◌∷◌, ◌++◌}
+use Rattle.px_num.proofs.Basics.{◌≡◌, ℕ, ◌+◌, ◌-◌, ◌/◌, ◌<◌, ◌≤◌, refl, ap, sym, ◌∙◌, arith, List, [], ◌∷◌, ◌++◌}
 use Rattle.px_num.proofs.Basics.{append_assoc, get_or, length, set, take, length-set, flat_map-append, flat_map}
 use Rattle.px_num.proofs.Basics.{range_with_len}
-use Rattle.px_frame.proofs.Words.{Field, field_shown, front_after, front_before, header, HoldsRow, image_of}
-use Rattle.px_frame.proofs.Words.{image_of_pixels, LayoutView, number_in, number_pixel, pixel_of, Plane, row_bytes}
-use Rattle.px_frame.proofs.Words.{row_of_pixels, SceneView, shown_pixel, SinkState, State, stored_pixel, strip_pixel}
-use Rattle.px_frame.proofs.Words.{takes_both, TakesAll, TakesFront, three_bytes}
+use Rattle.px_frame.proofs.Words.{Field, front_after, front_before, header, HoldsRow, image_of, image_of_pixels}
+use Rattle.px_frame.proofs.Words.{number_pixel, row_of_pixels, SinkState, State, takes_both, TakesAll, TakesFront}
+use Rattle.px_frame.proofs.Words.{three_bytes}
 use Rattle.std.proofs.lemmas.List.{append-nil}
 use Rattle.std.proofs.lemmas.Grind.{take-set_at}
 use Rattle.px_num.proofs.RangeLaws.{range_cut, same_parts}
-use Rattle.px_frame.specs.declared.plane.Plane.TheVariants as p
 
 range_join : (n m : ℕ) → range_with_len 0 n ++ range_with_len n m ≡ range_with_len 0 (n + m)
 range_join n m =
@@ -49,11 +47,6 @@ pixels_grown pixel x y bytes old new filled is grown =
     grown ∙ ap (λ front. front ++ bytes) filled ∙ ap (λ more. row_of_pixels x pixel y ++ more) is
     ∙ made_more (λ x. pixel x y) x
 
-pub row_grown : (number : (x y : ℕ) → ℕ) (x y n : ℕ) (old new : List ℕ) → old ≡ row_bytes x number y
-    → n ≡ number x y → new ≡ old ++ three_bytes n → new ≡ row_bytes (x + 1) number y
-row_grown number x y n old new filled is grown =
-    pixels_grown (number_pixel number) x y (three_bytes n) old new filled (ap three_bytes is) grown
-
 -- one row more
 pub rows_grown : (a b c : SinkState) (front : List ℕ) (row : ℕ → List ℕ) (y : ℕ)
     → TakesAll a b (front ++ flat_map row (range_with_len 0 y)) → TakesAll b c (row y)
@@ -75,14 +68,6 @@ rows_broken a b c front row y height above written next =
     rw whole at (front_before a c (front ++ made row (y + 1)) (flat_map row (range_with_len (y + 1) rest))
     (rw more at (front_after a b c (front ++ made row y) (row y) written next)))
 
--- a stored pixel is what the image shows of the number in its field
-pixel_shown : (scene : SceneView) (layout : LayoutView) (state : State) (plane : Plane) (x y : ℕ)
-    → shown_pixel scene plane (number_in (field_shown layout plane) (pixel_of state x y).memory)
-    ≡ stored_pixel scene layout state plane x y
-pixel_shown scene layout state p.Depth x y = refl
-pixel_shown scene layout state p.Face x y = refl
-pixel_shown scene layout state p.Colour x y = refl
-
 -- an image is that of the pixels in the picture
 pub same_pixels : (width height : ℕ) (f g : (x y : ℕ) → List ℕ) → ((x y : ℕ) → x < width → y < height → f x y ≡ g x y)
     → image_of_pixels width height f ≡ image_of_pixels width height g
@@ -96,16 +81,6 @@ pub same_image : (width height : ℕ) (f g : (x y : ℕ) → ℕ) → ((x y : �
 same_image width height f g same =
     same_pixels width height (number_pixel f) (number_pixel g)
     (λ x y left above. ap three_bytes (same x y left above))
-
--- a row of what a strip holds is one of what the array stores
-pub row_shown : (scene : SceneView) (layout : LayoutView) (state : State) (plane : Plane) (strip : List ℕ) (y : ℕ)
-    → y < 2 ^ state.tree.ny → HoldsRow strip (field_shown layout plane) state scene.width y
-    → row_of_pixels scene.width (strip_pixel scene plane strip) y
-    ≡ row_of_pixels scene.width (stored_pixel scene layout state plane) y
-row_shown scene layout state plane strip y above held =
-    same_parts (λ x. strip_pixel scene plane strip x y) (λ x. stored_pixel scene layout state plane x y) 0 scene.width
-    (λ x low left. ap (shown_pixel scene plane) (held.each x y (omega arith) refl above)
-    ∙ pixel_shown scene layout state plane x y)
 
 -- a strip that has the numbers of a row has those of another one of its eight
 pub other_row : (strip : List ℕ) (field : Field) (state : State) (width y other : ℕ) → other / 8 ≡ y / 8

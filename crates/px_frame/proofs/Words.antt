@@ -2,9 +2,10 @@
 pub use Rattle.px_array.specs.Arrays.{pixel_of, State}
 pub use Rattle.px_array.specs.Words.{IsMemoryWord, memory_bit}
 pub use Rattle.px_frame.specs.Picture.{depth_at, face_at, header, image_of, image_of_pixels, number_pixel}
-pub use Rattle.px_frame.specs.Picture.{picture_image, row_of_pixels, three_bytes}
-pub use Rattle.px_frame.specs.Rows.{field_shown, row_bytes, shown_pixel, strip_pixel}
-pub use Rattle.px_frame.specs.Stored.{stored_depth, stored_face, stored_image, stored_pixel}
+pub use Rattle.px_frame.specs.Picture.{row_of_pixels, three_bytes}
+pub use Rattle.px_frame.specs.Images.{picture_image}
+pub use Rattle.px_frame.specs.Stored.{doublings_of, field_shown, shown_pixel, side_shown, stored_depth, stored_face}
+pub use Rattle.px_frame.specs.Stored.{stored_image, stored_number}
 pub use Rattle.px_frame.specs.Strips.{HoldsRow, strip_number}
 pub use Rattle.px_frame.specs.declared.plane.Plane.{Plane}
 pub use Rattle.px_io.proofs.ToldLaws.{front_after, front_before, on_err, takes_both}

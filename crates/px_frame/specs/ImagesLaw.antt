@@ -6,7 +6,7 @@ use Rattle.px_model.specs.Scenes.{IsLawfulScene, SceneView}
 use Rattle.px_sched.specs.Layouts.{LayoutView}
 use Rattle.px_sched.specs.PassesLaw.{ShowsThePicture}
 use Rattle.px_frame.specs.declared.plane.Plane.{Plane}
-use Rattle.px_frame.specs.Picture.{picture_image}
+use Rattle.px_frame.specs.Images.{picture_image}
 use Rattle.px_frame.specs.Stored.{StoresFaces, stored_image}
 
 abbrev pub ImagesShowThePicture : Type 0

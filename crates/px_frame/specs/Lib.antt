@@ -17,6 +17,5 @@ pub mod PictureLaw
 pub mod Refined
 pub mod RefinedLaw
 pub mod Refusals
-pub mod Rows
 pub mod Stored
 pub mod Strips

@@ -4,7 +4,9 @@ use Rattle.std.specs.List.{range_with_len}
 use Rattle.px_model.specs.declared.limits.TheConstants.{MAX_PICTURE_SIZE}
 use Rattle.px_model.specs.declared.solid.Colour.{Colour}
 use Rattle.px_model.specs.Scenes.{SceneView, colour_in_scene, faces_of}
+use Rattle.px_frame.specs.Stored.{IsShown, doublings_of}
 use Rattle.px_frame.specs.Strips.{strip_number}
+use Rattle.px_frame.specs.declared.plane.Plane.{Plane}
 use Rattle.px_frame.specs.declared.mean_sums.Sums.{Sums}
 
 abbrev pub no_sums : Sums
@@ -63,3 +65,13 @@ pub record HoldsFaces (scene : SceneView) (strip : List ℕ) (top count : ℕ) :
   pub high : top + count ≤ MAX_PICTURE_SIZE
   pub columns : length strip ≡ 8 * scene.width
   pub faces : (x j : ℕ) → x < scene.width → j < count → strip_number strip x (top + j) ≤ faces_of scene.solids
+
+-- a strip has the columns of a scene's picture, and in the rows of row y of an image what it shows
+pub record HoldsShown (scene : SceneView) (plane : Plane) (strip : List ℕ) (y : ℕ) : Type 0 where
+  pub wide : scene.width ≤ MAX_PICTURE_SIZE
+  pub high : 2 ^ doublings_of plane * y + 2 ^ doublings_of plane ≤ scene.height
+  pub most : scene.height ≤ MAX_PICTURE_SIZE
+  pub columns : length strip ≡ 8 * scene.width
+  pub small : (x row : ℕ) → x < scene.width → strip_number strip x row < 2 ^ 24
+  pub shown : (x j : ℕ) → x < scene.width → j < 2 ^ doublings_of plane
+      → IsShown scene plane (strip_number strip x (2 ^ doublings_of plane * y + j))

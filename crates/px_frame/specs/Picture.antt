@@ -5,8 +5,6 @@ use Rattle.std.specs.List.{flat_map, range_with_len}
 use Rattle.px_model.specs.declared.solid.Colour.{Colour}
 use Rattle.px_model.specs.Scenes.{SceneView, colour_in_scene}
 use Rattle.px_model.specs.Cells.{picture}
-use Rattle.px_frame.specs.declared.plane.Plane.{Plane}
-use Rattle.px_frame.specs.declared.plane.Plane.TheVariants as p
 
 -- the three lines before the pixels
 unfoldable pub header : (width height : ℕ) → List ℕ
@@ -61,8 +59,3 @@ face_image scene = image_of scene.width scene.height (face_at scene)
 
 abbrev pub colour_image : SceneView → List ℕ
 colour_image scene = image_of_pixels scene.width scene.height (colour_pixel (colour_at scene))
-
-abbrev pub picture_image : SceneView → Plane → List ℕ
-picture_image scene p.Depth = depth_image scene
-picture_image scene p.Face = face_image scene
-picture_image scene p.Colour = colour_image scene

@@ -1,33 +1,74 @@
--- The images of what an array stores: the depth and the face number in key B of each pixel of the picture.
--- Clauses of public calls stand on it.
-use Rattle.std.specs.Prelude.{ℕ, ◌^◌, ◌<◌, ◌≤◌, List}
+-- The images of what an array stores: numbers in a field of each pixel of the picture, as the depth and the face
+-- number in key B. Clauses of public calls stand on it.
+use Rattle.std.specs.Prelude.{ℕ, ◌/◌, ◌^◌, ◌<◌, ◌≤◌, ⊤, List}
 use Rattle.px_array.specs.Arrays.{State, pixel_of}
 use Rattle.px_macro.specs.Fields.{number_in}
+use Rattle.px_macro.specs.declared.field.Field.{Field}
 use Rattle.px_model.specs.declared.solid.Colour.{Colour}
 use Rattle.px_model.specs.Scenes.{SceneView, colour_in_scene, faces_of}
 use Rattle.px_sched.specs.Layouts.{LayoutView, depth_part, number_part}
 use Rattle.px_frame.specs.declared.plane.Plane.{Plane}
 use Rattle.px_frame.specs.declared.plane.Plane.TheVariants as p
-use Rattle.px_frame.specs.Picture.{colour_bytes, image_of_pixels, three_bytes}
+use Rattle.px_frame.specs.Picture.{colour_pixel, image_of_pixels, number_pixel}
+use Rattle.px_frame.specs.Refined.{doublings, mean_pixel}
+
+abbrev pub stored_number : Field → State → (x y : ℕ) → ℕ
+stored_number field state x y = number_in field (pixel_of state x y).memory
 
 abbrev pub stored_depth : LayoutView → State → (x y : ℕ) → ℕ
-stored_depth layout state x y = number_in (depth_part layout layout.key_b) (pixel_of state x y).memory
+stored_depth layout state = stored_number (depth_part layout layout.key_b) state
 
 abbrev pub stored_face : LayoutView → State → (x y : ℕ) → ℕ
-stored_face layout state x y = number_in (number_part layout layout.key_b) (pixel_of state x y).memory
+stored_face layout state = stored_number (number_part layout layout.key_b) state
 
 -- the colour of the face that is stored
 abbrev pub stored_colour : SceneView → LayoutView → State → (x y : ℕ) → Colour
 stored_colour scene layout state x y = colour_in_scene scene.solids (stored_face layout state x y)
 
-abbrev pub stored_pixel : SceneView → LayoutView → State → Plane → (x y : ℕ) → List ℕ
-stored_pixel scene layout state p.Depth x y = three_bytes (stored_depth layout state x y)
-stored_pixel scene layout state p.Face x y = three_bytes (stored_face layout state x y)
-stored_pixel scene layout state p.Colour x y = colour_bytes (stored_colour scene layout state x y)
+-- where a pixel stores the number that an image shows
+abbrev pub field_shown : LayoutView → Plane → Field
+field_shown layout p.Depth = depth_part layout layout.key_b
+field_shown layout p.Face = number_part layout layout.key_b
+field_shown layout p.Colour = number_part layout layout.key_b
+field_shown layout (p.Means fineness) = number_part layout layout.key_b
+
+-- how often a side of the pixel of an image is halved to be that of a pixel of the picture
+abbrev pub doublings_of : Plane → ℕ
+doublings_of p.Depth = 0
+doublings_of p.Face = 0
+doublings_of p.Colour = 0
+doublings_of (p.Means fineness) = doublings fineness
+
+-- how many pixels an image has along a side of so many pixels of the picture
+abbrev pub side_shown : Plane → ℕ → ℕ
+side_shown p.Depth side = side
+side_shown p.Face side = side
+side_shown p.Colour side = side
+side_shown (p.Means fineness) side = side / 2 ^ doublings fineness
+
+-- what an image shows of a number: a face that has a colour is one of the scene's
+abbrev pub IsShown : SceneView → Plane → ℕ → Type 0
+IsShown scene p.Depth number = ⊤
+IsShown scene p.Face number = ⊤
+IsShown scene p.Colour number = number ≤ faces_of scene.solids
+IsShown scene (p.Means fineness) number = number ≤ faces_of scene.solids
+
+-- the pixels of an image of these numbers
+abbrev pub shown_pixel : SceneView → Plane → (number : (x y : ℕ) → ℕ) → (x y : ℕ) → List ℕ
+shown_pixel scene p.Depth number = number_pixel number
+shown_pixel scene p.Face number = number_pixel number
+shown_pixel scene p.Colour number = colour_pixel (λ x y. colour_in_scene scene.solids (number x y))
+shown_pixel scene (p.Means fineness) number =
+    mean_pixel (doublings fineness) (λ x y. colour_in_scene scene.solids (number x y))
+
+-- the image of the numbers that the pixels of the picture store in a field
+abbrev pub field_image : SceneView → Field → State → Plane → List ℕ
+field_image scene field state plane =
+    image_of_pixels (side_shown plane scene.width) (side_shown plane scene.height)
+    (shown_pixel scene plane (stored_number field state))
 
 abbrev pub stored_image : SceneView → LayoutView → State → Plane → List ℕ
-stored_image scene layout state plane =
-    image_of_pixels scene.width scene.height (stored_pixel scene layout state plane)
+stored_image scene layout state plane = field_image scene (field_shown layout plane) state plane
 
 -- the grid has the columns of the picture, and its rows
 abbrev pub HasColumns : SceneView → State → Type 0
@@ -35,6 +76,11 @@ HasColumns scene state = scene.width ≤ 2 ^ state.tree.nx
 
 abbrev pub HasRows : SceneView → State → Type 0
 HasRows scene state = scene.height ≤ 2 ^ state.tree.ny
+
+-- each pixel of the picture stores a number that the image can show
+abbrev pub StoresShown : SceneView → Field → State → Plane → Type 0
+StoresShown scene field state plane =
+    (x y : ℕ) → x < scene.width → y < scene.height → IsShown scene plane (stored_number field state x y)
 
 -- each pixel of the picture stores the number of a face of the scene, or 0
 abbrev pub StoresFaces : SceneView → LayoutView → State → Type 0

@@ -6,9 +6,9 @@ ghost use Rattle.px_io.specs.Told.{TakesAll, TakesFront, Tells};
 ghost use Rattle.px_array.specs.Slots.{HasWorked, IsRunOnce};
 ghost use Rattle.px_sched.specs.Layouts.{layout_of};
 ghost use Rattle.px_control.specs.Program.{IsAt, total};
-ghost use Rattle.px_frame.specs.Picture.{depth_image, face_image, picture_image};
+ghost use Rattle.px_frame.specs.Picture.{depth_image, face_image};
 ghost use Rattle.px_frame.specs.Drawn.{IsDrawn, IsFinished};
-ghost use Rattle.px_frame.specs.Images.{images};
+ghost use Rattle.px_frame.specs.Images.{images, picture_image};
 
 use crate::image::write_picture;
 use crate::plane::Plane;

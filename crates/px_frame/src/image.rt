@@ -1,20 +1,22 @@
 //! Image files in the raw form of Netpbm's pixel maps.
-ghost use Rattle.std.specs.Prelude.{◌≡◌, ◌<◌, ◌≤◌, ◌*◌, ◌^◌, ℕ, OnErr, OnOk, length, take};
+ghost use Rattle.std.specs.Prelude.{◌≡◌, ◌+◌, ◌*◌, ◌^◌, ◌<◌, ◌≤◌, OnErr, OnOk, take};
 ghost use Rattle.px_io.specs.Counts.{HasCause};
 ghost use Rattle.px_io.specs.Told.{TakesAll, TakesFront};
 ghost use Rattle.px_array.specs.Arrays.{IsOpen};
 ghost use Rattle.px_sched.specs.Layouts.{need_of};
+ghost use Rattle.px_frame.specs.MeanSums.{HoldsShown};
 ghost use Rattle.px_frame.specs.Picture.{header, row_of_pixels, three_bytes};
-ghost use Rattle.px_frame.specs.Rows.{IsShown, strip_pixel};
-ghost use Rattle.px_frame.specs.Stored.{HasColumns, HasRows, StoresFaces, stored_image};
+ghost use Rattle.px_frame.specs.Stored.{HasColumns, HasRows, StoresFaces, StoresShown, doublings_of, field_image};
+ghost use Rattle.px_frame.specs.Stored.{shown_pixel, stored_image};
 ghost use Rattle.px_frame.specs.Strips.{strip_number};
 
-use crate::plane::{Plane, field_of, shown_pixel};
+use crate::plane::{Plane, across_of, field_of, shown_pixel, side_shown};
 use crate::strip::Strip;
 use arrayvec::ArrayString;
 use itoa::Buffer;
 use px_array::Array;
 use px_io::{Failed, Sink, write_whole};
+use px_macro::Field;
 use px_model::{MAX_PICTURE_SIZE, Scene};
 use px_sched::Layout;
 
@@ -41,14 +43,41 @@ pub fn write_picture<A: Array, O: Sink>(
         (stored_image scene.now layout.now (A.view array.now).device.state plane)) }
     ensures cause { HasCause (O.state out.old).faults (O.state out.new).faults result }
 {
-    let header = header(scene.width(), scene.height());
+    write_rows(array, field_of(plane, layout), scene, plane, out)
+}
+
+/// Appends one image of the numbers that the array stores in a field of at most 24 bits, which are shown as those
+/// of this plane are.
+pub fn write_rows<A: Array, O: Sink>(
+    array: &A,
+    field: Field,
+    scene: &Scene,
+    plane: Plane,
+    out: &mut O,
+) -> Result<(), Failed>
+    requires open { IsOpen (A.view array.now).device }
+    requires columns { HasColumns scene.now (A.view array.now).device.state }
+    requires rows { HasRows scene.now (A.view array.now).device.state }
+    requires room { field.at + field.len ≤ A.BITS }
+    requires low { field.at ≤ 256 }
+    requires few { field.len ≤ 24 }
+    requires shown { StoresShown scene.now field (A.view array.now).device.state plane }
+    ensures ok { OnOk result (TakesAll (O.state out.old) (O.state out.new)
+        (field_image scene.now field (A.view array.now).device.state plane)) }
+    ensures err { OnErr result (TakesFront (O.state out.old) (O.state out.new)
+        (field_image scene.now field (A.view array.now).device.state plane)) }
+    ensures cause { HasCause (O.state out.old).faults (O.state out.new).faults result }
+{
+    let width = side_shown(plane, scene.width());
+    let height = side_shown(plane, scene.height());
+    let header = header(width, height);
     write_whole(out, header.as_str().as_bytes())?;
-    let field = field_of(plane, layout);
+    let across = across_of(plane);
     let mut strip = Strip::new();
-    for y in 0..scene.height() {
-        strip.enter_row(array, field, scene.width(), y);
-        let row = row_bytes(&strip, scene, plane, y);
-        write_whole(out, &row[..3 * scene.width() as usize])?;
+    for y in 0..height {
+        strip.enter_row(array, field, scene.width(), across * y);
+        let row = row_bytes(&strip, scene, plane, width, y);
+        write_whole(out, &row[..3 * width as usize])?;
     }
     Ok(())
 }
@@ -71,17 +100,15 @@ pub fn header(width: u32, height: u32) -> ArrayString<128>
 /// The pixels of row `y`, from the left, and then zeros.
 ///
 /// Each byte has a place of its own: bytes that are appended would wait for the length that the last one left.
-fn row_bytes(strip: &Strip, scene: &Scene, plane: Plane, y: u32) -> [u8; ROW_BYTES]
-    requires columns { length strip.now ≡ 8 * scene.now.width }
-    requires small { (x : ℕ) → x < scene.now.width → strip_number strip.now x y < 2 ^ 24 }
-    requires shown { (x : ℕ) → x < scene.now.width
-        → IsShown scene.now plane (strip_number strip.now x y) }
-    ensures { take (3 * scene.now.width) result ≡ row_of_pixels scene.now.width
-        (strip_pixel scene.now plane strip.now) y }
+fn row_bytes(strip: &Strip, scene: &Scene, plane: Plane, width: u32, y: u32) -> [u8; ROW_BYTES]
+    requires across { 2 ^ doublings_of plane * width ≤ scene.now.width }
+    requires holds { HoldsShown scene.now plane strip.now y }
+    ensures { take (3 * width) result
+        ≡ row_of_pixels width (shown_pixel scene.now plane (strip_number strip.now)) y }
 {
     let mut bytes = [0; ROW_BYTES];
-    for x in 0..scene.width() {
-        let pixel = shown_pixel(plane, scene, strip.at(x, y));
+    for x in 0..width {
+        let pixel = shown_pixel(plane, scene, strip, x, y);
         let at = 3 * x as usize;
         bytes[at] = pixel[0];
         bytes[at + 1] = pixel[1];

@@ -4,7 +4,6 @@ pub mod FewLemmas
 pub mod FitLemmas
 pub mod LightLemmas
 pub mod LineLemmas
-pub mod MaskLemmas
 pub mod SayingLemmas
 pub mod ShadowLemmas
 pub mod SightLemmas

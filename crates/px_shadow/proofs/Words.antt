@@ -7,11 +7,8 @@ pub use Rattle.px_asm.specs.Micros.{all_micros, cycles, micro_at, micros}
 pub use Rattle.px_control.specs.GridLaw.{IsSizedArray}
 pub use Rattle.px_face.specs.Edges.{covers, edges, hold_at}
 pub use Rattle.px_face.specs.Faces.{face_count, face_plane}
-pub use Rattle.px_frame.proofs.RowLaws.{other_row, rows_broken, rows_grown, same_image}
-pub use Rattle.px_frame.specs.Picture.{header}
-pub use Rattle.px_frame.specs.Rows.{row_bytes}
-pub use Rattle.px_frame.specs.Strips.{HoldsRow, strip_number}
-pub use Rattle.px_io.specs.Told.{ConsumesAtMost, IsFrontOf, SinkState, TakesAll}
+pub use Rattle.px_frame.proofs.RowLaws.{same_image}
+pub use Rattle.px_io.specs.Told.{ConsumesAtMost, IsFrontOf, SinkState}
 pub use Rattle.px_macro.proofs.NumberLaws.{number_same}
 pub use Rattle.px_macro.specs.Fields.{number_from_bits, number_in}
 pub use Rattle.px_macro.specs.Macros.{after_macros, IsField, IsLawful, PixelBits}
@@ -20,7 +17,7 @@ pub use Rattle.px_macro.specs.declared.operation.Macro.{Macro}
 pub use Rattle.px_model.proofs.CellLaws.{end_is_small, end_is_within}
 pub use Rattle.px_model.specs.Cells.{depths_of, end_of, first_cell, is_inside_at, picture, sight_at, value_of}
 pub use Rattle.px_model.specs.Scenes.{IsLawfulScene, IsLawfulSolid, SolidView}
-pub use Rattle.px_num.proofs.RangeLaws.{range_all, range_more, same_parts}
+pub use Rattle.px_num.proofs.RangeLaws.{range_all, range_more}
 pub use Rattle.px_num.proofs.TruthLaws.{and_both, and_false, and_left, and_right, and_true, lt_holds, lt_true}
 pub use Rattle.px_num.proofs.TruthLaws.{turned_from_false}
 pub use Rattle.px_num.specs.Bits.{bit_at, modulo}
@@ -47,7 +44,7 @@ pub use Rattle.px_shadow.specs.ShadowPasses.{shadow_passes, solid_passes, stored
 pub use Rattle.px_shadow.specs.Shadows.{LeavesShadows, light_refusal, light_refused, lights_in, lights_refusal}
 pub use Rattle.px_shadow.specs.Shadows.{line_behind, lit_by_lines, lit_drawable, parts_lit, PerformsShadow, Shades}
 pub use Rattle.px_shadow.specs.Shadows.{ShadesBy}
-pub use Rattle.px_shadow.specs.Stored.{stored_masks, stored_number, StoresTheLights}
+pub use Rattle.px_shadow.specs.Stored.{stored_masks, StoresTheLights}
 pub use Rattle.px_shadow.specs.declared.light.LightFault.{LightFault}
 pub use Rattle.px_shadow.specs.declared.passes.TheConstants.{MAX_LIGHTS}
 pub use Rattle.px_show.proofs.JudgedLaws.{all_good, AreGood, first_is, good_next}

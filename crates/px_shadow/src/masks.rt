@@ -1,25 +1,19 @@
 //! The image of the lights, as an array stores them.
-ghost use Rattle.std.specs.Prelude.{◌≡◌, ◌+◌, ◌*◌, ◌^◌, ◌<◌, ◌≤◌, ℕ, OnErr, OnOk, length};
+ghost use Rattle.std.specs.Prelude.{◌≡◌, ◌+◌, ◌≤◌, OnErr, OnOk};
 ghost use Rattle.px_io.specs.Counts.{HasCause};
 ghost use Rattle.px_io.specs.Told.{TakesAll, TakesFront};
 ghost use Rattle.px_array.specs.Arrays.{IsOpen};
-ghost use Rattle.px_frame.specs.Rows.{row_bytes};
 ghost use Rattle.px_frame.specs.Stored.{HasColumns, HasRows};
-ghost use Rattle.px_frame.specs.Strips.{strip_number};
 ghost use Rattle.px_shadow.specs.declared.passes.TheConstants.{MAX_LIGHTS};
 ghost use Rattle.px_shadow.specs.ShadowPasses.{need_with};
 ghost use Rattle.px_shadow.specs.Stored.{lights_field, stored_masks};
 
-use arrayvec::ArrayVec;
 use px_array::Array;
-use px_frame::{Strip, header, three_bytes};
-use px_io::{Failed, Sink, write_whole};
+use px_frame::{Plane, write_rows};
+use px_io::{Failed, Sink};
 use px_macro::Field;
-use px_model::{MAX_PICTURE_SIZE, Scene};
+use px_model::Scene;
 use px_sched::Layout;
-
-/// Three bytes a pixel, for the widest picture.
-const ROW_BYTES: usize = 3 * MAX_PICTURE_SIZE as usize;
 
 /// Appends the image of the lights that the array stores to the sink, or a front of it where a
 /// write fails (docs/SCENES.md, "Image"). The sink is not finished.
@@ -43,16 +37,7 @@ pub fn write_masks<A: Array, O: Sink>(
         (stored_masks scene.now layout.now lights (A.view array.now).device.state)) }
     ensures cause { HasCause (O.state out.old).faults (O.state out.new).faults result }
 {
-    let field = lights_field(layout, lights);
-    let header = header(scene.width(), scene.height());
-    write_whole(out, header.as_str().as_bytes())?;
-    let mut strip = Strip::new();
-    for y in 0..scene.height() {
-        strip.enter_row(array, field, scene.width(), y);
-        let row = mask_row(&strip, scene, y);
-        write_whole(out, row.as_slice())?;
-    }
-    Ok(())
+    write_rows(array, lights_field(layout, lights), scene, Plane::Face, out)
 }
 
 /// The memory bits of so many lights, as a field.
@@ -67,18 +52,4 @@ fn lights_field(layout: &Layout, lights: usize) -> Field
         at: layout.par + 1,
         len: lights as u32,
     }
-}
-
-/// The pixels of row `y`, from the left.
-fn mask_row(strip: &Strip, scene: &Scene, y: u32) -> ArrayVec<u8, ROW_BYTES>
-    requires columns { length strip.now ≡ 8 * scene.now.width }
-    requires small { (x : ℕ) → x < scene.now.width → strip_number strip.now x y < 2 ^ 24 }
-    ensures { result.items ≡ row_bytes scene.now.width (strip_number strip.now) y }
-{
-    let mut bytes = ArrayVec::new();
-    for x in 0..scene.width() {
-        let pixel = three_bytes(strip.at(x, y));
-        bytes.try_extend_from_slice(&pixel).unwrap();
-    }
-    bytes
 }

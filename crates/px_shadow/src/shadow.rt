@@ -30,14 +30,14 @@ use px_array::Array;
 use px_asked::{laws_of_parts, part_end};
 use px_asm::Operating;
 use px_commands::{
-    Kind, READ_LIMIT, Refusal, SceneStop, Stop, behind, open_job, read_text, scene_in,
-    short_of_bits, too_long,
+    Kind, READ_LIMIT, Refusal, SceneStop, Stop, behind, open_job, past_limit, read_text, scene_in,
+    too_long,
 };
 use px_control::Job;
 use px_frame::draw_job;
 use px_io::{Failed, Sink, Source};
 use px_normal::SolidSet;
-use px_scene::{Scene, laws_of_scenes};
+use px_scene::{LimitKind, Scene, laws_of_scenes};
 use px_sched::{Layout, NeedBits};
 use px_text::MAX_TEXT_BYTES;
 use std::alloc::Global;
@@ -186,7 +186,7 @@ fn open_lit<'s, A: Array>(
 {
     let need = bits_needed(scene, lights, A::BITS as u32);
     if need as usize > A::BITS {
-        return Err(SceneStop::Refused(short_of_bits(need)));
+        return Err(past_limit(LimitKind::PixelMemory, i64::from(need)));
     }
     open_job(alloc, scene, array)
 }

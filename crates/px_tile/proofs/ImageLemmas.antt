@@ -7,8 +7,7 @@ use Rattle.std.proofs.Math.Nat.{mod-eq-sub-div-mul}
 use Rattle.px_num.proofs.RangeLaws.{range_cut, same_parts}
 use Rattle.px_io.specs.Told.{SinkState, TakesAll, TakesFront}
 use Rattle.px_io.proofs.ToldLaws.{front_after, takes_both}
-use Rattle.px_frame.specs.Picture.{header, three_bytes, depth_at, face_at}
-use Rattle.px_frame.specs.Rows.{row_bytes}
+use Rattle.px_frame.specs.Picture.{header, three_bytes, depth_at, face_at, number_pixel, row_of_pixels}
 use Rattle.px_face.proofs.BackgroundLemmas.{first_cells, shows_faces}
 use Rattle.px_face.proofs.SurfaceLemmas.{scene_surface}
 use Rattle.px_model.specs.Scenes.{IsLawfulScene, SceneView}
@@ -93,7 +92,8 @@ module _ (scene : SceneView) (lawful : IsLawfulScene scene) (width height : ℕ)
       ap (λ n. n % 2 ^ 32) (is.each x y left above)
       ∙ face_part (picture scene x y).depth (picture scene x y).face (omega (arith, face_small x y))
 
-  pixels_are : (p : Part) → bytes_of p found ≡ flat_map (row_bytes width (part_at p)) (range_with_len 0 height)
+  pixels_are : (p : Part)
+      → bytes_of p found ≡ flat_map (row_of_pixels width (number_pixel (part_at p))) (range_with_len 0 height)
   pixels_are p =
       let pixel = λ (i : ℕ). three_bytes (part_of p (get_or found i 0)) in
       let start : 0 * width ≡ 0 = omega arith in
@@ -101,8 +101,8 @@ module _ (scene : SceneView) (lawful : IsLawfulScene scene) (width height : ℕ)
       ∙ ap (λ n. flat_map pixel (range_with_len 0 n)) is.count
       ∙ ap (λ n. flat_map pixel (range_with_len n (width * height))) (sym start)
       ∙ by_rows pixel width 0 height
-      ∙ same_parts (λ y. flat_map (λ x. pixel (y * width + x)) (range_with_len 0 width)) (row_bytes width (part_at p))
-      0 height
+      ∙ same_parts (λ y. flat_map (λ x. pixel (y * width + x)) (range_with_len 0 width))
+      (row_of_pixels width (number_pixel (part_at p))) 0 height
       (λ y low above. same_parts (λ x. pixel (y * width + x)) (λ x. three_bytes (part_at p x y)) 0 width
       (λ x low left. ap three_bytes (part_found p x y (omega arith) (omega arith))))
 

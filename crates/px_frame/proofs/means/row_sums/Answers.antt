@@ -1,7 +1,7 @@
 use Rattle.px_num.proofs.Basics.{arith}
 use Rattle.px_frame.proofs.MeanLemmas.{faces_here}
 use Rattle.px_frame.proofs.MeanSumLaws.{most_more, row_more}
-use Rattle.px_frame.proofs.refined.row_sums.Goals as goal
+use Rattle.px_frame.proofs.means.row_sums.Goals as goal
 
 pub overflow_add-from : goal.overflow_add-from
 overflow_add-from c = omega (arith, c.requires.across, c.requires.faces.wide)

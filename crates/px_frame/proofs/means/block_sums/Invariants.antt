@@ -1,6 +1,6 @@
 use Rattle.px_num.proofs.Basics.{◌≡◌, ◌*◌}
 use Rattle.px_frame.specs.MeanSums.{AreSumsAtMost, block_sums, strip_colour}
-use Rattle.px_frame.proofs.refined.block_sums.Given as goal
+use Rattle.px_frame.proofs.means.block_sums.Given as goal
 
 abbrev pub invariant-loop-j : goal.invariant-loop-j
 invariant-loop-j l = record {

@@ -1,7 +1,7 @@
 use Rattle.px_num.proofs.Basics.{arith}
 use Rattle.px_frame.proofs.MeanLemmas.{one_row}
 use Rattle.px_frame.proofs.MeanSumLaws.{block_more, most_together}
-use Rattle.px_frame.proofs.refined.block_sums.Goals as goal
+use Rattle.px_frame.proofs.means.block_sums.Goals as goal
 
 pub overflow_add-top : goal.overflow_add-top
 overflow_add-top c = omega (arith, c.requires.faces.high)

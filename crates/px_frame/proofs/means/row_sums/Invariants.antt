@@ -1,6 +1,6 @@
 use Rattle.px_num.proofs.Basics.{◌≡◌, ◌*◌}
 use Rattle.px_frame.specs.MeanSums.{AreSumsAtMost, row_sums, strip_colour}
-use Rattle.px_frame.proofs.refined.row_sums.Given as goal
+use Rattle.px_frame.proofs.means.row_sums.Given as goal
 
 abbrev pub invariant-loop-i : goal.invariant-loop-i
 invariant-loop-i l = record {

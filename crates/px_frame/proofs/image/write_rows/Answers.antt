@@ -1,0 +1,92 @@
+use Rattle.px_num.proofs.Basics.{◌≡◌, ◌+◌, ◌*◌, ◌^◌, ◌<◌, ◌∙◌, ap, arith, pow_pos}
+use Rattle.px_frame.proofs.Words.{doublings_of, front_before, header, on_err, row_of_pixels, shown_pixel, side_shown}
+use Rattle.px_frame.proofs.Words.{stored_number}
+use Rattle.px_frame.proofs.MeanLemmas.{next_in_strip}
+use Rattle.px_frame.proofs.RowLaws.{other_row, rows_broken, rows_grown}
+use Rattle.px_frame.proofs.ShownLemmas.{block_shown, few_doublings, row_shown, shown_held, sides_shown}
+use Rattle.px_frame.proofs.image.write_rows.Goals as goal
+
+pub returns-in_err-write_whole-clause-err : goal.returns-in_err-write_whole-clause-err
+returns-in_err-write_whole-clause-err g c = grind (arith, on_err, front_before)
+
+pub enter_row-requires : goal.enter_row-requires
+enter_row-requires g c =
+    let plane = c.args.plane in
+    let height = c.args.scene.now.height in
+    let below : c.loop-y.y < side_shown plane height =
+    rw (c.side_shown-height.ensures, c.height.ensures.value) at c.loop-y-test.true in
+    let high = block_shown plane c.loop-y.y height below in
+    record {
+      numbers = record {
+        is_open = c.requires.open;
+        columns = rw c.width-in-loop-y.ensures.value c.requires.columns;
+        wide = rw c.width-in-loop-y.ensures.value c.width-in-loop-y.ensures.lawful.sizes.width_limit;
+        row = rw c.across_of-across.ensures.value (omega (arith, high, pow_pos (doublings_of plane), c.requires.rows));
+        room = c.requires.room;
+        low = c.requires.low;
+        few = c.requires.few;
+      };
+      before = rw c.width-in-loop-y.ensures.value c.loop-y.invariant.strip;
+    }
+
+pub row_bytes-row-requires : goal.row_bytes-row-requires
+row_bytes-row-requires g c =
+    let scene = c.args.scene.now in
+    let plane = c.args.plane in
+    let below : c.loop-y.y < side_shown plane scene.height =
+    rw (c.side_shown-height.ensures, c.height.ensures.value) at c.loop-y-test.true in
+    let held = rw (c.width-in-loop-y.ensures.value, c.across_of-across.ensures.value) at c.enter_row.ensures in
+    let sizes = c.width-in-loop-y.ensures.lawful.sizes in
+    record {
+      across = rw (c.side_shown-width.ensures, c.width.ensures.value) (sides_shown plane scene.width);
+      holds = shown_held scene plane c.args.field (g.A.Array.view c.args.array.now).device.state _ c.loop-y.y below
+          c.requires.rows held sizes.width_limit sizes.height_limit c.requires.shown;
+    }
+
+pub returns-in_err-write_whole-2-clause-err : goal.returns-in_err-write_whole-2-clause-err
+returns-in_err-write_whole-2-clause-err g c =
+    let scene = c.args.scene.now in
+    let plane = c.args.plane in
+    let wide : c.side_shown-width.result ≡ side_shown plane scene.width =
+    c.side_shown-width.ensures ∙ ap (side_shown plane) c.width.ensures.value in
+    let high : c.side_shown-height.result ≡ side_shown plane scene.height =
+    c.side_shown-height.ensures ∙ ap (side_shown plane) c.height.ensures.value in
+    let below : c.loop-y.y < side_shown plane scene.height = rw high at c.loop-y-test.true in
+    let held = rw (c.width-in-loop-y.ensures.value, c.across_of-across.ensures.value) at c.enter_row.ensures in
+    let shown = row_shown scene plane c.args.field (g.A.Array.view c.args.array.now).device.state _ c.loop-y.y below c.requires.rows
+    held in
+    let row = rw (c.row_bytes-row.ensures, wide, shown) at c.in_err-write_whole-2.ensures.err in
+    let front = rw (wide, high) at c.loop-y.invariant.front in
+    on_err _ (rows_broken _ _ _ _ _ _ _ below front row)
+
+pub loop-y-preserved : goal.loop-y-preserved
+loop-y-preserved g c =
+    let scene = c.args.scene.now in
+    let plane = c.args.plane in
+    let state = (g.A.Array.view c.args.array.now).device.state in
+    let y = c.loop-y.y in
+    let k = 2 ^ doublings_of plane in
+    let wide : c.side_shown-width.result ≡ side_shown plane scene.width =
+    c.side_shown-width.ensures ∙ ap (side_shown plane) c.width.ensures.value in
+    let high : c.side_shown-height.result ≡ side_shown plane scene.height =
+    c.side_shown-height.ensures ∙ ap (side_shown plane) c.height.ensures.value in
+    let below : y < side_shown plane scene.height = rw high at c.loop-y-test.true in
+    let held = rw (c.width-in-loop-y.ensures.value, c.across_of-across.ensures.value) at c.enter_row.ensures in
+    let shown = row_shown scene plane c.args.field state _ y below c.requires.rows held in
+    let row = row_of_pixels (side_shown plane scene.width) (shown_pixel scene plane (stored_number c.args.field state)) in
+    let next = rw (c.row_bytes-row.ensures, wide, shown) at c.in_ok-write_whole-2.ensures.ok in
+    let front = rw (wide, high) at c.loop-y.invariant.front in
+    record {
+      front = rw (wide, high) (rows_grown _ _ _ (header (side_shown plane scene.width) (side_shown plane scene.height))
+          row y front next);
+      strip = rw c.across_of-across.ensures.value (λ further. other_row _ c.args.field state scene.width (k * y) (k * (y + 1))
+          (next_in_strip (doublings_of plane) y (few_doublings plane) further) held);
+      calm = grind (arith, c.loop-y.invariant.calm, c.in_ok-write_whole-2.ensures.cause.calm);
+    }
+
+pub returns-clause-ok : goal.returns-clause-ok
+returns-clause-ok g c =
+    let wide = c.side_shown-width.ensures ∙ ap (side_shown c.args.plane) c.width.ensures.value in
+    let high = c.side_shown-height.ensures ∙ ap (side_shown c.args.plane) c.height.ensures.value in
+    let all : c.loop-y.y ≡ c.side_shown-height.result = omega (arith, c.loop-y-test.false, c.loop-y.auto.y-end) in
+    rw (all, wide, high) at c.loop-y.invariant.front
