@@ -1,5 +1,5 @@
 -- The broadcasts of operations, one operation after another.
-use Rattle.px_num.proofs.Basics.{◌≡◌, ℕ, suc, ◌+◌, ◌-◌, ◌<◌, ◌≤◌, List, ◌∷◌, ◌++◌, length, take, drop, get_or}
+use Rattle.px_num.proofs.Basics.{◌≡◌, ℕ, suc, ◌+◌, ◌<◌, ◌≤◌, List, ◌∷◌, ◌++◌, length, take, drop, get_or}
 use Rattle.px_num.proofs.Basics.{Some, sym, ap, ◌∙◌, arith, length-append, between, flat_map, slice_get}
 use Rattle.px_num.proofs.Basics.{drop-cons, take-append-add, take-append_seam, take-append-drop}
 use Rattle.px_num.proofs.Basics.{take-append-le, take_all, flat_map-cons, get_or_from_slice_get, slice_get-get_or}

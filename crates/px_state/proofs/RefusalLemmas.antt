@@ -7,7 +7,7 @@ use Rattle.px_sched.specs.Layouts.{layout_of, need_of}
 use Rattle.px_control.specs.declared.fault.JobFault.{JobFault}
 use Rattle.px_control.specs.declared.fault.JobFault.TheVariants as job
 use Rattle.px_state.specs.Refusals.{IsRefusedBy, fault_of_job, refusal_by_bits}
-use Rattle.px_state.specs.Keeping.{KeepsArray}
+use Rattle.px_state.specs.Inputs.{KeepsArray}
 use Rattle.px_state.specs.declared.fault.StateFault.TheVariants as f
 
 -- pixels that have the bits, and products that are few, are not refused

@@ -13,11 +13,13 @@ use Rattle.px_tree.specs.Nodes.{IsGrid}
 use Rattle.px_state.specs.Courses.{IsNextBroadcast, device_after, total_of_listing}
 use Rattle.px_state.specs.Operations.{IsOfListing, IsOperationOf, IsPassed}
 use Rattle.px_state.specs.Refusals.{course_of, input_refusal, is_listing, refusal_by_bits}
+use Rattle.px_state.specs.States.{FaultLeaves}
 use Rattle.px_state.specs.declared.broadcast.Broadcast.{Broadcast}
 use Rattle.px_state.specs.declared.broadcast.Broadcast.TheVariants as course
 use Rattle.px_state.specs.declared.broadcast.Input.{Input}
 use Rattle.px_state.specs.declared.broadcast.Input.TheVariants as input
 use Rattle.px_state.specs.declared.broadcast.Mark.{Mark}
+use Rattle.px_state.specs.declared.fault.StateFault.{StateFault}
 use Rattle.px_state.specs.declared.operation.Operation.{Operation}
 use Rattle.px_state.specs.declared.state.Next.{Next}
 
@@ -72,3 +74,7 @@ pub record HasRunTo (bits : ℕ) (l : ListingView) (clock : ℕ) (before now : A
   pub worked : HasWorked clock before now
   pub coming : IfSome next (λ n. IsNextBroadcast l clock n.operation n.cycle n.micro)
   pub ended : IfNone next (clock ≡ total_of_listing l)
+
+-- a fault with which the array is as it was
+abbrev pub KeepsArray : StateFault → Type 0
+KeepsArray fault = (bits : ℕ) (l : ListingView) (array : ArrayView) → FaultLeaves fault bits l array array

@@ -10,7 +10,6 @@ pub mod Clocking
 pub mod Columns
 pub mod Courses
 pub mod Inputs
-pub mod Keeping
 pub mod Operations
 pub mod Packed
 pub mod Packing

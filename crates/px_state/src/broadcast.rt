@@ -1,10 +1,8 @@
 //! What a text broadcasts: the passes of a scene, or a listing.
 ghost use Rattle.std.specs.Prelude.{◌≡◌, ◌+◌, ◌^◌, ◌<◌, ◌≤◌, List, ℕ, IfErr, IfNone, IfOk, None, OnOk, OnSome, length, slice_get};
-ghost use Rattle.px_playing.specs.PassesText.{passes_listing};
 ghost use Rattle.px_sched.specs.Layouts.{layout_of, need_of};
 ghost use Rattle.px_state.specs.Courses.{total_of_listing};
-ghost use Rattle.px_state.specs.Inputs.{IsGoodCourse, IsOf, IsReadAs, StandsIn, given_by, listing_in};
-ghost use Rattle.px_state.specs.Keeping.{KeepsArray};
+ghost use Rattle.px_state.specs.Inputs.{IsGoodCourse, IsOf, IsReadAs, KeepsArray, StandsIn, given_by, listing_in};
 ghost use Rattle.px_state.specs.Refusals.{IsRefusedBy, input_refusal, refusal_by_bits};
 
 use crate::fault::StateFault;
@@ -89,7 +87,10 @@ impl<'s> Broadcast<'s> {
         ensures good { IsGoodCourse (listing_in self.now) }
     {
         match self {
-            Broadcast::Passes(program) => grid_of(program),
+            Broadcast::Passes(program) => {
+                program.laws();
+                program.grid()
+            }
             Broadcast::Listed(listing) => {
                 clocks_of(listing);
                 (listing.nx, listing.ny)
@@ -150,16 +151,6 @@ fn program_of<'s>(alloc: Global, scene: &'s Scene, bits: u32) -> Result<Program<
     ensures keeps { IfErr result KeepsArray }
 {
     Ok(Program::new(alloc, scene, bits)?)
-}
-
-/// The grid of a scene's program.
-fn grid_of(program: &Program<'_>) -> (u32, u32)
-    ensures columns { result.0 ≡ (passes_listing program.now).nx }
-    ensures rows { result.1 ≡ (passes_listing program.now).ny }
-    ensures good { IsGoodCourse (passes_listing program.now) }
-{
-    program.laws();
-    program.grid()
 }
 
 /// How many clocks a listing takes.

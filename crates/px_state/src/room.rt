@@ -4,7 +4,6 @@ ghost use Rattle.px_array.specs.Slots.{ArrayView};
 ghost use Rattle.px_listing.specs.Listings.{ListingView};
 ghost use Rattle.px_state.specs.Refusals.{refused_by, refused_where};
 ghost use Rattle.px_state.specs.States.{IsRunTo, FaultLeaves};
-ghost use Rattle.px_state.specs.declared.fault.StateFault.{StateFault};
 
 use crate::fault::StateFault;
 
@@ -26,31 +25,19 @@ pub(crate) fn judge(clock: u64, clocks: u64, words: usize, due: usize) -> Result
     Ok(())
 }
 
-/// Whether there are so many clocks from one on.
-pub(crate) fn judge_stretch(first: u64, count: usize, clocks: u64) -> Result<(), StateFault>
-    ensures ok { OnOk result (refused_where (nat_lt clocks (first + count)) (StateFault.NoClock clocks)
-        ≡ None) }
-    ensures within { OnOk result (first + count ≤ clocks) }
-    ensures err { IfErr result (λ fault.
-        refused_where (nat_lt clocks (first + count)) (StateFault.NoClock clocks) ≡ Some fault) }
+/// Whether so many from one on end where all do, or before; else the fault is answered.
+pub(crate) fn judge_stretch(
+    first: u64,
+    count: usize,
+    end: u64,
+    fault: StateFault,
+) -> Result<(), StateFault>
+    ensures ok { OnOk result (refused_where (nat_lt end (first + count)) fault ≡ None) }
+    ensures within { OnOk result (first + count ≤ end) }
+    ensures err { IfErr result (λ answer. refused_where (nat_lt end (first + count)) fault ≡ Some answer) }
 {
-    if clocks < first || clocks - first < count as u64 {
-        Err(StateFault::NoClock { clocks })
-    } else {
-        Ok(())
-    }
-}
-
-/// Whether there are so many operations from one on.
-pub(crate) fn judge_operations(first: u64, count: usize, operations: u64) -> Result<(), StateFault>
-    ensures ok { OnOk result (refused_where (nat_lt operations (first + count)) (StateFault.NoOperation operations)
-        ≡ None) }
-    ensures within { OnOk result (first + count ≤ operations) }
-    ensures err { IfErr result (λ fault.
-        refused_where (nat_lt operations (first + count)) (StateFault.NoOperation operations) ≡ Some fault) }
-{
-    if operations < first || operations - first < count as u64 {
-        Err(StateFault::NoOperation { operations })
+    if end < first || end - first < count as u64 {
+        Err(fault)
     } else {
         Ok(())
     }

@@ -10,9 +10,10 @@ ghost use Rattle.px_state.specs.Words.{BeginsWithState};
 use crate::broadcast::{Broadcast, read_input};
 use crate::fault::StateFault;
 use crate::operation::Operation;
-use crate::room::{judge_operations, judge_stretch};
-use crate::running::state_of;
+use crate::room::{judge, judge_stretch};
+use crate::running::run_to;
 use crate::state::{Course, State};
+use crate::words::{room_of, write_words};
 use crate::{micros, operations};
 use px_asm::Operating;
 use std::alloc::Global;
@@ -46,7 +47,22 @@ pub fn write_state<A: Operating>(
 {
     let input = read_input(alloc, text, A::BITS as u32)?;
     let course = Broadcast::of(alloc, &input, A::BITS as u32)?;
-    state_of(&course, clock, words, array)
+    let (nx, ny) = course.grid();
+    array.open(nx, ny)?;
+    let (operations, clocks) = course.cost();
+    let due = room_of(A::BITS, nx, ny);
+    judge(clock, clocks, words.len(), due)?;
+    let next = run_to(&course, array, clock);
+    write_words(array, words);
+    Ok(State {
+        nx,
+        ny,
+        bits: A::BITS as u32,
+        operations,
+        clocks,
+        clock,
+        next,
+    })
 }
 
 /// Writes the micros of a scene or of a listing from a clock on, each packed into a word, as many as
@@ -73,7 +89,7 @@ pub fn write_micros(
     let input = read_input(alloc, text, bits)?;
     let course = Broadcast::of(alloc, &input, bits)?;
     let (operations, clocks) = course.cost();
-    judge_stretch(first, micros.len(), clocks)?;
+    judge_stretch(first, micros.len(), clocks, StateFault::NoClock { clocks })?;
     micros::put_course(&course, first, micros);
     Ok(Course { operations, clocks })
 }
@@ -102,7 +118,12 @@ pub fn write_operations(
     let input = read_input(alloc, text, bits)?;
     let course = Broadcast::of(alloc, &input, bits)?;
     let (operations, clocks) = course.cost();
-    judge_operations(first, list.len(), operations)?;
+    judge_stretch(
+        first,
+        list.len(),
+        operations,
+        StateFault::NoOperation { operations },
+    )?;
     operations::put_course(&course, first, list);
     Ok(Course { operations, clocks })
 }
