@@ -142,6 +142,7 @@ def test_clocks_of_the_gallery(built):
 
 
 def test_golden_maps_of_the_suite(built):
+    pytest.importorskip("numpy")
     wrong = next(iter(ends.script("dev/suite").wrong(built)), None)
     assert wrong is None, wrong
 
