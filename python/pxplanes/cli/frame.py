@@ -180,14 +180,19 @@ def answered(words: list[str]) -> int:
 
 
 def unwritten(error: OSError) -> str:
-    """The file that a failed write meant, as `name: `: the innermost one that was open to be written in the calls that failed."""
+    """The file that a failed call meant, as `name: `. A write tells no name: then it is standard output, if that still fails, and
+    otherwise the file that the innermost function holds."""
     if error.filename is not None or error.errno not in NO_ROOM:
         return "" if error.filename is None else "%s: " % os.fsdecode(error.filename)
+    try:
+        sys.stdout.flush()
+    except OSError:
+        return "standard output: "
     for frame, _ in reversed(list(traceback.walk_tb(error.__traceback__))):
-        for each in reversed(list(frame.f_locals.values())):
-            if isinstance(each, io.IOBase) and isinstance(getattr(each, "name", None), str) and "r" not in getattr(each, "mode", "r"):
+        for each in (*frame.f_locals.values(), *vars(frame.f_locals.get("self", error)).values()):
+            if isinstance(each, io.IOBase) and isinstance(getattr(each, "name", None), str) and getattr(each, "mode", "r") not in ("r", "rb"):
                 return "%s: " % getattr(each, "name")
-    return "standard output: "
+    return ""
 
 
 def drop_output() -> None:
