@@ -8,25 +8,15 @@ import tempfile
 import time
 from collections.abc import Iterator, Sequence
 
-from pxplanes.errors import Trouble
 from pxplanes.ends import TOP
+from pxplanes.errors import Trouble
+from pxplanes.finding import is_newer as is_newer
 
 DEFAULT = os.path.join(TOP, "crates", "px_program", "out", "px_program")
-# The same for processors of x86-64-v3, and what these have beyond x86-64-v2.
+# The same for processors of x86-64-v3.
 NEWER_END = "-x86-64-v3"
 NEWER = DEFAULT + NEWER_END
-NEWER_FLAGS = {"avx", "avx2", "bmi1", "bmi2", "f16c", "fma", "abm", "movbe", "xsave"}
 SLOW = 2 * 10 ** 7
-
-
-def is_newer() -> bool:
-    """Whether the processor has all that x86-64-v3 names."""
-    try:
-        with open("/proc/cpuinfo") as file:
-            flags = next((line for line in file if line.startswith("flags")), "")
-    except OSError:
-        return False
-    return NEWER_FLAGS <= set(flags.split())
 
 
 def newer_of(path: str) -> str | None:
