@@ -1,5 +1,6 @@
 """What the tests of the page share: a browser, and the page in it with the first scene of the documents."""
 import os
+import shutil
 import sys
 from typing import Iterator
 
@@ -8,13 +9,15 @@ import pytest
 TOP = os.path.dirname(os.path.dirname(os.path.dirname(os.path.realpath(__file__))))
 sys.path[:0] = [os.path.join(TOP, "tools", "lib"), os.path.join(TOP, "python")]
 import pages
-from browser import Browser
+from browser import NAMES, Browser
 
 FIRST = os.path.join(TOP, "docs", "scenes", "first.scene")
 
 
 @pytest.fixture(scope="session")
 def chromium() -> Iterator[Browser]:
+    if not any(map(shutil.which, NAMES)):
+        pytest.skip("no chromium; tools/dev/peers installs it")
     with Browser() as browser:
         yield browser
 

@@ -9,6 +9,8 @@ import os
 import re
 import shutil
 import sys
+from collections.abc import Callable, Iterable, Iterator, Sequence
+from typing import Any, NoReturn
 
 from pxplanes.errors import Trouble
 
@@ -17,21 +19,22 @@ TOP = os.path.dirname(os.path.dirname(HERE))
 # The page: beside these modules in a wheel, otherwise in the checkout or where it is installed.
 PAGE = next(filter(os.path.isfile, [os.path.join(HERE, "pxplanes.html")]), os.path.join(TOP, "page", "pxplanes.html"))
 TROUBLE = 2
-HEARD = contextvars.ContextVar("heard", default=None)
+HEARD: contextvars.ContextVar[list[str] | None] = contextvars.ContextVar("heard", default=None)
 
 
-def say(tool, line):
+def say(tool: str, line: object) -> None:
     """Tells a line on standard error, or who listens."""
-    if HEARD.get() is None:
+    listener = HEARD.get()
+    if listener is None:
         print("%s: %s" % (tool, line), file=sys.stderr)
     else:
-        HEARD.get().append(line)
+        listener.append(str(line))
 
 
 @contextlib.contextmanager
-def heard():
+def heard() -> Iterator[list[str]]:
     """Within it what is said goes to the list that it gives."""
-    lines = []
+    lines: list[str] = []
     before = HEARD.set(lines)
     try:
         yield lines
@@ -39,7 +42,7 @@ def heard():
         HEARD.reset(before)
 
 
-def content(path):
+def content(path: str | os.PathLike[str]) -> bytes:
     """The bytes of a file, or of standard input for `-`."""
     if path == "-":
         if sys.stdin is None:
@@ -49,7 +52,7 @@ def content(path):
         return file.read()
 
 
-def replaced(path, content):
+def replaced(path: str, content: bytes) -> None:
     """Puts a new content into a file at one stroke: written beside it, and then renamed."""
     beside = os.path.realpath(path) + ".new"
     with open(beside, "wb") as out:
@@ -60,12 +63,12 @@ def replaced(path, content):
     os.replace(beside, os.path.realpath(path))
 
 
-def drop_output():
+def drop_output() -> None:
     """What could not be written is not tried again at the end."""
     os.dup2(os.open(os.devnull, os.O_WRONLY), 1)
 
 
-def ended(help_text, main):
+def ended(help_text: str, main: Callable[[list[str]], int]) -> int:
     """The status that `main` gives for the words, with all that it printed written."""
     if sys.stdout is None:
         raise Trouble("standard output is closed")
@@ -79,10 +82,10 @@ def ended(help_text, main):
     return status
 
 
-def run(tool, help_text, main):
+def run(tool: str, help_text: str | None, main: Callable[[list[str]], int]) -> NoReturn:
     """Ends with what `main` gives for the words; trouble is one line and no traceback."""
     try:
-        status = ended(help_text, main)
+        status = ended(help_text or "", main)
     except Trouble as bad:
         say(tool, bad)
         status = TROUBLE
@@ -99,15 +102,17 @@ def run(tool, help_text, main):
     sys.exit(status)
 
 
-def script(leaf):
+def script(leaf: str) -> Any:
     """A script of tools/, or of tools/dev/, as a module: `show`, or `dev/run_cases`."""
     loader = importlib.machinery.SourceFileLoader(leaf.replace("/", "_"), os.path.join(TOP, "tools", leaf))
-    module = importlib.util.module_from_spec(importlib.util.spec_from_loader(loader.name, loader))
+    spec = importlib.util.spec_from_loader(loader.name, loader)
+    assert spec is not None
+    module = importlib.util.module_from_spec(spec)
     loader.exec_module(module)
     return module
 
 
-def jobs(word):
+def jobs(word: str | None) -> int:
     """How many things are done side by side: as said, or as many as there are processors."""
     if word is None:
         return os.cpu_count() or 1
@@ -119,14 +124,14 @@ def jobs(word):
 class Words(argparse.ArgumentParser):
     """The words of a tool; bad ones are told in one line, as all else that goes wrong."""
 
-    def error(self, message):
+    def error(self, message: str) -> NoReturn:
         unknown = re.match(r"unrecognized arguments: (--\S+)", message)
         known = [option for action in self._actions for option in action.option_strings]
         near = difflib.get_close_matches(unknown.group(1).split("=")[0], known, 1, 0.75) if unknown else []
         raise Trouble("%s%s; --help says more" % (message, " (is it %s?)" % near[0] if near else ""))
 
 
-def glued(words, with_word):
+def glued(words: list[str], with_word: Sequence[str]) -> list[str]:
     """The words with a number below 0 behind its option in one word, so that it is no option itself."""
     for at in range(len(words) - 2, -1, -1):
         if words[at] in with_word and re.match(r"-[.\d]", words[at + 1]):
@@ -134,7 +139,8 @@ def glued(words, with_word):
     return words
 
 
-def options(words, flags, with_word, repeated=()):
+def options(words: Iterable[str], flags: Sequence[str], with_word: Sequence[str],
+            repeated: Sequence[str] = ()) -> tuple[list[str], dict[str, Any]]:
     """Splits words into the others and what the options say; `with_word` take the word behind, and so do those that may be repeated,
     which give a list."""
     words = glued(list(words), (*with_word, *repeated))

@@ -6,66 +6,58 @@ import signal
 import subprocess
 import tempfile
 import time
+from collections.abc import Iterator, Sequence
 
-from pxplanes.errors import Trouble
 from pxplanes.ends import TOP
+from pxplanes.errors import Trouble
+from pxplanes.finding import is_newer as is_newer
 
 DEFAULT = os.path.join(TOP, "crates", "px_program", "out", "px_program")
-# The same for processors of x86-64-v3, and what these have beyond x86-64-v2.
+# The same for processors of x86-64-v3.
 NEWER_END = "-x86-64-v3"
 NEWER = DEFAULT + NEWER_END
-NEWER_FLAGS = {"avx", "avx2", "bmi1", "bmi2", "f16c", "fma", "abm", "movbe", "xsave"}
 SLOW = 2 * 10 ** 7
 
 
-def is_newer():
-    """Whether the processor has all that x86-64-v3 names."""
-    try:
-        with open("/proc/cpuinfo") as file:
-            flags = next((line for line in file if line.startswith("flags")), "")
-    except OSError:
-        return False
-    return NEWER_FLAGS <= set(flags.split())
-
-
-def newer_of(path):
+def newer_of(path: str) -> str | None:
     """The build for newer processors beside a program; None where there is none, or an older one."""
     newer = path + NEWER_END
     return newer if os.access(newer, os.X_OK) and os.path.getmtime(path) <= os.path.getmtime(newer) else None
 
 
-def built():
+def built() -> str:
     """The program that was built for this processor."""
     return os.path.isfile(DEFAULT) and is_newer() and newer_of(DEFAULT) or DEFAULT
 
 
-def builds(path):
+def builds(path: str) -> Iterator[tuple[str, str]]:
     """The places that a program is installed at, each with the file that comes there: for newer processors too, where it is built."""
     first = path.removesuffix(NEWER_END)
     yield DEFAULT, first
-    if newer_of(first):
-        yield NEWER, newer_of(first)
+    newer = newer_of(first)
+    if newer:
+        yield NEWER, newer
 
 
-def place_of(path):
+def place_of(path: str | None) -> str:
     """Where the program is: as said, or as the environment's PXPLANES_PROGRAM says, or as built."""
     return os.path.abspath(path or os.environ.get("PXPLANES_PROGRAM") or built())
 
 
-def find(path):
+def find(path: str | None) -> str | None:
     """A program to run; None where there is none."""
-    path = place_of(path)
-    return path if os.path.isfile(path) and os.access(path, os.X_OK) else None
+    place = place_of(path)
+    return place if os.path.isfile(place) and os.access(place, os.X_OK) else None
 
 
-def needed(path):
+def needed(path: str | None) -> str:
     program = find(path)
     if program is None:
         raise Trouble("no program at %s; ./pxplanes builds it" % place_of(path))
     return program
 
 
-def descendants(pid):
+def descendants(pid: int) -> set[int]:
     """The processes below one, by their numbers."""
     parents = {}
     for leaf in os.listdir("/proc"):
@@ -83,7 +75,7 @@ def descendants(pid):
         found |= more
 
 
-def copied(pid, copy):
+def copied(pid: int, copy: str) -> bool:
     """Whether a process below one runs the program that `rt try` built; it is copied then."""
     for child in descendants(pid):
         try:
@@ -99,7 +91,7 @@ def copied(pid, copy):
     return False
 
 
-def unproved(folder):
+def unproved(folder: str) -> str:
     """The program as `rt try` builds it, without proofs and with checks at run time, copied into a folder.
 
     `rt try` keeps no file: it is copied while it draws a picture that takes it some seconds."""
@@ -123,14 +115,14 @@ def unproved(folder):
                 tried.wait()
 
 
-def answer(program, words, text, seconds=None):
+def answer(program: str, words: Sequence[str | bytes], text: bytes, seconds: float | None = None) -> tuple[int, bytes, str]:
     """The status, the output and the note, a line without its end, of one run; it may be cut short
     after so many seconds, with `subprocess.TimeoutExpired`."""
-    done = subprocess.run([program] + words, input=text, capture_output=True, timeout=seconds)
+    done = subprocess.run([program, *words], input=text, capture_output=True, timeout=seconds)
     return done.returncode, done.stdout, done.stderr.decode("latin-1").strip("\n")
 
 
-def cost(program, text):
+def cost(program: str, text: bytes) -> tuple[int, int]:
     """How many operations and clocks a scene takes; `Bad` with the program's note, refused."""
     status, output, note = answer(program, ["cost"], text)
     counts = re.match(rb"macros (\d+)\nclocks (\d+)\n\Z", output)
@@ -139,18 +131,19 @@ def cost(program, text):
     return int(counts.group(1)), int(counts.group(2))
 
 
-def is_quick(clocks, width, height, seconds):
+def is_quick(clocks: int, width: int, height: int, seconds: float) -> bool:
     """Whether a picture surely takes less than so many seconds, on any machine."""
     wide, high = grid(width, height)
     return clocks * wide * high < seconds * SLOW
 
 
-def grid(width, height):
+def grid(width: int, height: int) -> tuple[int, int]:
     """The pixels of the array that draws a picture of this size: powers of two, at least 2."""
-    return tuple(max(2, 1 << (side - 1).bit_length()) for side in (width, height))
+    wide, high = (max(2, 1 << (side - 1).bit_length()) for side in (width, height))
+    return wide, high
 
 
-def spoken(seconds):
+def spoken(seconds: float) -> str:
     """A time as people say it."""
     for unit, size in (("days", 86400), ("hours", 3600), ("minutes", 60)):
         if seconds >= 2 * size:

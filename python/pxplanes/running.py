@@ -1,9 +1,9 @@
 """The program's commands, by one call of the library: what they write, and why they do not."""
 from __future__ import annotations
 
-from typing import Any
+from typing import Any, Optional
 
-from .apart import called, is_long
+from .apart import Progress, called, is_long
 from .arrays import Buffer, shaped
 from .calls import NO_ROOM, Text, asked, content
 from .errors import Refused
@@ -21,14 +21,14 @@ def run(text: Text, words: str = "render") -> bytes:
     return ran(text, words)
 
 
-def ran(text: Text, words: str, room: int = ROOM, work: tuple[int, int] = (0, 0)) -> bytes:
-    """The same, where so much room is likely enough, in a process of its own where it makes so many clocks of so many pixels that
-    it may take long."""
+def ran(text: Text, words: str, room: int = ROOM, work: tuple[int, int] = (0, 0), progress: Optional[Progress] = None) -> bytes:
+    """The same, if so much room is likely enough; in a process of its own, with `progress` called, if it makes so many clocks of so
+    many pixels that it may take long."""
     given, status, out = words.encode(), NO_ROOM, Buffer("B", 0)
     while status == NO_ROOM:
         out = Buffer("B", room)
         if is_long(*work):
-            status, found = called("run", content(text), (given, len(given)), [out], (), None)
+            status, found = called("run", content(text), (given, len(given)), [out], (), progress)
         else:
             status, found = asked("run", text, given, len(given), *out.given())
         room = found.room

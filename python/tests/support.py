@@ -1,7 +1,7 @@
 """What the tests share: cases in folders, the runs that documents show, and what must be installed for them.
 
-A case is a folder of tools/cases. It is copied to an empty folder, with links to the repository's folders beside it, and its `run`
-is handed to bash there, with PROGRAM set.
+A case is a folder of tools/cases. It is copied to an empty folder, with links to the repository's folders next to it, and its `run`
+is given to bash there, with PROGRAM set. If root runs it, it cannot write into the repository.
 
   run     the command lines
   stdin   their input
@@ -48,7 +48,7 @@ SKIPPED = {"built": "it wants a program that is proved", "archive": NO_LIBRARY, 
 OF_BUILDS = {"archive", "shared", "states"}
 RUNNING = groups.Groups()
 # What runs of documents need, by what is in them.
-NEEDS = (("rtl/rtl ", ("iverilog", "yosys")), ("play_two_sums/stdin; printf", ("states",)))
+NEEDS = (("rtl/rtl ", ("iverilog", "yosys")), ("pxplanes compare", ("numpy",)), ("pxplanes suite", ("numpy",)), ("play_two_sums/stdin; printf", ("states",)))
 # A process of a test that takes more of a processor is ended; so is a test that hangs for so long.
 SECONDS_OF_PROCESSOR, SECONDS_OF_WAITING = 600, 3600
 LINKED = ("tools", "cases", "docs", "gallery", "suite", "man", "pxplanes", "python", "rtl", "editors", "include", "page")
@@ -93,8 +93,16 @@ def limit():
     resource.setrlimit(resource.RLIMIT_CPU, (SECONDS_OF_PROCESSOR, SECONDS_OF_PROCESSOR))
 
 
+@functools.lru_cache(None)
+def unwritable():
+    """The words before a command to which the repository can't be written, though its folder has links to it; none if that needs
+    rights that this process has not."""
+    words = ["unshare", "--mount", "sh", "-c", 'mount --bind "$0" "$0" && mount -o remount,bind,ro "$0" && exec "$@"', TOP]
+    return words if shutil.which("unshare") and subprocess.run([*words, "true"], capture_output=True).returncode == 0 else []
+
+
 def answer(lines, folder, built, stdin=b"", **ends_of_run):
-    words = ["bash", "-c", lines]
+    words = [*unwritable(), "bash", "-c", lines]
     environment = dict(os.environ, PROGRAM=built, PXPLANES_PROGRAM=built, LC_ALL="C",
                        PYTHONDONTWRITEBYTECODE="1")
     environment.pop("PYTHONPATH", None)

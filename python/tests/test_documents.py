@@ -17,7 +17,7 @@ QUOTED = ((README, "scenes/first.scene"), (os.path.join("docs", "MODELLING.md"),
           (os.path.join("docs", "LIBRARY.md"), "../crates/px_example/src/lib.rt"))
 TEXT = re.compile(r"^```(?:text|rust)\n(.*?)^```$", re.M | re.S)
 PASSES = os.path.join("docs", "PASSES.md")
-LESSON, ANSWERS = (os.path.join("docs", leaf) for leaf in ("LESSON.md", "LESSON_ANSWERS.md"))
+LESSON, ANSWERS, HANDOUT = (os.path.join("docs", leaf) for leaf in ("LESSON.md", "LESSON_ANSWERS.md", "LESSON_HANDOUT.md"))
 EXERCISE = re.compile(r"^\*\*Exercise (\d+)\.\*\*.*?(?=\n\n|\n*\Z)", re.M | re.S)
 CLAP = re.compile(r"^\| (\d) \| \d \d \d \| ([01] [01]/[01]) \| (.*) \| ([01] [01]/[01]) \| (.*) \|$", re.M)
 STEP = re.compile(r"^\| (\d+) \| .* \| \((\d+), (\d+)\) \| \((\d+), (\d+)\) \| (\d) \| (\d) \|$", re.M)
@@ -107,9 +107,10 @@ def test_exercises_of_the_lesson():
     assert wanted and numbers == [wanted, wanted]
 
 
-def test_handout():
-    wrong = ends.script("dev/handout").wrong()
-    assert wrong is None, wrong
+def test_exercises_of_the_handout():
+    """The handout has each exercise as the lesson has it."""
+    lesson, handout = ([found.group() for found in EXERCISE.finditer(content(TOP, leaf).decode())] for leaf in (LESSON, HANDOUT))
+    assert lesson and handout == lesson
 
 
 def quotes_of_the_gallery():
@@ -141,6 +142,7 @@ def test_clocks_of_the_gallery(built):
 
 
 def test_golden_maps_of_the_suite(built):
+    pytest.importorskip("numpy")
     wrong = next(iter(ends.script("dev/suite").wrong(built)), None)
     assert wrong is None, wrong
 

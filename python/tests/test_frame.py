@@ -1,9 +1,12 @@
 """The frame of the command: its statuses, its messages, and what happens to a closed pipe or a full disk."""
+import contextlib
 import os
+import pty
 import subprocess
+import sys
 
 import pytest
-from support import TOP
+from support import TOP, skip_without
 
 from pxplanes.cli import frame
 
@@ -48,10 +51,57 @@ def test_a_full_disk_is_reported():
     assert done.returncode == 2 and "No space left on device" in done.stderr
 
 
-def test_a_closed_pipe_is_silent():
-    done = subprocess.run(["bash", "-c", '"$0" explain "$1" | true', os.path.join(TOP, "pxplanes"), SCENE], capture_output=True)
+def test_a_closed_pipe_is_silent(built):
+    done = subprocess.run(["bash", "-c", '"$0" explain "$1" | true', os.path.join(TOP, "pxplanes"), SCENE], capture_output=True,
+                          env=dict(os.environ, PXPLANES_PROGRAM=built))
     assert done.stderr == b""
 
 
 def test_numbers_below_0_are_no_options():
     assert frame.glued(["--eye", "-1,2,3", "--view", "-5", "a"]) == ["--eye=-1,2,3", "--view", "-5", "a"]
+
+
+def on_a_terminal(*words, **settings):
+    """What a command writes to a terminal, and its status."""
+    ours, theirs = pty.openpty()
+    done = subprocess.Popen(words, stdin=subprocess.DEVNULL, stdout=theirs, stderr=subprocess.PIPE, env=dict(os.environ, **settings))
+    os.close(theirs)
+    found = b""
+    with contextlib.suppress(OSError):
+        while piece := os.read(ours, 65536):
+            found += piece
+    os.close(ours)
+    return found, done.stderr.read(), done.wait()
+
+
+def test_no_raw_pixels_go_to_a_terminal(built):
+    command = os.path.join(TOP, "pxplanes")
+    for words in ([command, "--as-built", "colour", SCENE], [sys.executable, "-m", "pxplanes", "render"]):
+        found, note, status = on_a_terminal(*words, PXPLANES_PROGRAM=built, PYTHONPATH=os.path.join(TOP, "python"))
+        assert found == b"" and b"no terminal shows raw pixels" in note and status in (1, 2)
+
+
+def test_no_colours_if_nobody_wants_them(built):
+    view = [os.path.join(TOP, "pxplanes"), "view", SCENE]
+    assert b"\x1b[38" in on_a_terminal(*view, PXPLANES_PROGRAM=built)[0]
+    found, _, status = on_a_terminal(*view, PXPLANES_PROGRAM=built, NO_COLOR="1")
+    assert b"\x1b" not in found and b"#" in found and status == 0
+
+
+def test_the_file_that_has_no_room_is_named(tmp_path, built):
+    """A limit of a file's size stands for a full disk."""
+    picture = str(tmp_path / "first.png")
+    limit = "ulimit -f 0; exec \"$0\" view \"$1\" -o \"$2\""
+    done = subprocess.run(["bash", "-c", limit, os.path.join(TOP, "pxplanes"), SCENE, picture], capture_output=True, text=True,
+                          env=dict(os.environ, PXPLANES_PROGRAM=built))
+    assert (done.returncode, done.stderr) == (2, "pxplanes view: %s: File too large\n" % picture)
+
+
+def test_a_shell_completes_words_and_options():
+    skip_without(["register-python-argcomplete"])
+    asked = {"pxplanes ex": ["explain"], "pxplanes ti": ["tidy", "tile"], "pxplanes explain --in": ["--in-place"]}
+    for line, expected in asked.items():
+        settings = {"_ARGCOMPLETE": "1", "_ARGCOMPLETE_IFS": "\n", "COMP_LINE": line, "COMP_POINT": str(len(line)), "PATH": "/usr/bin:/bin"}
+        done = subprocess.run(["bash", "-c", '"$0" 8>&1 >/dev/null', os.path.join(TOP, "pxplanes")], capture_output=True, text=True,
+                              env=dict(os.environ, **settings))
+        assert sorted(done.stdout.split()) == expected

@@ -6,6 +6,7 @@ import re
 import subprocess
 import tempfile
 from collections.abc import Callable, Iterable, Iterator
+from pathlib import Path
 
 import counted
 import pytest
@@ -95,6 +96,28 @@ def test_cases(under: counted.Counted) -> None:
 @pytest.mark.parametrize("folder", ("gallery", "suite"))
 def test_scenes(under: counted.Counted, folder: str) -> None:
     try_all(under, ((name, [word], text) for name, text in files_below(folder) for word in (b"render", b"colour")))
+
+
+# The cases of which each allocation is refused in turn.
+STARVED = ("one_solid", "difference_of_a_difference", "drilled_block", "debug_goes_back", "tidy_of_one_solid", "sample_of_one_block")
+
+
+def wrong_when_refused(under: counted.Counted, words: list[bytes], text: bytes) -> Iterator[str]:
+    """Refuses each request in turn. The program must then end with status 7, no output and at most the line `out of memory`; the run
+    in which none is refused must be as the first."""
+    whole = under.run(words, text)
+    for number in range(1, whole.requests + 2):
+        run = under.run(words, text, number)
+        refused = counted.STARVED, b"", run.note if run.note in ("", "out of memory\n") else "out of memory\n"
+        expected = refused if number <= whole.requests else (whole.status, whole.output, whole.note)
+        if run.is_refused != (number <= whole.requests) or (run.status, run.output, run.note) != expected:
+            yield "allocation %d: %s" % (number, run.told())
+
+
+@pytest.mark.parametrize("name", STARVED)
+def test_each_refusal_is_said(under: counted.Counted, name: str) -> None:
+    words, text, _ = ends.script("dev/run_cases").read_case(os.path.join(support.TOP, "cases", name))
+    assert list(wrong_when_refused(under, words, text)) == []
 
 
 COMMANDS = ("render", "colour", "tidy", "plan", "cost", "list", "refine 2", "tile 40 20", "shadow", "debug")
@@ -210,7 +233,7 @@ int main(int words, char **word) {
 
 
 def test_a_greedy_program_is_found() -> None:
-    """One that asks for too much of 11 solids and of 12, and tells want of memory of 13 that nobody refused."""
+    """One that asks for too much of 11 solids and of 12, and one that says "out of memory" for 13, though nothing was refused."""
     with tempfile.TemporaryDirectory(prefix="px-greedy-") as folder:
         source, built = os.path.join(folder, "greedy.c"), os.path.join(folder, "greedy")
         with open(source, "w", encoding="ascii") as file:
@@ -219,3 +242,32 @@ def test_a_greedy_program_is_found() -> None:
         under = counted.Counted(built, folder)
         found = {count: wrong_in(under, ("", [b"render"], scene(count))) for count in range(1, 20)}
     assert [count for count, line in found.items() if line] == [11, 12, 13]
+
+
+STARVING = r"""
+#include <stdlib.h>
+#include <unistd.h>
+static void starved(int number) {
+    if (number == 3 && FAULT == 3) write(1, "P6", 2);
+    if (number > 1) write(2, "out of memory\n", 14);
+    _exit(number == 4 && FAULT == 4 ? 0 : 7);
+}
+int main(void) {
+    void *memory = 0;
+    if (!malloc(10)) starved(1);
+    if (!(memory = calloc(3, 3)) && FAULT != 2) starved(2);
+    if (!(memory = realloc(memory, 1000))) starved(3);
+    if (posix_memalign(&memory, 64, 64)) starved(4);
+    return write(1, "P6", 2) != 2;
+}
+"""
+
+
+@pytest.mark.parametrize("fault", (0, 2, 3, 4))
+def test_a_refusal_that_is_not_said_is_found(fault: int, tmp_path: Path) -> None:
+    """One that goes on, one that writes all the same, and one that ends with 0."""
+    (tmp_path / "starving.c").write_text(STARVING)
+    built = str(tmp_path / "starving")
+    subprocess.run(["cc", "-w", "-O0", "-fno-builtin", "-DFAULT=%d" % fault, "-o", built, built + ".c"], check=True)
+    found = list(wrong_when_refused(counted.Counted(built, str(tmp_path)), [], b""))
+    assert [line.split(":")[0] for line in found] == ["allocation %d" % fault] * (fault > 0)

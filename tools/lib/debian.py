@@ -1,24 +1,20 @@
 """The source package for Debian, and the packages that dpkg-buildpackage makes of it. It is no tool itself.
 
-debian/ of the checkout says what is in each of them. Its rules have tools/package lay all of it out (`stage`), of the program and the
+debian/ of the checkout says what is in each of them. Its rules have tools/package lay all of it out, of the program and the
 library in prebuilt/ or of those that the kit has built, and its *.install divide that."""
 import email.utils
 import functools
-import lzma
 import os
 import re
 import shutil
 import subprocess
-import tarfile
 import tempfile
 
 import building
 from pxplanes.errors import Trouble
 from pxplanes import ends
-from pxplanes.cli import frame
 import gate
 import installing
-import manuals
 from pxplanes import program
 
 # No package of Debian's own, which would begin at 1, and be newer.
@@ -29,12 +25,8 @@ PREBUILT = "prebuilt"
 # What is built is for this processor alone.
 ARCHITECTURE, MULTIARCH = "amd64", "x86_64-linux-gnu"
 LIBRARIES = os.path.join("lib", MULTIARCH)
-MODULES = os.path.join("lib", "python3", "dist-packages")
-DOCUMENTS = os.path.join("share", "doc", "pxplanes")
-EXAMPLES = os.path.join("share", "doc", "libpxplanes-dev")
-# What the documents name beside themselves, with where it stands.
-BESIDE = {**{name: os.path.join(installing.TREE, name) for name in ("editors", "gallery", "page", "rtl", "suite")},
-          "examples": os.path.join(EXAMPLES, "examples")}
+# The same bytes each time: `settle` gives all files their modes and times.
+SAME = ("--sort=name", "--owner=root:0", "--group=root:0", "--format=gnu")
 CHANGELOG = """pxplanes (%s) unstable; urgency=medium
 
   * CHANGES.md tells what is new.
@@ -119,18 +111,6 @@ def prebuilt():
     return {leaf: os.path.join(folder, leaf) for leaf in os.listdir(folder)} if os.path.isdir(folder) else None
 
 
-def pack(path, top, folder, names):
-    """Packs files below a folder: the same bytes each time."""
-    with lzma.open(path, "wb") as packed, tarfile.open(fileobj=packed, mode="w", format=tarfile.GNU_FORMAT) as archive:
-        for name in sorted(names):
-            whole = os.path.join(top, name)
-            entry = archive.gettarinfo(whole, os.path.join(folder, name))
-            entry.mtime, entry.uid, entry.gid, entry.uname, entry.gname = when(), 0, 0, "root", "root"
-            entry.mode = 0o755 if entry.mode & 0o100 else 0o644
-            with open(whole, "rb") as file:
-                archive.addfile(entry, file)
-
-
 def source(out, held):
     """Makes the source package of the files that git tracks, and of what is built where some is held; answers where its files are."""
     names = sorted(filter(None, installing.tracked() or ()))
@@ -139,10 +119,11 @@ def source(out, held):
     with tempfile.TemporaryDirectory(prefix="px-deb-") as place:
         top = tree(place, names)
         path = os.path.join(place, "pxplanes_%s.orig%%s.tar.xz" % installing.version())
-        pack(path % "", top, os.path.basename(top), [name for name in names if name.split(os.sep)[0] != FOLDER])
+        done(["tar", *SAME, "--exclude=%s/%s" % (os.path.basename(top), FOLDER), "-cJf", path % "", os.path.basename(top)], place)
         if held:
             add_built(top, held)
-            pack(path % ("-" + PREBUILT), os.path.join(top, PREBUILT), PREBUILT, held)
+            settle(top)
+            done(["tar", *SAME, "-cJf", path % ("-" + PREBUILT), PREBUILT], top)
         done(["dpkg-source", "-b", top], place)
         return taken(place, [leaf for leaf in sorted(os.listdir(place)) if os.path.isfile(os.path.join(place, leaf))], out)
 
@@ -166,51 +147,3 @@ def package(files, held, out):
         add_built(top, held)
         done(["dpkg-buildpackage", "-us", "-uc", "-b"], top)
         return taken(place, packages(), out)
-
-
-def place_of(name):
-    """Where a file of the checkout stands, below usr/; None where no package has it as it is."""
-    folder, _, rest = name.partition(os.sep)
-    if folder == "man":
-        return None
-    if folder == "python":
-        return os.path.join(MODULES, rest)
-    if folder == "docs" or os.path.basename(name) == "README.md" and folder == "README.md":
-        return os.path.join(DOCUMENTS, name)
-    if folder == "examples":
-        return os.path.join(EXAMPLES, name)
-    return os.path.join(installing.TREE, name)
-
-
-def links():
-    """The links: where each stands, and what it leads to."""
-    for name, target in installing.links():
-        if name.startswith("bin"):
-            yield name, target
-    yield os.path.join(installing.TREE, installing.MODULE), os.path.join(MODULES, "pxplanes")
-    for name, target in BESIDE.items():
-        yield os.path.join(DOCUMENTS, name), target
-
-
-def pages():
-    """The manual: a name of each page, and its text."""
-    for page in installing.PAGES:
-        yield page, ends.content(os.path.join(ends.TOP, "man", page)).decode("utf-8")
-    for word in frame.WORDS:
-        yield "pxplanes-%s.1" % word, manuals.page(word, installing.version())
-
-
-def stage(usr, held):
-    """Lays out all but the library, which tools/package lays out: what debian/*.install divide."""
-    for name in installing.sources():
-        to = place_of(name)
-        if to:
-            installing.put(os.path.join(ends.TOP, name), os.path.join(usr, to))
-    for place in (program.DEFAULT, program.NEWER):
-        if os.path.basename(place) in held:
-            installing.put(held[os.path.basename(place)], os.path.join(usr, installing.TREE, os.path.relpath(place, ends.TOP)))
-    for name, target in links():
-        os.symlink(os.path.relpath(target, os.path.dirname(name)), installing.made(os.path.join(usr, name)))
-    for name, text in pages():
-        with open(installing.made(os.path.join(usr, installing.MANUALS, name)), "w", encoding="utf-8") as file:
-            file.write(text)

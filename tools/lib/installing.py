@@ -1,11 +1,10 @@
-"""What an installation has, and where. It is no tool itself.
+"""What an installation has, and where: below DIR of `tools/install --prefix DIR`, and below /usr in the packages for Debian.
 
     bin/pxplanes, bin/pxplanes-rtl       the command with all its words, and that of the machine in Verilog
     lib/pxplanes/                        what they need, laid out as in the checkout
-    lib/libpxplanes.*, lib/pkgconfig/, lib/cmake/    the library, as tools/package makes it
-    include/pxplanes.h, pxplanes.hpp, pxplanes_scene.h
-    lib/python3/dist-packages/pxplanes   the Python module
-    share/man/man1/, share/doc/pxplanes  the manual, with a page for each word, and the documents
+    lib/python3/dist-packages/pxplanes   the Python package
+    share/man/man1/                      the manual, with a page for each word
+    share/doc/pxplanes, share/doc/libpxplanes-dev    the documents, and the examples
 """
 import functools
 import os
@@ -28,7 +27,15 @@ BUILT = ("draw",)
 MANUALS = os.path.join("share", "man", "man1")
 # The manual pages that are written by hand.
 PAGES = ("pxplanes.1", "pxplanes-rtl.1")
-LISTED = os.path.join(TREE, "installed")
+MODULES = os.path.join("lib", "python3", "dist-packages")
+DOCUMENTS = os.path.join("share", "doc", "pxplanes")
+EXAMPLES = os.path.join("share", "doc", "libpxplanes-dev")
+# Each link, with what it leads to. The documents name some folders as if those were next to them.
+LINKS = {os.path.join("bin", "pxplanes"): os.path.join(TREE, "pxplanes"),
+         os.path.join("bin", "pxplanes-rtl"): os.path.join(TREE, "rtl", "rtl"),
+         os.path.join(TREE, MODULE): os.path.join(MODULES, "pxplanes"),
+         **{os.path.join(DOCUMENTS, name): os.path.join(TREE, name) for name in ("editors", "gallery", "page", "rtl", "suite")},
+         os.path.join(DOCUMENTS, "examples"): os.path.join(EXAMPLES, "examples")}
 
 
 def version():
@@ -81,16 +88,6 @@ def sources():
         yield from known(inside(folder))
 
 
-def links():
-    """The links: where each stands, and what it leads to."""
-    yield os.path.join("bin", "pxplanes"), os.path.join(TREE, "pxplanes")
-    yield os.path.join("bin", "pxplanes-rtl"), os.path.join(TREE, "rtl", "rtl")
-    yield os.path.join("lib", "python3", "dist-packages", "pxplanes"), os.path.join(TREE, "python", "pxplanes")
-    for page in PAGES:
-        yield os.path.join(MANUALS, page), os.path.join(TREE, "man", page)
-    yield os.path.join("share", "doc", "pxplanes"), os.path.join(TREE, "docs")
-
-
 def made(path):
     os.makedirs(os.path.dirname(path), exist_ok=True)
     return path
@@ -103,43 +100,29 @@ def put(source, path):
     shutil.copy(source, made(path), follow_symlinks=False)
 
 
-def lay_out(prefix, built, library):
-    """Installs below a folder, of a built program and of a folder that tools/package made; answers the places of all
-    files and links, below the folder."""
-    names = []
-    for name in sources():
-        names.append(os.path.join(TREE, name))
-        put(os.path.join(ends.TOP, name), os.path.join(prefix, names[-1]))
-    for leaf, path in program.builds(built):
-        names.append(os.path.join(TREE, os.path.relpath(leaf, ends.TOP)))
-        put(path, os.path.join(prefix, names[-1]))
-    for place, _, leaves in os.walk(library):
-        for leaf in sorted(leaves):
-            names.append(os.path.relpath(os.path.join(place, leaf), library))
-            put(os.path.join(place, leaf), os.path.join(prefix, names[-1]))
-    for name, target in links():
-        names.append(name)
-        path = made(os.path.join(prefix, name))
-        if os.path.lexists(path):
-            os.remove(path)
-        os.symlink(os.path.relpath(target, os.path.dirname(name)), path)
+def place_of(name):
+    """Where a file of the checkout is in an installation; None for the manual, whose pages have their own place."""
+    folder, _, rest = name.partition(os.sep)
+    if folder == "man":
+        return None
+    if folder == "python":
+        return os.path.join(MODULES, rest)
+    if folder in ("docs", "README.md"):
+        return os.path.join(DOCUMENTS, name)
+    return os.path.join(EXAMPLES if folder == "examples" else TREE, name)
+
+
+def lay_out(usr, programs):
+    """Lays out all but the library below a folder, with the built programs by their file names."""
+    for name in filter(place_of, sources()):
+        put(os.path.join(ends.TOP, name), os.path.join(usr, place_of(name)))
+    for place in (program.DEFAULT, program.NEWER):
+        if os.path.basename(place) in programs:
+            put(programs[os.path.basename(place)], os.path.join(usr, TREE, os.path.relpath(place, ends.TOP)))
+    for name, target in LINKS.items():
+        os.symlink(os.path.relpath(target, os.path.dirname(name)), made(os.path.join(usr, name)))
+    for page in PAGES:
+        put(os.path.join(ends.TOP, "man", page), os.path.join(usr, MANUALS, page))
     for word in frame.WORDS:
-        names.append(os.path.join(MANUALS, "pxplanes-%s.1" % word))
-        with open(made(os.path.join(prefix, names[-1])), "w", encoding="utf-8") as file:
+        with open(os.path.join(usr, MANUALS, "pxplanes-%s.1" % word), "w", encoding="utf-8") as file:
             file.write(manuals.page(word, version()))
-    return names
-
-
-def remove(prefix, names):
-    """Removes files and links below a folder, and the folders that are empty then."""
-    for name in names:
-        path = os.path.join(prefix, name)
-        if os.path.lexists(path):
-            os.remove(path)
-    for name in sorted({os.path.dirname(name) for name in names}, key=len, reverse=True):
-        while name:
-            try:
-                os.rmdir(os.path.join(prefix, name))
-            except OSError:
-                break
-            name = os.path.dirname(name)

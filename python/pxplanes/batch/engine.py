@@ -133,7 +133,10 @@ class Engine:
         for leaf in os.listdir(folder):
             if leaf != "lock":
                 os.remove(os.path.join(folder, leaf))
-        (shutil.copy if self.is_slurm else os.symlink)(os.path.abspath(built), os.path.join(folder, "program"))
+        copy: Callable[[str, str], object] = os.symlink
+        if self.is_slurm:
+            copy = shutil.copy
+        copy(os.path.abspath(built), os.path.join(folder, "program"))
         self.write("words", "\n".join(words))
 
     def write(self, leaf: str, text: str) -> None:
@@ -160,7 +163,7 @@ class Engine:
         try:
             while left:
                 over = engine.poll() is not None
-                found = [name for name, part in map(os.path.splitext, os.listdir(self.folder)) if part == ".status"]
+                found = [leaf.removesuffix(".status") for leaf in os.listdir(self.folder) if leaf.endswith(".status")]
                 for name in found:
                     left.discard(name)
                     yield Piece(self.folder, name)

@@ -2,11 +2,12 @@
 
 A machine needs a shell, tar, head, xargs and mktemp. It is given its pieces with the program as one archive over one connection, and
 gives back another; that connection is its life line: where it ends, all that runs there ends, and its folder goes."""
+from __future__ import annotations
+
 import collections
 import ctypes
 import io
 import os
-import re
 import shlex
 import shutil
 import signal
@@ -14,6 +15,7 @@ import subprocess
 import sys
 import tarfile
 import threading
+from typing import Iterable, NamedTuple, Optional
 
 from pxplanes.errors import Trouble
 
@@ -44,19 +46,26 @@ sed -n "$((SLURM_ARRAY_TASK_ID + 1))~%dp" names | while read -r piece; do
 done
 '''
 
-Login = collections.namedtuple("Login", "name words jobs")
+class Login(NamedTuple):
+    """A machine: its name, the words that reach it (none for this one), and its number of jobs, if that is known."""
+
+    name: str
+    words: list[str]
+    jobs: Optional[int]
 
 
-def logins_of(path, jobs):
+def logins_of(path: str, jobs: Optional[int]) -> list[Login]:
     """The machines in a file: a login a line, with the number of its jobs and / before it, or `ssh` and its words; : is this one."""
     out = []
     with open(path) as file:
         for line in file:
             line = line.split("#")[0].strip()
-            count, rest = re.match(r"(?:(\d+)/)?(.*)", line).groups()
+            count, slash, rest = line.partition("/")
+            if not (slash and count.isdigit()):
+                count, rest = "", line
             if rest:
                 words = shlex.split(rest) if rest.startswith("ssh ") else ["ssh", rest]
-                out.append(Login(words[-1], [] if rest == ":" else words[:1] + list(OPTIONS) + words[1:], count or jobs))
+                out.append(Login(words[-1], [] if rest == ":" else words[:1] + list(OPTIONS) + words[1:], int(count) if count else jobs))
     if not out:
         raise Trouble("%s names no machine" % path)
     if any(login.words for login in out) and shutil.which("ssh") is None:
@@ -64,7 +73,7 @@ def logins_of(path, jobs):
     return out
 
 
-def end_with_parent():
+def end_with_parent() -> None:
     LIBC.prctl(TERMINATE_WITH_PARENT, signal.SIGTERM)
 
 
@@ -72,29 +81,30 @@ class Machines:
     """At work on pieces in a folder, as a process that is begun: poll, wait, terminate. A machine that failed so often is told, and
     its pieces go to the others."""
 
-    def __init__(self, folder, logins, names, retries):
+    def __init__(self, folder: str, logins: list[Login], names: Iterable[str], retries: int) -> None:
         self.folder, self.retries, self.left, self.away = folder, retries, collections.deque(names), 0
         self.share = sum(int(login.jobs or USUAL_JOBS) for login in logins)
-        self.changed, self.is_over, self.running = threading.Condition(), False, set()
+        self.changed, self.is_over = threading.Condition(), False
+        self.running: set[subprocess.Popen[bytes]] = set()
         self.threads = [threading.Thread(target=self.serve, args=(login,), daemon=True) for login in logins]
         for thread in self.threads:
             thread.start()
 
-    def poll(self):
+    def poll(self) -> Optional[int]:
         return None if any(thread.is_alive() for thread in self.threads) else 0
 
-    def wait(self):
+    def wait(self) -> None:
         for thread in self.threads:
             thread.join()
 
-    def terminate(self):
+    def terminate(self) -> None:
         with self.changed:
             self.is_over = True
             for process in self.running:
                 process.terminate()
             self.changed.notify_all()
 
-    def taken(self, login):
+    def taken(self, login: Login) -> Optional[list[str]]:
         """The next pieces for a machine: a part of what is left, so that all end together. None where there is nothing more to do."""
         with self.changed:
             while not self.left and self.away and not self.is_over:
@@ -108,9 +118,9 @@ class Machines:
             self.away += len(pieces)
             return pieces
 
-    def serve(self, login):
+    def serve(self, login: Login) -> None:
         """Has one machine work, until nothing is left or it has failed too often in a row."""
-        failed = 0
+        failed, trouble = 0, ""
         while failed < self.retries:
             pieces = self.taken(login)
             if pieces is None:
@@ -125,7 +135,7 @@ class Machines:
             print("%s: %s is lost: %s; its pieces go to the others" % (os.path.basename(sys.argv[0]), login.name, trouble),
                   file=sys.stderr, flush=True)
 
-    def sent(self, login, pieces):
+    def sent(self, login: Login, pieces: list[str]) -> tuple[set[str], str]:
         """The pieces that a machine has ended, which are put into the folder; and what it says where it fails."""
         payload = packed(self.folder, pieces)
         script = "sh -c " + shlex.quote(THERE % (len(payload), login.jobs or PROCESSORS))
@@ -136,6 +146,7 @@ class Machines:
             process = subprocess.Popen(words, stdin=subprocess.PIPE, stdout=subprocess.PIPE, stderr=subprocess.PIPE,
                                        start_new_session=True, preexec_fn=end_with_parent)
             self.running.add(process)
+        assert process.stdin is not None and process.stdout is not None
         try:
             process.stdin.write(payload)
             process.stdin.flush()
@@ -147,7 +158,7 @@ class Machines:
         return unpacked(output, self.folder, pieces), note or "status %d" % process.returncode
 
 
-def packed(folder, pieces):
+def packed(folder: str, pieces: list[str]) -> bytes:
     """An archive of the program, its words and so many pieces."""
     out = io.BytesIO()
     with tarfile.open(fileobj=out, mode="w", dereference=True) as tar:
@@ -160,11 +171,12 @@ def packed(folder, pieces):
     return out.getvalue()
 
 
-def unpacked(output, folder, pieces):
+def unpacked(output: bytes, folder: str, pieces: list[str]) -> set[str]:
     """Puts what came back of these pieces into the folder, the status last; the pieces that are whole."""
     try:
         with tarfile.open(fileobj=io.BytesIO(output)) as tar:
-            found = {member.name: tar.extractfile(member).read() for member in tar.getmembers() if member.isfile()}
+            opened = {member.name: tar.extractfile(member) for member in tar.getmembers() if member.isfile()}
+            found = {name: file.read() for name, file in opened.items() if file is not None}
     except tarfile.TarError:
         return set()
     whole = {piece for piece in pieces if all(piece + part in found for part in (".out", ".note", ".status"))}
@@ -179,7 +191,7 @@ def unpacked(output, folder, pieces):
 class Slurm:
     """The same as an array of jobs over the pieces, which share the folder; it is taken back where this is broken off."""
 
-    def __init__(self, folder, names, jobs):
+    def __init__(self, folder: str, names: list[str], jobs: int) -> None:
         self.folder, tasks = folder, min(jobs, len(names))
         for leaf, text in (("one", ONE.replace("> \"$1.status\"", "> \"$1.ended\" && mv \"$1.ended\" \"$1.status\"")),
                            ("names", "".join(name + "\n" for name in names)), ("array", SLURM % tasks)):
@@ -189,15 +201,16 @@ class Slurm:
             ["sbatch", "--parsable", "--wait", "--array=0-%d" % (tasks - 1), "--job-name=pxplanes", "--chdir", os.path.abspath(folder),
              "--output=/dev/null", "array"], cwd=folder, stdin=subprocess.DEVNULL, stdout=subprocess.PIPE,
             stderr=open(os.path.join(folder, "trouble"), "w"), preexec_fn=end_with_parent)
+        assert self.process.stdout is not None
         self.number = self.process.stdout.readline().decode().strip().split(";")[0]
 
-    def poll(self):
+    def poll(self) -> Optional[int]:
         return self.process.poll()
 
-    def wait(self):
+    def wait(self) -> None:
         self.process.wait()
 
-    def terminate(self):
+    def terminate(self) -> None:
         """Takes the array back, and waits until none of it writes into the folder any more."""
         if self.number:
             subprocess.run(["scancel", self.number], stdin=subprocess.DEVNULL, stdout=subprocess.DEVNULL, stderr=subprocess.DEVNULL)

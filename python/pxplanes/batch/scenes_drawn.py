@@ -3,12 +3,16 @@
 The folder gets NAME.ppm, or NAME.txt of plan and cost. A picture is there whole or not at all. `many.tsv` keeps what came of each
 scene: one of the same text, command and program that is there already, and compared with the same picture or with none, is not
 drawn again. One run at a time works in the folder."""
+from __future__ import annotations
+
 import collections
+import functools
 import hashlib
 import os
 import subprocess
 import sys
 from concurrent import futures
+from typing import Iterable, Iterator, NamedTuple, Optional
 
 from pxplanes import ends
 from pxplanes.batch import engine
@@ -17,10 +21,18 @@ from pxplanes.errors import Trouble
 ENDINGS = {"render": ".ppm", "colour": ".ppm", "compare": ".ppm", "shadow": ".ppm", "sample": ".ppm", "tile": ".ppm", "refine": ".ppm",
            "plan": ".txt", "cost": ".txt", "tidy": ".txt", "list": ".txt", "debug": ".txt"}
 REFUSALS = (3, 4)
-Scene = collections.namedtuple("Scene", "name path sum")
+Outcome = tuple[str, str]
 
 
-def found(words):
+class Scene(NamedTuple):
+    """A scene: its name, its file, and the checksum of what its picture hangs on, if it can be read."""
+
+    name: str
+    path: str
+    sum: Optional[str]
+
+
+def found(words: Iterable[str]) -> Iterator[str]:
     """The files that the words name, each once."""
     for word in words:
         if word == "-":
@@ -34,27 +46,28 @@ def found(words):
             yield word
 
 
-def scenes_of(words, command, built, against):
+def scenes_of(words: Iterable[str], command: str, built: str, against: Optional[str]) -> dict[str, Scene]:
     """The scenes, by their names; two of one name have one place, which is trouble. The sum of one that cannot be read is None."""
-    scenes, made = {}, content_of(built)
+    scenes: dict[str, Scene] = {}
+    made = content_of(built)
     for path in dict.fromkeys(found(words)):
         name = os.path.splitext(os.path.basename(path))[0]
         if name in scenes:
             raise Trouble("%s and %s would both be written as %s" % (scenes[name].path, path, name))
         text = content_of(path)
         beside = content_of(os.path.join(against, name + ending_of(command))) if against else None
-        scenes[name] = Scene(name, path, text and sum_of(command.encode(), made, text, beside))
+        scenes[name] = Scene(name, path, None if text is None else sum_of(command.encode(), made, text, beside))
     if not scenes:
         raise Trouble("there is no scene; --help says more")
     return scenes
 
 
-def ending_of(command):
+def ending_of(command: str) -> str:
     """The ending of what a word writes; numbers may follow the word."""
     return ENDINGS[command.split()[0]]
 
 
-def content_of(path):
+def content_of(path: str) -> Optional[bytes]:
     """The bytes of a file, or None where it cannot be read."""
     try:
         return ends.content(path)
@@ -62,7 +75,7 @@ def content_of(path):
         return None
 
 
-def sum_of(*parts):
+def sum_of(*parts: Optional[bytes]) -> str:
     """A checksum of what one picture hangs on; an absent part has one of its own."""
     return hashlib.sha256(b"".join(hashlib.sha256(part or b"").digest() + bytes([part is None]) for part in parts)).hexdigest()
 
@@ -70,8 +83,9 @@ def sum_of(*parts):
 class Table:
     """What came of each scene, kept in a file as it comes."""
 
-    def __init__(self, folder):
-        self.path, self.rows = os.path.join(folder, "many.tsv"), {}
+    def __init__(self, folder: str) -> None:
+        self.path = os.path.join(folder, "many.tsv")
+        self.rows: dict[str, tuple[str, str, str]] = {}
         if os.path.exists(self.path):
             with open(self.path, errors="surrogateescape") as file:
                 for line in file:
@@ -79,18 +93,18 @@ class Table:
                         name, total, what, note = line[:-1].split("\t")
                         self.rows[name] = total, what, note
 
-    def add(self, scene, what, note):
+    def add(self, scene: Scene, what: str, note: str) -> None:
         self.rows[scene.name] = scene.sum or "", what, note
         with open(self.path, "a", errors="surrogateescape") as file:
             file.write("\t".join((scene.name, scene.sum or "", what, " ".join(note.split()))) + "\n")
 
-    def has(self, scene, output):
+    def has(self, scene: Scene, output: str) -> bool:
         """Whether a scene needs no work: it was refused, or its output is there, and its text is the same."""
-        total, what, _ = self.rows.get(scene.name, (None, None, None))
+        total, what, _ = self.rows.get(scene.name, (None, "", ""))
         return total == scene.sum and what != "failed" and (what == "refused" or os.path.exists(output))
 
 
-def settled(scene, piece, output, against):
+def settled(piece: engine.Piece, output: str, against: Optional[str]) -> Optional[Outcome]:
     """What came of a scene whose piece has ended; its output is put in its place. None if it is to be compared."""
     if piece.status in REFUSALS:
         if os.path.exists(output):
@@ -102,7 +116,7 @@ def settled(scene, piece, output, against):
     return None if against else ("drawn", "")
 
 
-def compared(ours, theirs):
+def compared(ours: str, theirs: str) -> Outcome:
     """What comes of a picture beside the reference: equal bytes need no comparison, others have a process of their own."""
     if content_of(ours) == content_of(theirs):
         return "drawn", ""
@@ -114,9 +128,12 @@ def compared(ours, theirs):
     return "failed", done.stderr.strip().split("\n")[-1]
 
 
-def work(scenes, table, command, folder, built, where, against):
+def work(scenes: dict[str, Scene], table: Table, command: str, folder: str, built: str, where: engine.Where,
+         against: Optional[str]) -> None:
     """Draws what is not drawn yet."""
-    place = lambda scene: os.path.join(folder, scene.name + ending_of(command))
+    def place(scene: Scene) -> str:
+        return os.path.join(folder, scene.name + ending_of(command))
+
     for scene in scenes.values():
         if scene.sum is None:
             table.add(scene, "failed", "it cannot be read")
@@ -127,16 +144,16 @@ def work(scenes, table, command, folder, built, where, against):
     words = ["render"] if command == "compare" else command.split()
     motor = engine.Engine(os.path.join(folder, ".many"), built, words, where)
     progress = engine.Progress(len(left))
-    comparing = {}
+    comparing: dict[futures.Future[Outcome], Scene] = {}
     try:
         with futures.ThreadPoolExecutor(where.jobs) as jobs:
-            for piece in motor.ended({name: lambda scene=scene: ends.content(scene.path) for name, scene in left.items()}):
+            for piece in motor.ended({name: functools.partial(ends.content, scene.path) for name, scene in left.items()}):
                 scene = left[piece.name]
-                found = settled(scene, piece, place(scene), against)
-                if found is None:
+                found = settled(piece, place(scene), against)
+                if found is None and against is not None:
                     theirs = os.path.join(against, os.path.basename(place(scene)))
                     comparing[jobs.submit(compared, place(scene), theirs)] = scene
-                else:
+                elif found is not None:
                     table.add(scene, *found)
                     progress.step()
             for job in futures.as_completed(comparing):
@@ -147,9 +164,9 @@ def work(scenes, table, command, folder, built, where, against):
     progress.end()
 
 
-def report(scenes, table):
+def report(scenes: dict[str, Scene], table: Table) -> int:
     """Prints a line for each scene that was not drawn, and how many there are of each; the exit status."""
-    counts = collections.Counter()
+    counts: collections.Counter[str] = collections.Counter()
     for name, scene in sorted(scenes.items()):
         _, what, note = table.rows[name]
         counts[what] += 1
@@ -160,7 +177,7 @@ def report(scenes, table):
     return 2 if counts["failed"] else int(counts["refused"] + counts["differs"] > 0)
 
 
-def draw(command, words, folder, built, where, against=None):
+def draw(command: str, words: Iterable[str], folder: str, built: str, where: engine.Where, against: Optional[str] = None) -> int:
     """Draws the scenes that the words name, and prints what came of them; the exit status."""
     if against is not None and not os.path.isdir(against):
         raise Trouble("%s: there is no such folder to compare with" % against)

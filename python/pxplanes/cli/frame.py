@@ -10,11 +10,13 @@ import difflib
 import errno
 import importlib
 import importlib.util
+import io
 import os
 import re
 import shutil
 import subprocess
 import sys
+import traceback
 from typing import IO, Any, NoReturn, Optional, Protocol, Sequence
 
 from pxplanes import errors, program, running
@@ -22,6 +24,10 @@ from pxplanes.errors import Trouble
 
 WORDS = ("view", "explain", "trace", "convert", "compare", "suite", "batch")
 PROGRAM_WORDS = ("render", "colour", "tidy", "plan", "cost", "debug", "sample", "shadow", "tile", "refine", "list", "play")
+# Those that write raw pixels, which no terminal shows.
+BINARY_WORDS = ("render", "colour", "shadow", "tile", "refine")
+# What the system answers if no more can be written.
+NO_ROOM = (errno.ENOSPC, errno.EDQUOT, errno.EFBIG)
 # The words whose work is on pixels, which NumPy does.
 OF_PIXELS = ("compare", "suite")
 DEBIAN_PYTHON = "/usr/bin/python3"
@@ -91,6 +97,8 @@ def whole_parser() -> argparse.ArgumentParser:
         module = word(name)
         module.add_options(words.add_parser(name, help=module.HELP, description=module.__doc__, formatter_class=Help,
                                             allow_abbrev=False))
+    for name in PROGRAM_WORDS:
+        words.add_parser(name)
     return parser
 
 
@@ -105,7 +113,9 @@ def whole_number(least: int, most: int) -> type[int]:
 
 
 def run_program(words: Sequence[str]) -> int:
-    """Runs a word of the program itself: by the program that is built, or, where there is none, by the library."""
+    """Runs a word of the program itself: by the program that is built, or, if there is none, by the library."""
+    if sys.stdout.isatty() and (words[0] if words else "render") in BINARY_WORDS:
+        raise Trouble("no terminal shows raw pixels: send them to a file, or to `pxplanes view -o PNG -`")
     built = program.find(None)
     if built is not None:
         return subprocess.run([built, *words]).returncode
@@ -129,7 +139,7 @@ def need_numpy(words: Sequence[str]) -> None:
 
 def complete(parser: argparse.ArgumentParser) -> None:
     """Answers the shell's question for completions, if it asks and argcomplete is installed."""
-    if "_ARGCOMPLETE" in os.environ and importlib.util.find_spec("argcomplete"):
+    if importlib.util.find_spec("argcomplete"):
         importlib.import_module("argcomplete").autocomplete(parser)
 
 
@@ -169,6 +179,22 @@ def answered(words: list[str]) -> int:
     return status
 
 
+def unwritten(error: OSError) -> str:
+    """The file that a failed call meant, as `name: `. A write tells no name: then it is standard output, if that still fails, and
+    otherwise the file that the innermost function holds."""
+    if error.filename is not None or error.errno not in NO_ROOM:
+        return "" if error.filename is None else "%s: " % os.fsdecode(error.filename)
+    try:
+        sys.stdout.flush()
+    except OSError:
+        return "standard output: "
+    for frame, _ in reversed(list(traceback.walk_tb(error.__traceback__))):
+        for each in (*frame.f_locals.values(), *vars(frame.f_locals.get("self", error)).values()):
+            if isinstance(each, io.IOBase) and isinstance(getattr(each, "name", None), str) and getattr(each, "mode", "r") not in ("r", "rb"):
+                return "%s: " % getattr(each, "name")
+    return ""
+
+
 def drop_output() -> None:
     """What could not be written is not tried again at the end of the process."""
     os.dup2(os.open(os.devnull, os.O_WRONLY), 1)
@@ -185,10 +211,9 @@ def main(words: Optional[list[str]] = None) -> int:
     except BrokenPipeError:
         drop_output()
     except OSError as error:
-        if error.errno == errno.ENOSPC:
+        if error.errno in NO_ROOM:
             drop_output()
-        place = "" if error.filename is None else "%s: " % os.fsdecode(error.filename)
-        print("%s: %s%s" % (name, place, error.strerror or error), file=sys.stderr)
+        print("%s: %s%s" % (name, unwritten(error), error.strerror or error), file=sys.stderr)
     except SystemExit as ended:
         return int(ended.code or SUCCESS)
     except KeyboardInterrupt:

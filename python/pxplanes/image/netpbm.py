@@ -1,6 +1,9 @@
 """Reads images of Netpbm and writes pictures as PNG: what the tools share. It is no tool itself."""
+from __future__ import annotations
+
 import struct
 import zlib
+from typing import Iterable, Sequence
 
 from pxplanes.errors import Trouble
 
@@ -14,11 +17,11 @@ PNG_HEAD = b"\x89PNG\r\n\x1a\n"
 class Image:
     """`samples` has one or three numbers a pixel, row by row from the top, each to `largest`."""
 
-    def __init__(self, width, height, channels, largest, samples):
+    def __init__(self, width: int, height: int, channels: int, largest: int, samples: list[int]) -> None:
         self.width, self.height, self.channels = width, height, channels
         self.largest, self.samples = largest, samples
 
-    def numbers(self):
+    def numbers(self) -> list[int]:
         """One number a pixel: a grey sample, or three bytes, highest byte first."""
         if self.channels == 1:
             return list(self.samples)
@@ -26,16 +29,16 @@ class Image:
             raise Trouble("a pixel map with samples to %d holds no numbers; 255 is due" % self.largest)
         return of_three_bytes(self.samples)
 
-    def colours(self):
+    def colours(self) -> list[tuple[int, int, int]]:
         """Red, green and blue to 255 of each pixel."""
         to_byte = [255 * sample // self.largest for sample in range(self.largest + 1)]
         flat = [to_byte[sample] for sample in self.samples]
         if self.channels == 1:
             return [(grey, grey, grey) for grey in flat]
-        return [tuple(flat[i:i + 3]) for i in range(0, len(flat), 3)]
+        return list(zip(flat[0::3], flat[1::3], flat[2::3]))
 
 
-def of_three_bytes(samples):
+def of_three_bytes(samples: Sequence[int]) -> list[int]:
     """The numbers of three bytes each, highest byte first."""
     count = len(samples) // 3
     padded = bytearray(4 * count)
@@ -44,7 +47,7 @@ def of_three_bytes(samples):
     return list(struct.unpack(">%dI" % count, padded))
 
 
-def word_at(data, at):
+def word_at(data: bytes, at: int) -> tuple[bytes, int]:
     """The next word of a header, without comments, and the place behind it."""
     while at < len(data) and (data[at] in BLANK or data[at:at + 1] == b"#"):
         if data[at:at + 1] == b"#":
@@ -57,15 +60,15 @@ def word_at(data, at):
     return data[start:at], at
 
 
-def number_at(data, at, what, least, most):
+def number_at(data: bytes, at: int, what: str, least: int, most: int) -> tuple[int, int]:
     word, at = word_at(data, at)
     if not word.isdigit() or len(word) > 9 or not least <= int(word) <= most:
         raise Trouble("%s is no number from %d to %d" % (what, least, most))
     return int(word), at
 
 
-def plain_samples(data, at, count, largest):
-    words = []
+def plain_samples(data: bytes, at: int, count: int, largest: int) -> tuple[list[int], int]:
+    words: list[int] = []
     for _ in range(count):
         word, at = word_at(data, at)
         if not word.isdigit() or len(word) > 9 or int(word) > largest:
@@ -74,7 +77,7 @@ def plain_samples(data, at, count, largest):
     return words, at
 
 
-def raw_samples(data, at, count, largest):
+def raw_samples(data: bytes, at: int, count: int, largest: int) -> tuple[list[int], int]:
     at += 1
     size = count * (2 if largest > 255 else 1)
     if at + size > len(data):
@@ -86,7 +89,7 @@ def raw_samples(data, at, count, largest):
     return samples, at + size
 
 
-def image_at(data, at):
+def image_at(data: bytes, at: int) -> tuple[Image, int]:
     kind, at = word_at(data, at)
     if kind not in CHANNELS:
         raise Trouble("no image begins here: P2, P3, P5 or P6 is due")
@@ -101,9 +104,10 @@ def image_at(data, at):
     return Image(width, height, CHANNELS[kind], largest, samples), at
 
 
-def images(data, most=2):
+def images(data: bytes, most: int = 2) -> list[Image]:
     """The images of a file, one after another; blanks may follow the last."""
-    found, at = [], 0
+    found: list[Image] = []
+    at = 0
     while not found or word_at(data, at)[0]:
         if len(found) == most:
             raise Trouble("there is more behind %s" % ("the image" if most == 1 else "two images"))
@@ -114,7 +118,7 @@ def images(data, most=2):
     return found
 
 
-def png(width, height, colours, wanted_side=512):
+def png(width: int, height: int, colours: Sequence[Sequence[int]], wanted_side: int = 512) -> bytes:
     """A PNG picture. A small one is enlarged by a whole factor, up to the wanted side."""
     factor = max(1, wanted_side // max(width, height))
     lines = []
@@ -125,16 +129,16 @@ def png(width, height, colours, wanted_side=512):
     return png_file(width * factor, height * factor, 8, 2, lines)
 
 
-def png_file(width, height, bits, kind, lines):
+def png_file(width: int, height: int, bits: int, kind: int, lines: Iterable[bytes]) -> bytes:
     """A PNG file of lines, each with its filter before it."""
-    def chunk(name, body):
+    def chunk(name: bytes, body: bytes) -> bytes:
         return struct.pack(">I", len(body)) + name + body + struct.pack(">I", zlib.crc32(name + body))
 
     return (PNG_HEAD + chunk(b"IHDR", struct.pack(">IIBBBBB", width, height, bits, kind, 0, 0, 0))
             + chunk(b"IDAT", zlib.compress(b"".join(lines), 9)) + chunk(b"IEND", b""))
 
 
-def png_content(data):
+def png_content(data: bytes) -> tuple[bytes, bytes]:
     """The head and the bytes of the pixels of a PNG file as `png` writes it, unpacked, so that
     two libraries that pack differently are no difference."""
     if data[:8] != PNG_HEAD:

@@ -3,6 +3,7 @@ from __future__ import annotations
 
 import colorsys
 import math
+import os
 import struct
 from typing import Iterable, Sequence
 
@@ -12,6 +13,8 @@ LIGHTS = ((235, 70, 60), (60, 190, 70), (70, 90, 235), (120, 120, 0), (0, 120, 1
 # The lightest and the darkest grey of what is seen.
 LIGHTEST, RANGE = 240, 180
 GOLDEN_RATIO = 0.618034
+# Characters from dark to light, for a terminal without colours.
+DENSER = " .:-=+*#%@"
 
 
 def greys_of_depths(depths: Sequence[float], is_shown: Sequence[bool]) -> list[Colour]:
@@ -59,10 +62,15 @@ def pfm(width: int, height: int, numbers: Sequence[float]) -> bytes:
 
 
 def in_terminal(width: int, height: int, colours: Sequence[Colour], columns: int) -> str:
-    """A picture of half blocks for a terminal that is so many columns wide, two pixels in a character."""
+    """A picture of half blocks for a terminal that is so many columns wide, two pixels in a character. With NO_COLOR set, a character
+    is as dense as its two pixels are light."""
     step = max(1, math.ceil(width / columns))
     lines = []
     for y in range(0, height, 2 * step):
         upper, lower = (colours[row * width:(row + 1) * width:step] for row in (y, min(y + step, height - 1)))
+        if os.environ.get("NO_COLOR"):
+            lines.append("".join(DENSER[(sum(above) + sum(below)) * len(DENSER) // 1531] for above, below in zip(upper, lower)))
+            continue
         lines.append("".join("\x1b[38;2;%d;%d;%d;48;2;%d;%d;%dm\u2580" % (*above, *below) for above, below in zip(upper, lower)))
-    return "\x1b[0m\n".join(lines) + "\x1b[0m\n"
+    end = "\n" if os.environ.get("NO_COLOR") else "\x1b[0m\n"
+    return end.join(lines) + end

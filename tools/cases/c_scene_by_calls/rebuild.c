@@ -1,23 +1,23 @@
 /*
- * Reads scenes by tools/fuzzing/plain.c, writes each anew by pxplanes_scene.h, and compares the text with what `tidy` wrote.
+ * Writes scenes by pxplanes_scene.h, and compares each text with what `tidy` wrote.
  *
- * Use: rebuild < LIST    where a line of LIST is the file of a scene and that of its canonical text
+ * Use: rebuild < LIST    where LIST has the numbers of each scene as scenes.py writes them, after the file of its canonical text
  */
-#include "plain.h"
 #include "pxplanes_scene.h"
 
 #include <stdio.h>
 #include <stdlib.h>
+#include <string.h>
 
 #define MOST 1100000
+#define SOLIDS 255
+#define PLANES 64
 
-static char text[MOST], tidy[MOST], written[MOST];
-static struct scene read;
-static char names[MAX_SOLIDS][40];
-static struct pxplanes_face faces[MAX_SOLIDS][2 * MAX_PLANES_OF_A_KIND];
-static struct pxplanes_plane sides[MAX_SOLIDS][MAX_PLANES_OF_A_KIND];
-static struct pxplanes_solid solids[MAX_SOLIDS];
-static char shows[64][MOST];
+static char tidy[MOST], written[MOST], joined[MOST], shows[64][MOST];
+static char names[SOLIDS][40];
+static struct pxplanes_face faces[SOLIDS][PLANES];
+static struct pxplanes_plane sides[SOLIDS][PLANES];
+static struct pxplanes_solid solids[SOLIDS];
 
 static size_t content(const char *path, char *to)
 {
@@ -29,71 +29,87 @@ static size_t content(const char *path, char *to)
     return len;
 }
 
-static struct pxplanes_plane plane_of(const struct plane *plane)
+static long long number(void)
 {
-    struct pxplanes_plane found = {plane->a, plane->b, plane->c};
+    long long found;
+    if (scanf("%lld", &found) != 1)
+        exit(2);
     return found;
 }
 
-/* The faces of a solid in the order of their numbers; one with its solid's colour has none of its own every other time. */
-static size_t take_faces(const struct solid *solid, struct pxplanes_face *to)
+static struct pxplanes_plane plane(void)
 {
-    unsigned front = 0, back = 0;
-    size_t len = 0;
-    while (front < solid->count[FRONT] || back < solid->count[BACK]) {
-        int is_front = back == solid->count[BACK]
-                       || (front < solid->count[FRONT] && solid->planes[FRONT][front].face < solid->planes[BACK][back].face);
-        const struct plane *plane = is_front ? &solid->planes[FRONT][front++] : &solid->planes[BACK][back++];
-        int has_colour = memcmp(plane->colour, solid->colour, 3) != 0 || len % 2;
-        struct pxplanes_face face = {is_front ? PXPLANES_FRONT : PXPLANES_BACK, plane_of(plane), has_colour, {7, 7, 7}};
-        if (has_colour)
-            memcpy(face.rgb, plane->colour, 3);
-        to[len++] = face;
-    }
-    return len;
+    struct pxplanes_plane found;
+    found.a = number();
+    found.b = number();
+    found.c = number();
+    return found;
 }
 
-static void take_solids(void)
+static void colour(uint8_t *rgb)
 {
-    for (unsigned i = 0; i < read.solids; i++) {
-        const struct solid *solid = &read.solid[i];
-        struct pxplanes_solid to = {names[i], {0, 0, 0}, faces[i], take_faces(solid, faces[i]), sides[i], solid->count[SIDE]};
-        memcpy(names[i], solid->name, solid->name_len);
-        names[i][solid->name_len] = 0;
-        memcpy(to.rgb, solid->colour, 3);
-        for (unsigned j = 0; j < solid->count[SIDE]; j++)
-            sides[i][j] = plane_of(&solid->planes[SIDE][j]);
-        solids[i] = to;
-    }
+    for (unsigned i = 0; i < 3; i++)
+        rgb[i] = (uint8_t) number();
 }
 
-/* The expression by pxplanes_join, from the inside out. */
+/* A name, a colour, how many faces and sides, and these. A face with its solid's colour has none of its own every other time. */
+static void take_solid(unsigned i)
+{
+    struct pxplanes_solid to = {names[i], {0, 0, 0}, faces[i], 0, sides[i], 0};
+    if (scanf("%39s", names[i]) != 1)
+        exit(2);
+    colour(to.rgb);
+    to.faces_len = (size_t) number();
+    to.sides_len = (size_t) number();
+    for (size_t j = 0; j < to.faces_len; j++) {
+        struct pxplanes_face *face = &faces[i][j];
+        face->kind = number() != 0 ? PXPLANES_FRONT : PXPLANES_BACK;
+        face->plane = plane();
+        colour(face->rgb);
+        face->has_colour = memcmp(face->rgb, to.rgb, 3) != 0 || j % 2;
+    }
+    for (size_t j = 0; j < to.sides_len; j++)
+        sides[i][j] = plane();
+    solids[i] = to;
+}
+
+/* The expression by pxplanes_join, of its nodes in postorder, up to a full stop. */
 static const char *take_show(void)
 {
-    static char joined[MOST];
+    char node[8];
     unsigned top = 0;
-    for (unsigned i = 0; i < read.nodes; i++)
-        if (read.node[i].sign == 0) {
-            strcpy(shows[top++], names[read.node[i].solid]);
+    while (scanf("%7s", node) == 1 && strcmp(node, ".") != 0)
+        if (strchr("+*-^", node[0]) == NULL) {
+            strcpy(shows[top++], names[atoi(node)]);
         } else {
             top--;
-            if (pxplanes_join(joined, sizeof joined, shows[top - 1], read.node[i].sign, shows[top]) != strlen(joined))
+            if (pxplanes_join(joined, sizeof joined, shows[top - 1], node[0], shows[top]) != strlen(joined))
                 exit(2);
             strcpy(shows[top - 1], joined);
         }
     return shows[0];
 }
 
-/* The text is that of `tidy`, its length is told without room, and with too little there is no text. */
-static int is_same(const char *path, size_t due)
+/* The text is that of `tidy`, its length is known without room, and with too little there is no text. */
+static int is_same(const char *path)
 {
-    struct pxplanes_scene scene = {read.width, read.height, read.depth_bits, read.fraction_bits, solids, read.solids, NULL};
-    take_solids();
+    struct pxplanes_scene scene;
+    size_t wanted = content(path, tidy), asked, short_of, len;
+    int is_empty;
+    scene.width = (uint32_t) number();
+    scene.height = (uint32_t) number();
+    scene.depth_bits = (uint32_t) number();
+    scene.fraction_bits = (uint32_t) number();
+    scene.solids = solids;
+    scene.solids_len = (size_t) number();
+    for (unsigned i = 0; i < scene.solids_len; i++)
+        take_solid(i);
     scene.show = take_show();
-    size_t asked = pxplanes_write(NULL, 0, &scene), short_of = pxplanes_write(written, due, &scene);
-    int is_empty = written[0] == 0;
-    size_t len = pxplanes_write(written, due + 1, &scene);
-    if (len == due && memcmp(written, tidy, due + 1) == 0 && asked == due && short_of == due && is_empty)
+    asked = pxplanes_write(NULL, 0, &scene);
+    short_of = pxplanes_write(written, wanted, &scene);
+    is_empty = written[0] == 0;
+    len = pxplanes_write(written, wanted + 1, &scene);
+    if (len == wanted && memcmp(written, tidy, wanted + 1) == 0 && asked == wanted && short_of == wanted && is_empty)
         return 1;
     printf("%s differs\n", path);
     return 0;
@@ -101,14 +117,11 @@ static int is_same(const char *path, size_t due)
 
 int main(void)
 {
-    char path[2][1024];
+    char path[1024];
     unsigned same = 0, all = 0;
-    while (scanf("%1023s %1023s", path[0], path[1]) == 2) {
-        size_t len = content(path[0], text), due = content(path[1], tidy);
-        if (read_scene(text, len, &read).judgement != IS_SCENE)
-            continue;
+    while (scanf("%1023s", path) == 1) {
         all++;
-        same += (unsigned) is_same(path[0], due);
+        same += (unsigned) is_same(path);
     }
     printf("%s of them are written as by tidy\n", all < 200 ? "too few" : same == all ? "all" : "not all");
     return same != all;
