@@ -56,7 +56,19 @@ OF_SCENES_ALONE = ("bad-name", "second-name", "bad-expression", "unknown-name", 
 OWN_TROUBLE = "1"
 # What a document names, and a command that stands beside it makes.
 MADE = ("examples/c/draw",)
-MOST_WORDS = 1000
+MOST_WORDS = 800
+# Words that documents do without, each with the plain one. They may be quoted, and headings that sources name keep theirs.
+PLAIN = (
+    (r"behind (?:a|the|its|their|each|every|that|this)? ?(?:end|gate|clock|scene|lines?|text|words?|feed|header|proofs?|step)\b", "after"),
+    (r"\bbeside\b", "compared with, next to"), (r"\b(?:tells?|told)\b", "says, reports"), (r"\bwants\b", "needs"),
+    (r"\bone's own\b", "your own"), (r"\banew\b", "again"), (r"\b(?:is|are|was|were|be) due\b", "must be, is expected"),
+    (r"(?<!thing )(?<!where )(?<!what )(?<!ever )\belse\b(?!')", "otherwise"), (r"\bwant of\b", "out of"), (r"\bby lot\b", "random"),
+    (r"\blikewise\b", "also"), (r"\bfor good\b", "permanently"), (r"\bof the same\b(?=[,.;:])", "the same"),
+    (r"\bno(?:ne| \w+) but\b", "only"), (r"\bgo(?:es)? by\b", "uses"), (r"\bwhat is left\b", "the rest"),
+    (r"\bstands? (?:in|there|below|above|whole|as)\b", "is"), (r"\bat hand\b", "available"), (r"\bhands? (?:on|over)\b", "passes"))
+# Documents that are not yet held to it.
+NOT_YET_PLAIN = re.compile(r"(?:crates/px_\w+|debian|page|page/library|rtl|suite|tools)/README\.md|"
+                           r"docs/(?:COMPARE|DEBUGGER|INSTALL|LEAGUE|MODELLING|RTL|SCALE|STUDIO)\.md")
 # Options of programs of others that documents name by themselves.
 OF_OTHERS = ("--projection=o", "--camera", "--sshlogin", "--viewall", "--autocenter", "--imgsize", "--preview", "--experimental-wasm-memory64")
 
@@ -405,8 +417,17 @@ def wrong_size():
         yield "%s has %d words, and may have %d" % (README, words, MOST_WORDS)
 
 
+def wrong_words():
+    """A word that a plain one can replace, outside of quotes, code and headings."""
+    for leaf in names():
+        text = re.sub(r'(?m)^#.*$|`[^`\n]*`|"[^"]*"|\]\([^)]*\)', " ", prose(leaf))
+        for form, plain in () if NOT_YET_PLAIN.fullmatch(leaf) else PLAIN:
+            for found in re.finditer(form, " ".join(text.split()), re.I):
+                yield "%s: %r; better is %r" % (leaf, found.group(), plain)
+
+
 CHECKS = {"links of documents": wrong_links, "headings that are named": wrong_headings, "places in documents": wrong_places,
           "options in documents": wrong_options, "blocks of documents": wrong_blocks, "commands in documents": wrong_commands,
           "statuses in documents": wrong_statuses, "causes in documents": wrong_causes, "limits in documents": wrong_limits,
           "clocks of operations": wrong_clocks, "forms of lines": wrong_operations, "tools in their list": wrong_lists, "times in documents": wrong_times, "rooms of crates": wrong_rooms,
-          "words of README": wrong_size}
+          "words of README": wrong_size, "plain words": wrong_words}

@@ -13,8 +13,7 @@ from pxplanes.machine import sessions
 
 README = documents.README
 DEBUGGER = os.path.join("docs", "DEBUGGER.md")
-QUOTED = ((README, "scenes/first.scene"), (os.path.join("docs", "MODELLING.md"), "scenes/bracket.scad"),
-          (os.path.join("docs", "LIBRARY.md"), "../crates/px_example/src/lib.rt"))
+QUOTED = ((README, "scenes/first.scene"), (os.path.join("docs", "MODELLING.md"), "scenes/bracket.scad"))
 TEXT = re.compile(r"^```(?:text|rust)\n(.*?)^```$", re.M | re.S)
 PASSES = os.path.join("docs", "PASSES.md")
 LESSON, ANSWERS, HANDOUT = (os.path.join("docs", leaf) for leaf in ("LESSON.md", "LESSON_ANSWERS.md", "LESSON_HANDOUT.md"))
