@@ -21,7 +21,7 @@ export class Compare {
     this.ask();
   }
 
-  // Takes another text of the scene, and compares anew where a map is there.
+  // Takes another text of the scene, and compares again if a map is there.
   load(text, head, picture) {
     Object.assign(this, {text, scene: head, picture});
     this.ask();
@@ -46,8 +46,7 @@ export class Compare {
     at("groups").replaceChildren();
     at("compare-readout").textContent = "";
     at("compare-says").replaceChildren(...(trouble ? [made("p", "trouble", `${this.map.name}: ${trouble}`)]
-      : head.lines.filter(line => !line.startsWith("  "))
-        .map((line, number) => made("p", number ? "" : "large", line))));
+      : head.lines.map((line, number) => made("p", number ? "" : "large", line))));
     document.body.dataset.compared = trouble ?? head.lines[0];
     if (trouble || !head.rgb) return;
     at("differences").setAttribute("aria-label", `the differences: ${head.lines[0]}; arrow keys choose a pixel`);

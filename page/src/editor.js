@@ -20,6 +20,8 @@ export class Editor {
       mode: "pxplanes", inputStyle: "contenteditable", lineNumbers: true, gutters: [COLOURS, "CodeMirror-linenumbers"], matchBrackets: true,
       screenReaderLabel: "the text of the scene", spellcheck: false, autocorrect: false, autocapitalize: false, undoDepth: 10000,
       hintOptions: {hint: completions, completeSingle: true},
+      // (a no-break space looks like a space, and the library refuses it)
+      specialChars: /[\0-\x1f\x7f-\xa0\xad\u200b-\u200f\u2028\u2029\ufeff]/,
       // (Tab leaves the editor, as it leaves every other field)
       extraKeys: {"Ctrl-Space": "autocomplete", "Tab": false, "Shift-Tab": false, "Esc": () => this.code.getInputField().blur(), "Cmd-S": false, "Ctrl-S": false}
     });

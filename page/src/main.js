@@ -12,6 +12,7 @@ import {Light} from "./light.js";
 import * as link from "./link.js";
 import {BOX, List} from "./list.js";
 import {Machine} from "./machine.js";
+import {isPicture} from "./maps.js";
 import {IMAGES, Picture} from "./picture.js";
 import * as server from "./server.js";
 import {Story} from "./story.js";
@@ -21,8 +22,6 @@ import {Texts} from "./texts.js";
 const at = id => document.getElementById(id), main = document.querySelector("main");
 const TABS = ["write", "machine", "compare", "lesson"], PARTS = ["write", "machine", "compare"];
 const MODELS = ["csg", "off", "stl"], TEXTS = ["scene", "listing"];
-// How the files of maps begin that Compare reads (maps.js): Netpbm and PFM, PNG, EXR, TIFF, NPY, and numbers as text.
-const MAPS = /^(P[1-7fF]\s|\x89PNG|\x76\x2f\x31\x01|II\*\0|MM\0\*|\x93NUMPY|\s*[-+.]?\d)/;
 const LARGEST_DROP = 1 << 26, TOLD = 6000, SMALLEST = 12, LARGEST = 30, FIRST = "first", NOTHING = "none";
 // What a page opens by itself, and how it is shown then: in the midst of being drawn, and going on.
 const OPENING = "letters", SIGHT = {view: "best colours", beside: "", isPlayed: "pass", share: 0.55, pixel: [60, 180]};
@@ -165,7 +164,7 @@ async function dropped(file) {
     return choose("write");
   }
   const bytes = new Uint8Array(await file.arrayBuffer());
-  if (TEXTS.includes(kind) || !MAPS.test(String.fromCharCode(...bytes.subarray(0, 64)))) return open(name, readable(file.name, bytes));
+  if (TEXTS.includes(kind) || !isPicture(bytes)) return open(name, readable(file.name, bytes));
   choose("compare");
   await compare.take(file);
 }

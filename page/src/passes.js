@@ -1,5 +1,5 @@
 // What the operations of a scene are for, in words: docs/PASSES.md, step by step. Which they are the library says, with the step, the
-// literal and the face of each. tools/lib/passes.py says the same by itself, and of a listing what tools/lib/micros.py says.
+// literal and the face of each.
 
 const SIGN_BIT = 40, FORMS = new Set(["keep-sign", "keep-at-most", "load-linear", "add-linear"]);
 const ALL = "enable every pixel", WITH_CANDIDATE = "keep the pixels with a candidate", UNCOUNTED = "nothing is counted yet: par is 0";
