@@ -62,7 +62,7 @@ export type Role = "start" | "open" | "candidate" | "drop" | "clear" | "front" |
 
 /** An operation, and what it is for (docs/PASSES.md, "Steps"); `String` of it is its line in a listing. */
 export class Operation {
-  /** The word of its line, and the numbers behind it (docs/LISTINGS.md, "Operations"). */
+  /** The word of its line, and the numbers after it (docs/LISTINGS.md, "Operations"). */
   readonly kind: string;
   readonly numbers: (number | bigint)[];
   /** The clock at which it begins. */
@@ -137,7 +137,7 @@ export class Library {
   packed(text: Text, first: Whole, count: Whole): BigUint64Array;
   /** What the program writes for a command's words, as "tidy" or "tile 600 400", with the text as its standard input. */
   run(text: Text, words?: Text): Uint8Array;
-  /** The words of the state behind some microinstructions, as `packed` gives them or your own. */
+  /** The words of the state after some microinstructions, as `packed` gives them or your own. */
   clocks(state: Pick<State, "words" | "width" | "height">, packed: BigUint64Array): Uint32Array;
   machine(text: Text, starts?: readonly number[] | null): Machine;
 }

@@ -186,7 +186,7 @@ export class Library {
     }
   }
 
-  // The words of the state behind some packed microinstructions, of a state or of what has its words, width and height.
+  // The words of the state after some packed microinstructions, of a state or of what has its words, width and height.
   clocks(state, packed) {
     if (state === null || typeof state !== "object") throw new TypeError(`state is ${kindOf(state)}; a State is expected`);
     const {pxplanes_clocks: call} = this.#calls, words = copyOf(Uint32Array, state.words, "state.words"), half = Math.floor(words.length / 2);
@@ -327,7 +327,7 @@ export class State {
     this.perPlane = this.perRow * this.height;
   }
 
-  // The plane of a memory bit, or of a register: by its name, or as the bit behind those of the memory.
+  // The plane of a memory bit, or of a register: by its name, or as the bit after those of the memory.
   planeOf(which) {
     if (REGISTERS.includes(which)) return this.bits + REGISTERS.indexOf(which);
     return whole(which, "the plane", this.bits + REGISTERS.length - 1);
@@ -424,18 +424,18 @@ export class Machine {
     whole(clock, "clock", this.clocks);
     if (!this.canStep || clock < NEAR || this.kept.has(clock - 1)) return;
     let known = this.#keep(this.library.state(this.text, clock - NEAR));
-    while (known.clock + 1 < clock) known = this.#keep(this.#behind(known, known.clock + 1));
+    while (known.clock + 1 < clock) known = this.#keep(this.#after(known, known.clock + 1));
   }
 
   // Goes on from a state that is near.
   #found(clock) {
     if (this.canStep && clock <= this.clocks)
       for (let near = clock - 1; near >= Math.max(0, clock - NEAR); near--)
-        if (this.kept.has(near)) return this.#behind(this.kept.get(near), clock);
+        if (this.kept.has(near)) return this.#after(this.kept.get(near), clock);
     return this.library.state(this.text, clock);
   }
 
-  #behind(known, clock) {
+  #after(known, clock) {
     const words = this.library.clocks(known, this.#broadcast(known.clock, clock - known.clock)), isEnd = clock === this.clocks;
     const operation = isEnd ? this.starts.length : this.#operationAt(clock);
     return new State({...this.first, clock, operation, operationClock: isEnd ? 0 : clock - this.starts[operation],
@@ -451,7 +451,7 @@ export class Machine {
     return low - 1;
   }
 
-  // Keeps a state, and forgets the one that was wanted longest ago.
+  // Keeps a state, and forgets the one that was used longest ago.
   #keep(state) {
     this.kept.delete(state.clock);
     this.kept.set(state.clock, state);

@@ -73,7 +73,7 @@ function state(text, words) {
   return {...fields, micro: next && String(next)};
 }
 
-// A small picture of key B behind a clock: of some of its pixels the colours of their faces, at most so many in a row.
+// A small picture of key B after a clock: of some of its pixels the colours of their faces, at most so many in a row.
 function thumb(text, words) {
   const scene = sceneIn(text), most = wholeNumber(words, "most", MOST_SMALL), own = px.state(text, wholeNumber(words, "clock"));
   const step = Math.ceil(Math.max(scene.width, scene.height) / Math.max(1, most)), [width, height] = [scene.width, scene.height].map(side => Math.ceil(side / step));
@@ -85,7 +85,7 @@ function thumb(text, words) {
   return {width, height, pixels};
 }
 
-// The life of a pixel: enable behind each operation, and the number in key B's face, 0 where the text is a listing.
+// The life of a pixel: enable after each operation, and the number in key B's face, 0 if the text is a listing.
 function life(text, words) {
   const own = lifeIn(text, words), bits = isListing(text) ? 0 : sceneIn(text).numberBits, faces = new Uint16Array(own.enable.length);
   for (let place = 0; place < faces.length; place++) for (let bit = 0; bit < bits; bit++) faces[place] |= own.at(place, bit) << bit;
@@ -98,7 +98,7 @@ function lifeIn(text, words) {
   return lived.life;
 }
 
-// The next clock, or the last one before, behind which a pixel's enable, a bit of its memory or the face in its key B is another one.
+// The next clock, or the last one before, after which a pixel's enable, a bit of its memory or the face in its key B is another one.
 function stop(text, words) {
   const own = lifeIn(text, words), {operations, clocks} = courseIn(text), now = wholeNumber(words, "clock", clocks), way = words.back ? -1 : 1;
   const what = {enable: () => "enable", bit: () => [wholeNumber(words, "bit", machineIn(text).first.bits - 1), 1],
@@ -124,7 +124,7 @@ function wave(text, words) {
   return {first, last, pixels, micros};
 }
 
-// Another renderer's map beside the picture, which whoever has it gives.
+// Another renderer's map compared with the picture, which the page has.
 async function compare(text, words) {
   const scene = sceneIn(text), tolerance = wholeNumber(words, "tolerance", scene.far), {width, height} = scene;
   const ours = words.picture ? {width, height, ...words.picture} : px.render(text);

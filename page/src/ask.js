@@ -7,7 +7,7 @@ const PATIENCE = 200, LANE = {draw: "draw", compare: "slow", thumb: "small", sma
 
 export class Trouble extends Error {}
 
-// Nobody wants the answer any more.
+// Nobody needs the answer any more.
 export class Dropped extends Error {}
 
 class Lane {

@@ -1,4 +1,4 @@
-// Another renderer's map beside the picture: what differs, in groups, as an image and pixel by pixel.
+// Another renderer's map compared with the picture: what differs, in groups, as an image and pixel by pixel.
 import {ask, latest} from "./ask.js";
 import {rove} from "./rove.js";
 import {Screen, made, painted} from "./show.js";

@@ -28,7 +28,7 @@ export class Course {
     for (const [pass, , , clock] of operations) if (this.passStarts.length === pass) this.passStarts.push(clock);
   }
 
-  // The operation under way behind so many clocks: the last that begins there or before.
+  // The operation under way after so many clocks: the last that begins there or before.
   operationAt(clock) {
     let low = 0, high = this.operations.length;
     while (low < high) {

@@ -1,4 +1,4 @@
-// The editor: CodeMirror, with the colours of solids and faces beside their lines, and a mark and a cure at the line that is refused.
+// The editor: CodeMirror, with the colours of solids and faces beside their lines, and a mark and what is wrong at the line that is refused.
 import CodeMirror from "codemirror/lib/codemirror.js";
 import "codemirror/addon/dialog/dialog.js";
 import "codemirror/addon/edit/matchbrackets.js";
@@ -58,7 +58,7 @@ export class Editor {
 
   focus() { this.code.focus(); }
 
-  // Takes the place of a text; what stood there comes back by undoing.
+  // Replaces a text; the old one comes back by undoing.
   replace(doc, text) {
     doc.setValue(text);
     doc.setCursor(0, 0);
@@ -67,7 +67,7 @@ export class Editor {
   // The line, from 0 on, and the column of the letter under the pointer.
   placeOf({clientX, clientY}) { return this.code.coordsChar({left: clientX - this.code.defaultCharWidth() / 2, top: clientY}, "window"); }
 
-  // Marks the line that a refusal names, or none; the span has the columns of what is wrong there, and `said` stands below the line.
+  // Marks the line that a refusal names, or none; the span has the columns of what is wrong there, and `said` is shown below the line.
   mark(line, span, said = null) {
     this.bad?.();
     this.bad = null;

@@ -12,7 +12,7 @@ export class Light {
     strip.onPass = said => this.on(this.faceOf(said));
   }
 
-  // Another text: its faces as the page is told them; a listing has none.
+  // Another text: its faces as `draw` answers them; a listing has none.
   load(faces) {
     this.faces = faces ?? [];
     this.on(0);

@@ -5,7 +5,7 @@ import {through} from "./pack.js";
 
 const MOST = 16384, FORM = "deflate-raw";
 
-// The letters of the readable form, and what they stand for.
+// The letters of the readable form, and what they mean.
 const LETTERS = {s: "scene", t: "tab", i: "image", c: "clock", v: "view", b: "beside", p: "pixel", e: "exercise"}, NUMBERS = ["clock", "exercise"];
 
 const whole = word => /^\d{1,15}$/.test(word) ? Number(word) : word;

@@ -29,7 +29,7 @@ export class Machine {
     this.wall = new Wall(at("planes"), (name, isBeside) => this.choose(name, isBeside));
     this.life = new PixelLife(clock => this.go(clock), tell);
     this.screens = ["array", "array-beside"].map(name => new Screen(at(name), pixel => this.point(pixel), pixel => this.keep(pixel)));
-    // Whether the machine's text is the one that stands, as the page knows it.
+    // Whether the machine's text is the one in the editor, as the page knows it.
     this.isCurrent = () => true;
     // What the page does when another pixel is pointed at, and when another state is shown.
     this.onPoint = this.onShow = () => {};
@@ -59,10 +59,11 @@ export class Machine {
       button.addEventListener("click", () => this.zoom(Number(button.dataset.zoom)));
     for (const [kind, , words] of KINDS)
       at("legend").append(made("span", "", "", made("i", "chip pass-" + kind), words + " "));
-    new ResizeObserver(() => { this.strip.drawPasses(); this.life.draw(); this.inside(); if (this.state) this.arrange(); }).observe(at("machine"));
+    new ResizeObserver(() => { this.strip.drawPasses(); this.life.draw(); this.inside(); }).observe(at("machine"));
+    new ResizeObserver(() => { if (this.state) this.arrange(); }).observe(at("stages"));
   }
 
-  // Takes another text, at a clock or behind a share of its passes, and where they are said with views and a pixel; where `isPlayed`
+  // Takes another text, at a clock or after a share of its passes, with views and a pixel if they are given; if `isPlayed`
   // says by what, it plays from there.
   async load(text, head, {clock = 0, share, view, beside, pixel, isPlayed}) {
     this.text = text;
@@ -83,7 +84,7 @@ export class Machine {
     if (isPlayed) this.player.begin(isPlayed);
   }
 
-  // Goes to a clock, as who looks on wants it: what plays stops.
+  // Goes to a clock that the user chose: what plays stops.
   go(clock) {
     this.player.stop();
     this.goTo(clock);
@@ -119,7 +120,7 @@ export class Machine {
       : await ask("stop", {what, bit: Number(bit), x: pixel[0], y: pixel[1], clock: now, back: way < 0}, text);
     if (text !== this.text) return;
     if (trouble) throw new Trouble(trouble);
-    if (clock === null) throw new Trouble(`${words.join(" ")}: ${way > 0 ? "nothing of it comes any more" : "nothing of it was before"}`);
+    if (clock === null) throw new Trouble(`${words.join(" ")}: ${way > 0 ? "it does not come again" : "it did not come before"}`);
     this.go(clock);
   }
 
@@ -233,7 +234,7 @@ export class Machine {
     return new State(fields, words);
   }
 
-  // What is shown large, as it stands behind some clocks, picture by picture.
+  // What is shown large, after each of some clocks, picture by picture.
   async pictures(clocks, onEach) {
     const {text, head} = this, view = this.viewNamed(this.view), out = [];
     for (const clock of clocks) {
@@ -276,7 +277,7 @@ export class Machine {
     at("count").textContent = this.onesSaid(this.viewNamed(this.view));
   }
 
-  // Two images stand one above the other where they are larger so.
+  // Two images are one above the other if that makes them larger.
   arrange() {
     const {clientWidth: wide, clientHeight: high} = at("stages"), {width, height} = this.state;
     const scale = (columns, rows) => Math.min(wide / columns / width, high / rows / height);
@@ -319,7 +320,7 @@ export class Machine {
     if (String(this.life.pixel) !== String(pixel)) this.life.show(pixel);
   }
 
-  // What stands beside the array: the pixel, the tree and the waveform.
+  // What is beside the array: the pixel, the tree and the waveform.
   inside() {
     const {state} = this;
     if (!state || at("machine").hidden) return;
@@ -359,7 +360,7 @@ function cut(pixels, wide, {width, height}) {
   return {width, height, pixels: out};
 }
 
-// Words in which names stand between backticks.
+// Words in which names are between backticks.
 function worded(text) {
   const node = (part, number) => number % 2 ? made("b", "solid-name", part) : document.createTextNode(part);
   return text.split("`").map(node);

@@ -54,7 +54,7 @@ machine.onPoint = pixel => light.on(pixel && machine.isShown && machine.head.lay
 machine.onShow = () => light.again();
 picture.onPoint = pixel => light.on(pixel && picture.maps ? picture.maps.faces[pixel[1] * picture.head.width + pixel[0]] : 0);
 
-// The text that stands is another one: what is shown is not of it until it is drawn.
+// The text in the editor is another one: what is shown is not of it until it is drawn.
 function changed(isOther) {
   const {now, text} = texts;
   if (isOther) {
@@ -93,7 +93,7 @@ function checkAsked({isMachine, clock = 0, pixel}, {width, height, clocks}) {
   if (pixel && (pixel[0] >= columns || pixel[1] >= rows)) throw new Trouble(`There is no pixel ${pixel.join(", ")} in ${columns} by ${rows}.`);
 }
 
-// Gives the machine the text that stands, where it is shown.
+// Gives the machine the text in the editor, if the machine is shown.
 function freshen() {
   if (page.tab !== "machine" || !page.stale) return;
   const {text, head, ...place} = page.stale;
@@ -127,7 +127,7 @@ async function saveThere(now, text) {
   document.body.dataset.saved = answer.saved;
 }
 
-// Another program wrote the file: what it has now is opened in a tab beside this one, which stays.
+// Another program wrote the file: what it has now opens in another tab, and this one stays.
 function changedThere(now, file, text) {
   texts.addAside(`${now.name} on the disk`, text);
   throw new Trouble(`Another program changed ${file}, so nothing was written. Its text is open as "${now.name} on the disk". If you save again, yours takes its place.`);
@@ -177,7 +177,7 @@ function readable(name, bytes) {
   }
 }
 
-// The text that stands with what is shown of it.
+// The text in the editor with what is shown of it.
 function shown() {
   const place = page.tab === "machine" ? {clock: machine.wanted, view: machine.view, beside: machine.beside, pixel: machine.pixel} : {pixel: picture.screen.kept};
   return {name: texts.now.name, text: texts.text, tab: page.tab === "lesson" ? "write" : page.tab, image: picture.image, ...place};
@@ -241,7 +241,7 @@ async function copyLink(isFrame) {
   note(server.isServed() ? "The link is copied. It begins with pxplanes.html: write the place of that file before it." : "The link is copied.");
 }
 
-// Nothing is taken away of what is not of the text that stands, but the text itself.
+// Only the text itself is taken away while what is shown is not of it.
 async function takeAway(what) {
   const {name} = texts.now;
   if (what === "scene") return take.away(new Blob([texts.text]), name + ".scene");

@@ -38,7 +38,7 @@ class Passes {
     return product.map((literal, at) => (literal < 0 ? "- " : at ? "* " : "") + this.solidOf(literal).name).join(" ");
   }
 
-  // What a pass is for, and its operations behind the first, which enables every pixel; `operation` is any of them.
+  // What a pass is for, and its operations after the first, which enables every pixel; `operation` is any of them.
   of(operation) {
     const {role, solid, face: number, other} = operation, own = solid ? facesOf(this.scene.solids[solid - 1]).flat().find(each => each.number === number) : null;
     const {product, at, literal} = this.literals[operation.literal - 1] ?? {}, name = literal && this.solidOf(literal).name;
@@ -123,7 +123,7 @@ function spoken(name, numbers) {
     "toggle": () => `turn bit ${one}`}[name]();
 }
 
-// The form of an operation's line with the bits that it wants of it; null where it has none.
+// The form of an operation's line with the bits that it takes of it; null if it has none.
 export function formOf(line) {
   const [name, ...words] = line.split(" "), numbers = words.map(Number);
   return FORMS.has(name) ? {form: numbers.slice(0, 3), bits: name === "keep-sign" ? SIGN_BIT : numbers[4]} : null;

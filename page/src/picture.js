@@ -1,4 +1,4 @@
-// The picture beside the text: drawn anew at each change, with a pixel and its ray.
+// The picture beside the text: drawn again at each change, with a pixel and its ray.
 import {Trouble, ask, latest} from "./ask.js";
 import {css, greys, hue} from "./palette.js";
 import {rove} from "./rove.js";
@@ -29,7 +29,7 @@ export class Picture {
     rove(at("image"), "button", true);
   }
 
-  // Whether what is shown is of the text that stands.
+  // Whether what is shown is of the text in the editor.
   get isFresh() { return this.drawnText !== null && this.drawnText === this.text; }
 
   // The text is another one, after keys or in another tab: it is drawn, unless that is under way.
@@ -75,7 +75,7 @@ export class Picture {
     return said;
   }
 
-  // What stands over the parts that are not of the text.
+  // What is shown over the parts that are not of the text.
   refusalWords({note, line}, part) {
     const go = made("button", "", line ? `Go to line ${line}` : "Go to the text");
     go.addEventListener("click", () => this.onGo(line));

@@ -36,7 +36,7 @@ class OnePixel {
     const own = ["solid own 0 0 0", ...sorted], numbers = [solid.near, ...solid.fronts.map(each => each.number), ...solid.backs.map(each => each.number)];
     const first = this.shown(own, "own");
     if (!first.face) return null;
-    // (the first cell behind it that is not its own)
+    // (the first cell after it that is not its own)
     const end = this.shown([...own, "solid rest 0 0 0", `front 0 0 ${first.depth * this.cell}`], "(rest - own)");
     return {run: [first.depth, end.depth], faces: [numbers[first.face - 1], end.face ? numbers[end.face - 1] : 0]};
   }

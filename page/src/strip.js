@@ -54,7 +54,7 @@ export class Strip {
     return {pass, clock, canvas, button};
   }
 
-  // The small pictures, one behind the other; the last one first, as it says most.
+  // The small pictures, one after the other; the last one first, as it says most.
   async fill(text) {
     const order = [...this.thumbs.slice(-1), ...this.thumbs.slice(0, -1)];
     for (const each of order) {

@@ -1,5 +1,5 @@
 // The wall: every plane of the array at once, each as a small image, and both keys as colours, depths and faces. What the last move
-// changed is framed, and only that is drawn anew.
+// changed is framed, and only that is drawn again.
 import {made, put} from "./show.js";
 
 const CAPTION = 13, LEAST = 33, GAP = 4, COARSE = 64;
@@ -7,7 +7,7 @@ const CAPTION = 13, LEAST = 33, GAP = 4, COARSE = 64;
 const GROUPS = ["", "key B", "key T", "rest"];
 
 export class Wall {
-  // `onChoose` is called with the name of a view, and whether it is to stand beside the one that is shown.
+  // `onChoose` is called with the name of a view, and whether it is shown beside the large one.
   constructor(root, onChoose) {
     Object.assign(this, {root, onChoose, tiles: [], of: null, shown: null, now: 0});
     root.addEventListener("keydown", event => this.key(event));
