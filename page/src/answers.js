@@ -76,13 +76,16 @@ function state(text, words) {
 // A small picture of key B after a clock: of some of its pixels the colours of their faces, at most so many in a row.
 function thumb(text, words) {
   const scene = sceneIn(text), most = wholeNumber(words, "most", MOST_SMALL), own = px.state(text, wholeNumber(words, "clock"));
-  const step = Math.ceil(Math.max(scene.width, scene.height) / Math.max(1, most)), [width, height] = [scene.width, scene.height].map(side => Math.ceil(side / step));
-  const faces = own.numbers(0, scene.numberBits), colours = coloursOf(facesOf(scene)), pixels = new Uint32Array(width * height);
-  for (let place = 0; place < pixels.length; place++) {
-    const x = place % width * step, y = Math.floor(place / width) * step;
-    pixels[place] = packed(colours[faces[y * own.width + x]]);
-  }
-  return {width, height, pixels};
+  const faces = own.numbers(0, scene.numberBits), colours = coloursOf(facesOf(scene));
+  return sampled(scene, most, (x, y) => colours[faces[y * own.width + x]]);
+}
+
+// A picture of every so many pixels of one, at most so many a side, where `colour(x, y)` is red, green and blue.
+function sampled({width, height}, most, colour) {
+  const step = Math.ceil(Math.max(width, height) / Math.max(1, most)), [columns, rows] = [width, height].map(side => Math.ceil(side / step));
+  const pixels = Uint32Array.from({length: columns * rows}, (_, place) =>
+    packed(colour(place % columns * step, Math.floor(place / columns) * step)));
+  return {width: columns, height: rows, pixels};
 }
 
 // The life of a pixel: enable after each operation, and the number in key B's face, 0 if the text is a listing.
@@ -141,15 +144,10 @@ async function compare(text, words) {
 // The bytes that the program writes for a command.
 const run = (text, {command}) => ({output: px.run(text, command)});
 
-// The picture of a scene, of every so many pixels, at most so many a side: for the list of scenes.
+// A small picture of a scene, for the list of scenes.
 function small(text, words) {
-  const {width, height, rgb} = px.colour(text), step = Math.ceil(Math.max(width, height) / wholeNumber(words, "most", MOST_SMALL));
-  const size = [width, height].map(side => Math.ceil(side / step)), pixels = new Uint32Array(size[0] * size[1]);
-  for (let place = 0; place < pixels.length; place++) {
-    const from = 3 * (Math.floor(place / size[0]) * step * width + place % size[0] * step);
-    pixels[place] = packed(rgb.subarray(from, from + 3));
-  }
-  return {width: size[0], height: size[1], pixels};
+  const drawn = px.colour(text);
+  return sampled(drawn, wholeNumber(words, "most", MOST_SMALL), (x, y) => drawn.rgb.subarray(3 * (y * drawn.width + x)));
 }
 
 const QUESTIONS = {draw, ray, program: courseIn, state, wave, thumb, life, stop, compare, run, small};

@@ -1,12 +1,9 @@
 // The course of a scene's broadcasts: its operations and passes, at which clock each begins, and where a move leads.
 
-// What a pass is for, by its words: a name, a pattern, and what the legend says.
-export const KINDS = [
-  ["start", /^start|^pass/, "the background"], ["candidate", /^candidate/, "a candidate"],
-  ["against", /^against|^is there/, "it is counted against other faces"], ["merge", /^merge/, "the nearer stays"],
-  ["open", /./, "a solid begins"]];
-
-export const kindOf = words => KINDS.find(([, pattern]) => pattern.test(words))?.[0] ?? "open";
+// The kinds of passes, and what the legend says of each.
+export const KINDS = {start: "the background", candidate: "a candidate", against: "it is counted against other faces", merge: "the nearer stays",
+  open: "a solid begins"};
+const NONE = {said: "", kind: "open", face: 0};
 
 // The operations by name (docs/LISTINGS.md).
 export const NAMES = ["all", "keep-sign", "keep-bit", "keep-at-most", "keep-less", "set-bit", "toggle", "load-linear", "add-linear", "load-const", "copy"];
@@ -37,6 +34,8 @@ export class Course {
     }
     return low - 1;
   }
+
+  pass(number) { return this.passes[number] ?? NONE; }
 
   passAt(clock) { return this.passStarts.findLastIndex(start => start <= clock); }
 

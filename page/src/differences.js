@@ -1,7 +1,7 @@
 // Compares another renderer's map with the picture, pixel by pixel: what differs, in kinds. Why it differs is not said here: that takes the
 // evidence that `pxplanes compare --scene` counts.
 const SAME = ["same depth", "theirs nearer", "theirs farther"];
-const LARGEST = 2 ** 32, MARKS = 65535, FACES = 2 ** 24;
+const LARGEST = 2 ** 32, MARKS = 65535;
 
 // The depths and the faces of a file's rasters; null for what they do not hold.
 export function mapsOf([first, second]) {
@@ -31,14 +31,9 @@ export function kindsOf(scene, ours, theirs, at) {
     if (maps.faces) return `${whose} ${maps.faces[place] === 0 ? "background" : words.get(maps.faces[place]) ?? `face ${maps.faces[place]}`}`;
     return maps.depths[place] === far ? `${whose} background` : null;
   };
-  const said = place => [side("ours", ours, place), side("theirs", theirs, place), SAME[order(place)]].filter(Boolean).join(", ");
   const order = place => theirs.depths[place] < ours.depths[place] ? 1 : theirs.depths[place] > ours.depths[place] ? 2 : 0;
-  const number = (maps, place) => maps.faces ? maps.faces[place] : maps.depths[place] === far ? 0 : 1;
-  const known = new Map(), counts = new Map();
-  const kinds = at.map(place => {
-    const key = (number(ours, place) * FACES + number(theirs, place)) * 4 + order(place);
-    if (!known.has(key)) known.set(key, said(place));
-    const kind = known.get(key);
+  const counts = new Map(), kinds = at.map(place => {
+    const kind = [side("ours", ours, place), side("theirs", theirs, place), SAME[order(place)]].filter(Boolean).join(", ");
     counts.set(kind, (counts.get(kind) ?? 0) + 1);
     return kind;
   });
@@ -74,7 +69,7 @@ export function compared(ours, theirs, tolerance, scene) {
   const differences = differencesOf(ours, theirs, tolerance), {gaps, at} = differences;
   const lines = [`${at.length} of ${gaps.length} pixels differ`], kinds = kindsOf(scene, ours, theirs, at);
   if (!at.length) return {lines, differences, kinds};
-  lines.push("`pxplanes compare --scene` looks for the cause");
+  lines.push("pxplanes compare --scene looks for the cause");
   const [, most] = extentOf(gaps), place = gaps.indexOf(most);
   if (most) lines.push(`greatest difference of depths: ${most}, at ${place % ours.width} ${Math.floor(place / ours.width)}`);
   return {lines, differences, kinds};

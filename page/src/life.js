@@ -1,6 +1,5 @@
 // The whole life of the pixel that is kept: its enable as bars over the passes, what put it out in each, and which faces win there.
 import {ask, latest} from "./ask.js";
-import {kindOf} from "./course.js";
 import {rove} from "./rove.js";
 import {made} from "./show.js";
 
@@ -75,8 +74,8 @@ export class PixelLife {
   }
 
   rowOf({pass, operation, face}) {
-    const {course} = this, [, , words] = course.operations[operation], said = course.passes[pass], clock = course.startOf(operation + 1);
-    const button = made("button", "event" + (face ? " wins" : ""), "", made("i", "chip pass-" + kindOf(said)),
+    const {course} = this, [, , words] = course.operations[operation], {said, kind} = course.pass(pass), clock = course.startOf(operation + 1);
+    const button = made("button", "event" + (face ? " wins" : ""), "", made("i", "chip pass-" + kind),
       made("span", "", face ? `face ${face} wins here` : said.replaceAll("`", "")), made("span", "quiet", face ? "" : `out: not ${words.replaceAll("`", "").replace(/^keep the pixels /, "")}`),
       made("span", "number", String(clock)));
     button.addEventListener("click", () => this.go(clock));

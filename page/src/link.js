@@ -21,12 +21,6 @@ export function read(part) {
   return found;
 }
 
-// The readable part that names a scene of the page and how it is shown.
-export function written(shown) {
-  const letters = Object.entries(LETTERS).filter(([, name]) => shown[name] !== undefined && shown[name] !== null && shown[name] !== "");
-  return letters.map(([letter, name]) => `${letter}=${[shown[name]].flat().map(encodeURIComponent).join(",")}`).join("&");
-}
-
 // The packed part.
 export async function packed(scene) {
   if (new TextEncoder().encode(scene.text).length > MOST) throw new Trouble("a link holds texts of up to 16 KiB: take the page away with this scene");

@@ -1,7 +1,7 @@
 // The machine at any clock of a scene: by a slider, by moves and by play; as images of its planes, and what one pixel holds.
 import {State} from "../library/pxplanes.mjs";
 import {Trouble, ask, latest} from "./ask.js";
-import {Course, KINDS, NAMES, kindOf} from "./course.js";
+import {Course, KINDS, NAMES} from "./course.js";
 import {PixelLife} from "./life.js";
 import {coloursOf} from "./palette.js";
 import {Edges, saidOf} from "./edges.js";
@@ -57,7 +57,7 @@ export class Machine {
       button.addEventListener("click", () => this.stopAt(Number(button.dataset.stop)).catch(tell));
     for (const button of document.querySelectorAll("[data-zoom]"))
       button.addEventListener("click", () => this.zoom(Number(button.dataset.zoom)));
-    for (const [kind, , words] of KINDS)
+    for (const [kind, words] of Object.entries(KINDS))
       at("legend").append(made("span", "", "", made("i", "chip pass-" + kind), words + " "));
     new ResizeObserver(() => { this.strip.drawPasses(); this.life.draw(); this.inside(); }).observe(at("machine"));
     new ResizeObserver(() => { if (this.state) this.arrange(); }).observe(at("stages"));
@@ -197,12 +197,12 @@ export class Machine {
   tellPlace() {
     const {state, course} = this, isDone = state.clock === state.clocks, count = course.operations.length;
     const operation = isDone ? count - 1 : state.operation;
-    const [pass, line, words, first] = course.operations[operation] ?? [0, "", "", 0], said = course.passes[pass] ?? "";
+    const [pass, line, words, first] = course.operations[operation] ?? [0, "", "", 0], {said, kind} = course.pass(pass);
     const end = this.head.layout ? "all is done: key B has the picture" : "all is done";
     const place = isDone ? `${count} operations in ${state.clocks} clocks`
       : `operation ${operation} (of 0 to ${count - 1}), next its clock ${state.operationClock} (of 0 to ${course.startOf(operation + 1) - first - 1})`;
     const number = made("span", "label", `pass ${pass + 1} of ${course.passes.length}`);
-    at("pass").replaceChildren(made("i", "chip pass-" + kindOf(said)), number, ...worded(said));
+    at("pass").replaceChildren(made("i", "chip pass-" + kind), number, ...worded(said));
     at("operation").replaceChildren(...worded(isDone ? end : words));
     at("line").replaceChildren(made("code", "", isDone ? "" : line), made("span", "quiet", place));
     at("micro").replaceChildren(made("span", "label", "next"), made("code", "", state.micro ?? "nothing"),

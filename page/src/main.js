@@ -14,6 +14,7 @@ import {BOX, List} from "./list.js";
 import {Machine} from "./machine.js";
 import {isPicture} from "./maps.js";
 import {IMAGES, Picture} from "./picture.js";
+import {rove} from "./rove.js";
 import * as server from "./server.js";
 import {Story} from "./story.js";
 import * as take from "./take.js";
@@ -302,7 +303,6 @@ function choose(tab) {
   for (const each of TABS) {
     at(each).hidden = each !== tab;
     at("tab-" + each).setAttribute("aria-selected", String(each === tab));
-    at("tab-" + each).tabIndex = each === tab ? 0 : -1;
   }
   if (tab !== "machine") machine.stop();
   if (tab !== "machine") teach(false);
@@ -423,12 +423,7 @@ async function start() {
 }
 
 TABS.forEach(tab => at("tab-" + tab).addEventListener("click", () => choose(tab)));
-document.querySelector(".tabs").addEventListener("keydown", event => {
-  const way = {ArrowLeft: -1, ArrowRight: 1}[event.key];
-  if (!way) return;
-  choose(TABS[(TABS.indexOf(page.tab) + way + TABS.length) % TABS.length]);
-  at("tab-" + page.tab).focus();
-});
+rove(document.querySelector(".tabs"), "[role=tab]", true);
 at("file").addEventListener("change", () => {
   const file = at("file").files[0];
   if (file) dropped(file).catch(tell).then(() => { at("file").value = ""; });

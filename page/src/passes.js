@@ -68,14 +68,18 @@ class Passes {
   counted(own, where) { return [`against \`${own.solid.name}\`: count ${own.said}`, [...this.passed(own, where), "count it: turn par"]]; }
 }
 
-// Of each operation of a scene's course its pass, its line, its words and its first clock; and the passes' words.
+// What a pass is for, by the step that the library names; all others count a candidate against other faces.
+const KINDS = {start: "start", open: "open", candidate: "candidate", merge: "merge"};
+
+// Of each operation of a scene's course its pass, its line, its words and its first clock; and of each pass its words, its kind and the
+// number of the face that it is about, or 0.
 export function operationsOf(scene, products, course) {
   const passes = new Passes(scene, products), said = [];
   let words = [], first = 0;
   const rows = course.map((operation, at) => {
     if (operation.pass === said.length) {
       const [says, does] = passes.of(operation);
-      said.push(says);
+      said.push({said: says, kind: KINDS[operation.role] ?? "against", face: operation.face});
       [words, first] = [[ALL, ...does], at];
     }
     return [operation.pass, String(operation), words[at - first], operation.clock];
@@ -90,7 +94,7 @@ export function operationsOfListing(course) {
     if (operation.kind === "all" && at) pass += 1;
     return [pass, String(operation), spoken(operation.kind, operation.numbers), operation.clock];
   });
-  return [rows, rows.length ? Array.from({length: pass + 1}, (_, at) => `pass ${at + 1} of the listing`) : []];
+  return [rows, rows.length ? Array.from({length: pass + 1}, (_, at) => ({said: `pass ${at + 1} of the listing`, kind: "start", face: 0})) : []];
 }
 
 // A linear form as one writes it.

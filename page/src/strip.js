@@ -1,6 +1,6 @@
 // The time line: a small picture of key B for each pass, up to forty, the passes in their colours, and what lies under the pointer.
 import {ask, latest} from "./ask.js";
-import {kindOf} from "./course.js";
+import {rove} from "./rove.js";
 import {made, put} from "./show.js";
 
 const at = id => document.getElementById(id);
@@ -9,9 +9,9 @@ const MOST = 40, SMALL = 64, LARGER = 160, GAP = 4;
 export class Strip {
   // `go` is called with a clock.
   constructor(go, tell) {
-    Object.assign(this, {go, tell, text: null, course: null, thumbs: [], picture: null});
-    this.isLit = null;
-    this.onPass = () => {};
+    Object.assign(this, {go, tell, text: null, course: null, thumbs: [], picture: null, lit: 0});
+    // (called with the number of the face that the pass under the pointer is about)
+    this.onFace = () => {};
     this.under = latest((clock, x) => this.previewed(clock, x).catch(tell));
     const line = at("line-of-passes"), clockAt = event => {
       const {left, width} = line.getBoundingClientRect(), share = Math.max(0, Math.min(1, (event.clientX - left) / width));
@@ -28,7 +28,8 @@ export class Strip {
       this.over(clockAt(event), event.clientX);
     });
     for (const element of [line, at("strip")]) element.addEventListener("pointerleave", () => this.left());
-    at("strip").addEventListener("keydown", event => this.key(event));
+    // (arrow keys go from picture to picture, and the machine with them)
+    rove(at("strip"), ".thumb", true);
   }
 
   // Takes another text with its course; `picture` has the size of its picture, and is null for a listing.
@@ -39,17 +40,15 @@ export class Strip {
     this.thumbs = Array.from({length: many}, (_, place) => this.thumb(Math.ceil((place + 1) * count / many) - 1));
     at("strip").replaceChildren(...this.thumbs.map(each => each.button));
     at("strip").hidden = !many;
-    this.focusable(0);
     this.drawPasses();
     this.fill(text).catch(this.tell);
   }
 
   thumb(pass) {
     const clock = this.course.startOfPass(pass + 1), canvas = made("canvas"), button = made("button", "thumb", "", canvas);
-    button.setAttribute("aria-label", `after pass ${pass + 1}, ${this.course.passes[pass].replaceAll("`", "")}: clock ${clock}`);
+    button.setAttribute("aria-label", `after pass ${pass + 1}, ${this.course.pass(pass).said.replaceAll("`", "")}: clock ${clock}`);
     button.addEventListener("click", () => this.go(clock));
     button.addEventListener("pointerenter", event => this.over(clock, event.clientX));
-    button.addEventListener("focus", () => this.focusable(this.thumbs.findIndex(each => each.button === button)));
     Object.assign(canvas, {width: this.picture.width, height: this.picture.height});
     return {pass, clock, canvas, button};
   }
@@ -74,9 +73,9 @@ export class Strip {
   // What lies under the pointer, with the pass that it is in.
   over(clock, x) {
     this.wanted = clock;
-    const pass = this.course.passAt(Math.max(0, clock - 1)), said = this.course.passes[pass] ?? "";
-    at("under-words").replaceChildren(made("i", "chip pass-" + kindOf(said)), `clock ${clock}: ${said.replaceAll("`", "")}`);
-    this.onPass(said);
+    const {said, kind, face} = this.course.pass(this.course.passAt(Math.max(0, clock - 1)));
+    at("under-words").replaceChildren(made("i", "chip pass-" + kind), `clock ${clock}: ${said.replaceAll("`", "")}`);
+    this.onFace(face);
     at("under").hidden = false;
     this.placed(x);
     if (this.picture) this.under(clock, x);
@@ -98,7 +97,7 @@ export class Strip {
 
   left() {
     this.wanted = null;
-    this.onPass("");
+    this.onFace(0);
     at("under").hidden = true;
   }
 
@@ -108,28 +107,9 @@ export class Strip {
     this.thumbs.forEach(({button}, place) => button.classList.toggle("now", place === now));
   }
 
-  focus() { this.thumbs[this.now]?.button.focus(); }
-
-  focusable(place) {
-    this.now = place;
-    this.thumbs.forEach(({button}, each) => { button.tabIndex = each === place ? 0 : -1; });
-  }
-
-  // Arrow keys go from picture to picture, and the machine with them.
-  key(event) {
-    const way = {ArrowLeft: -1, ArrowRight: 1, Home: -this.now, End: this.thumbs.length - 1 - this.now}[event.key];
-    const to = this.thumbs[this.now + way];
-    if (way === undefined || event.ctrlKey || event.altKey || event.metaKey) return;
-    event.preventDefault();
-    event.stopPropagation();
-    if (!to) return;
-    to.button.focus();
-    this.go(to.clock);
-  }
-
-  // Lights the passes whose words are such, or none where it is null.
-  light(isLit) {
-    this.isLit = isLit;
+  // Lights the passes of a face, or none if it is 0.
+  light(face) {
+    this.lit = face;
     this.drawPasses();
   }
 
@@ -143,9 +123,9 @@ export class Strip {
     const scale = canvas.width / Math.max(1, course.clocks);
     course.passStarts.forEach((start, pass) => {
       const wide = (course.startOfPass(pass + 1) - start) * scale;
-      pen.fillStyle = style.getPropertyValue("--pass-" + kindOf(course.passes[pass]));
+      pen.fillStyle = style.getPropertyValue("--pass-" + course.pass(pass).kind);
       pen.fillRect(start * scale, 0, Math.max(1, wide > GAP ? wide - 1 : wide), canvas.height);
-      if (!this.isLit?.(course.passes[pass])) return;
+      if (!this.lit || course.pass(pass).face !== this.lit) return;
       pen.fillStyle = style.getPropertyValue("--ink");
       pen.fillRect(start * scale, 0, Math.max(2, wide), canvas.height / 2);
     });

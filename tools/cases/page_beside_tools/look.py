@@ -45,7 +45,7 @@ TOLD = """async texts => {
     }
     const {operations, passes, trouble} = await studio.ask("program", {}, text);
     if (trouble) throw new Error(trouble);
-    out.push({...own, rows: operations.map(([pass, line, words, clock]) => `${pass} ${clock} ${line}: ${words}`), passes});
+    out.push({...own, rows: operations.map(([pass, line, words, clock]) => `${pass} ${clock} ${line}: ${words}`), passes: passes.map(({said}) => said)});
   }
   return out;
 }""" % [list(each) for each in RAYS]
