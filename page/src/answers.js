@@ -1,6 +1,6 @@
 // What the page asks, answered in a worker by the library.
 import {Refused, load} from "../library/pxplanes.mjs";
-import {compared, fill, mapsOf, marksOf, pictureOf, wordsOf} from "./differences.js";
+import {compared, fill, greatest, mapsOf, marksOf, pictureOf, wordsOf} from "./differences.js";
 import {Bad, rastersOf} from "./maps.js";
 import {coloursOf, packed} from "./palette.js";
 import {operationsOf, operationsOfListing} from "./passes.js";
@@ -127,18 +127,18 @@ function wave(text, words) {
   return {first, last, pixels, micros};
 }
 
-// Another renderer's map compared with the picture, which the page has.
+// Another renderer's map compared with the picture, which the page has, or with a second map.
 async function compare(text, words) {
-  const scene = sceneIn(text), tolerance = wholeNumber(words, "tolerance", scene.far), {width, height} = scene;
-  const ours = words.picture ? {width, height, ...words.picture} : px.render(text);
-  const theirs = mapsOf(await rastersOf(words.map));
-  fill(theirs, scene.far);
-  const {lines, differences, kinds} = compared(ours, theirs, tolerance, scene);
+  const read = async bytes => mapsOf(await rastersOf(bytes)), theirs = await read(words.map);
+  const scene = words.second ? null : sceneIn(text), ours = scene ? words.picture ?? px.render(text) : await read(words.second);
+  const far = scene?.far ?? 1 + Math.max(...[ours, theirs].map(greatest)), tolerance = wholeNumber(words, "tolerance", far);
+  for (const maps of [ours, theirs]) fill(maps, far);
+  const {lines, differences, kinds} = compared(ours, theirs, tolerance, scene?.faces ?? [], far);
   if (!differences) return {lines, groups: []};
   const groups = kinds.sorted.map(([kind, count]) => [count, kind]);
   return {lines, groups: groups.slice(0, MOST_GROUPS), width: ours.width, height: ours.height, rgb: pictureOf(ours, theirs, differences),
     marks: marksOf(differences.gaps.length, differences.at, kinds.kinds, kinds.sorted), depths: wordsOf(theirs.depths),
-    faces: wordsOf(theirs.faces)};
+    faces: wordsOf(theirs.faces), ours: {depths: wordsOf(ours.depths), faces: wordsOf(ours.faces)}};
 }
 
 // The bytes that the program writes for a command.

@@ -8,6 +8,9 @@ export function mapsOf([first, second]) {
   return {width: first.width, height: first.height, depths: first.numbers(), faces: second ? second.numbers() : null};
 }
 
+// The greatest depth that is finite.
+export const greatest = ({depths}) => depths.reduce((most, depth) => depth > most ? depth : most, 0);
+
 // Makes what is not finite the background.
 export function fill(maps, far) { maps.depths = maps.depths.map(depth => Number.isNaN(depth) ? far : depth); }
 
@@ -25,8 +28,8 @@ export function differencesOf(ours, theirs, tolerance) {
 const isOtherFace = (ours, theirs, place) => ours.faces !== null && theirs.faces !== null && ours.faces[place] !== theirs.faces[place];
 
 // Counts the kinds of difference: those of the most pixels first, each with its number of pixels; and of each place its kind.
-export function kindsOf(scene, ours, theirs, at) {
-  const words = new Map(scene.faces.map(({number, solid, kind}) => [number, `${solid} ${kind.split(" ")[0]}`])), {far} = scene;
+export function kindsOf(faces, far, ours, theirs, at) {
+  const words = new Map(faces.map(({number, solid, kind}) => [number, `${solid} ${kind.split(" ")[0]}`]));
   const side = (whose, maps, place) => {
     if (maps.faces) return `${whose} ${maps.faces[place] === 0 ? "background" : words.get(maps.faces[place]) ?? `face ${maps.faces[place]}`}`;
     return maps.depths[place] === far ? `${whose} background` : null;
@@ -62,14 +65,14 @@ export function pictureOf(ours, theirs, {gaps}) {
   return rgb;
 }
 
-// Lines on what differs, and the differences; null if the sizes differ.
-export function compared(ours, theirs, tolerance, scene) {
+// Lines on what differs, and the differences; null if the sizes differ. `faces` are those of the scene, and `far` is the background.
+export function compared(ours, theirs, tolerance, faces, far) {
   if (ours.width !== theirs.width || ours.height !== theirs.height)
     return {lines: [`the sizes differ: ${ours.width} by ${ours.height} and ${theirs.width} by ${theirs.height}`], differences: null};
   const differences = differencesOf(ours, theirs, tolerance), {gaps, at} = differences;
-  const lines = [`${at.length} of ${gaps.length} pixels differ`], kinds = kindsOf(scene, ours, theirs, at);
+  const lines = [`${at.length} of ${gaps.length} pixels differ`], kinds = kindsOf(faces, far, ours, theirs, at);
   if (!at.length) return {lines, differences, kinds};
-  lines.push("pxplanes compare --scene looks for the cause");
+  if (faces.length) lines.push("pxplanes compare --scene looks for the cause");
   const [, most] = extentOf(gaps), place = gaps.indexOf(most);
   if (most) lines.push(`greatest difference of depths: ${most}, at ${place % ours.width} ${Math.floor(place / ours.width)}`);
   return {lines, differences, kinds};

@@ -64,7 +64,8 @@ function changed(isOther) {
     document.title = `${now.name} - pxplanes`;
     at("save").title = `save ${now.file ?? now.name} (Ctrl+S)`;
   }
-  for (const part of PARTS) at(part).classList.add("old");
+  // (two maps that are compared are of no text)
+  for (const part of PARTS) at(part).classList.toggle("old", part !== "compare" || !compare.second);
   // (what is drawn of another text is no longer the machine's to take)
   if (page.stale?.text !== text) page.stale = null;
   newest(text);

@@ -165,6 +165,27 @@ def test_maps_are_dropped_on_compare(page: Browser, name: str) -> None:
     assert page.run("document.querySelector('main').dataset.tab") == "compare"
 
 
+def test_two_maps_are_compared_without_a_scene(page: Browser, tmp_path: Path) -> None:
+    """Of the depths one is greater by 40, and the text is refused meanwhile."""
+    changed = DEPTHS[:100] + [DEPTHS[100] + 40] + DEPTHS[101:]
+    (tmp_path / "one.npy").write_bytes(npy())
+    (tmp_path / "other.pgm").write_bytes(b"P5 48 32 65535\n" + struct.pack(">1536H", *changed))
+    refuse(page)
+    page.run("document.activeElement.blur()")
+    page.press("3")
+    pages.give(page, "#second", str(tmp_path / "other.pgm"))
+    pages.give(page, "#map", str(tmp_path / "one.npy"))
+    assert page.until("document.body.dataset.compared") == "1 of 1536 pixels differ"
+    assert "greatest difference of depths: 40, at 4 2" in text_of(page, "#compare-says")
+    assert not is_pale(page, "compare") and not page.run("document.querySelector('#compare .refusal').checkVisibility()")
+    choose(page, "- shafd)")
+    assert written(page, "- shaft)") == "yes"
+    page.run("delete document.body.dataset.compared")
+    click(page, "#no-second")
+    ours = called(page, "text => studio.library().then(px => [...px.render(text).depths])", source(page))
+    assert page.until("document.body.dataset.compared") == "%d of 1536 pixels differ" % sum(own != other for own, other in zip(ours, DEPTHS))
+
+
 @pytest.mark.parametrize("name, content, said", [
     ("a.tif", b"II*\0" + bytes(60), "TIFF"), ("a.exr", b"\x76\x2f\x31\x01" + bytes(60), "EXR"), ("a.txt", b"1 2 3\n4 5 6\n", "numbers as text"),
     ("a.png", MAPS["depth.png"][:24] + b"\x08\x03" + MAPS["depth.png"][26:], "palette")], ids=["tiff", "exr", "text", "palette"])
