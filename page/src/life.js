@@ -12,7 +12,9 @@ export class PixelLife {
     rove(at("lives"), "button");
     this.fetch = latest(() => this.take().catch(tell));
     at("life").addEventListener("pointerdown", event => {
-      if (this.course) this.go(Math.round(event.offsetX / at("life").clientWidth * this.course.clocks));
+      if (!this.course) return;
+      const [first, last] = this.course.view;
+      this.go(Math.round(first + event.offsetX / at("life").clientWidth * (last - first)));
     });
   }
 
@@ -52,11 +54,12 @@ export class PixelLife {
     const canvas = at("life"), {course, life: {enable}} = this;
     canvas.width = canvas.clientWidth * devicePixelRatio;
     canvas.height = canvas.clientHeight * devicePixelRatio;
-    const pen = canvas.getContext("2d"), style = getComputedStyle(document.documentElement), scale = canvas.width / Math.max(1, course.clocks);
+    const [first, last] = course.view, scale = canvas.width / Math.max(1, last - first);
+    const pen = canvas.getContext("2d"), style = getComputedStyle(document.documentElement);
     pen.fillStyle = style.getPropertyValue("--mark");
     for (let place = 0; place < enable.length; place++) {
       const from = course.startOf(place), until = course.startOf(place + 1);
-      if (enable[place]) pen.fillRect(from * scale, 0, Math.max(.5, (until - from) * scale), canvas.height);
+      if (enable[place]) pen.fillRect((from - first) * scale, 0, Math.max(.5, (until - from) * scale), canvas.height);
     }
     const count = enable.reduce((sum, bit) => sum + bit, 0);
     canvas.setAttribute("aria-label", `enable of pixel ${this.pixel.join(", ")}: 1 after ${count} of ${enable.length - 1} operations`);

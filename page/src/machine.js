@@ -28,6 +28,7 @@ export class Machine {
     this.strip = new Strip(clock => this.go(clock), tell);
     this.wall = new Wall(at("planes"), (name, isBeside) => this.choose(name, isBeside));
     this.life = new PixelLife(clock => this.go(clock), tell);
+    this.strip.onView = () => this.life.draw();
     this.screens = ["array", "array-beside"].map(name => new Screen(at(name), pixel => this.point(pixel), pixel => this.keep(pixel)));
     // Whether the machine's text is the one in the editor, as the page knows it.
     this.isCurrent = () => true;

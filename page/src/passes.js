@@ -72,14 +72,16 @@ class Passes {
 const KINDS = {start: "start", open: "open", candidate: "candidate", merge: "merge"};
 
 // Of each operation of a scene's course its pass, its line, its words and its first clock; and of each pass its words, its kind and the
-// number of the face that it is about, or 0.
+// number of the face that it is about, or 0; the number of its literal, and that literal's solid.
 export function operationsOf(scene, products, course) {
   const passes = new Passes(scene, products), said = [];
   let words = [], first = 0;
   const rows = course.map((operation, at) => {
     if (operation.pass === said.length) {
       const [says, does] = passes.of(operation);
-      said.push({said: says, kind: KINDS[operation.role] ?? "against", face: operation.face});
+      const {literal} = passes.literals[operation.literal - 1] ?? {}, solid = literal ? passes.solidOf(literal) : null;
+      said.push({said: says, kind: KINDS[operation.role] ?? "against", face: operation.face, literal: operation.literal,
+        solid: solid && {name: solid.name, colour: solid.colour}});
       [words, first] = [[ALL, ...does], at];
     }
     return [operation.pass, String(operation), words[at - first], operation.clock];
@@ -94,7 +96,7 @@ export function operationsOfListing(course) {
     if (operation.kind === "all" && at) pass += 1;
     return [pass, String(operation), spoken(operation.kind, operation.numbers), operation.clock];
   });
-  return [rows, rows.length ? Array.from({length: pass + 1}, (_, at) => ({said: `pass ${at + 1} of the listing`, kind: "start", face: 0})) : []];
+  return [rows, rows.length ? Array.from({length: pass + 1}, (_, at) => ({said: `pass ${at + 1} of the listing`, kind: "start", face: 0, literal: 0, solid: null})) : []];
 }
 
 // A linear form as one writes it.
