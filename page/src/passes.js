@@ -70,6 +70,8 @@ class Passes {
 
 // What a pass is for, by the step that the library names; all others count a candidate against other faces.
 const KINDS = {start: "start", open: "open", candidate: "candidate", merge: "merge"};
+// The steps that make a face a candidate, or count it.
+const OF_A_FACE = ["candidate", "front", "turn"];
 
 // Of each operation of a scene's course its pass, its line, its words and its first clock; and of each pass its words, its kind and the
 // number of the face that it is about, or 0; the number of its literal, and that literal's solid.
@@ -80,7 +82,7 @@ export function operationsOf(scene, products, course) {
     if (operation.pass === said.length) {
       const [says, does] = passes.of(operation);
       const {literal} = passes.literals[operation.literal - 1] ?? {}, solid = literal ? passes.solidOf(literal) : null;
-      said.push({said: says, kind: KINDS[operation.role] ?? "against", face: operation.face, literal: operation.literal,
+      said.push({said: says, kind: KINDS[operation.role] ?? "against", face: OF_A_FACE.includes(operation.role) ? operation.face : 0, literal: operation.literal,
         solid: solid && {name: solid.name, colour: solid.colour}});
       [words, first] = [[ALL, ...does], at];
     }
