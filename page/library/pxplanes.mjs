@@ -4,10 +4,11 @@
 //     const px = await load();
 //     px.render(text).depths                  // a number a pixel, rows from the top
 //
-// A text is a string or bytes. What is not accepted is thrown as `Refused`. docs/LIBRARY.md has each call.
+// A text is a string or bytes. A text that the library does not accept is thrown as `Refused`, an argument of a wrong kind as `TypeError`,
+// and one out of its range as `RangeError`. docs/LIBRARY.md has each call.
 
 const STATUS = {ok: 0, usage: 2, malformed: 3, limit: 4, memory: 7, room: 8, clock: 9, grid: 10, micro: 11, operation: 12};
-const FOUND = 56, STATE = 64, WORD = 16, MICRO = 8, OPERATION = 88, ROOM = 1 << 21;
+const FOUND = 56, STATE = 64, WORD = 16, MICRO = 8, OPERATION = 88, ROOM = 1 << 21, MOST_SIDE = 512, MOST_BITS = 53;
 // A module with one instruction on vectors of 128 bits.
 const VECTORS = Uint8Array.of(0, 97, 115, 109, 1, 0, 0, 0, 1, 5, 1, 96, 0, 1, 123, 3, 2, 1, 0, 10, 10, 1, 8, 0, 65, 0, 253, 15, 253, 98, 11);
 const ACTS = ["", "nop", "enable-all", "enable-carry", "enable-tree", "enable-bit", "set-carry", "fetch", "store-tree", "store-latch",
@@ -21,6 +22,7 @@ const LATEST = 1000, KEPT_BYTES = 1 << 27, NEAR = 24, STRETCH = 4096;
 
 // Why a text is refused, or a call not answered: `status` is the program's, `line` the first bad line, `cause` or `kind` the word of
 // why, `number` what was found there, and `clocks` or `operations` how many there are, where one past the last was asked.
+// A number is a BigInt if a Number cannot hold it exactly.
 export class Refused extends Error {
   constructor(message, status, {line = 0, cause = "", kind = "", number = 0, clocks = 0, operations = 0} = {}) {
     super(message);
@@ -35,28 +37,69 @@ export function lacking() {
     : "WebAssembly has no SIMD here; Safari 16.4, Chromium 91, Firefox 90 and Node 16.4, or newer, have it";
 }
 
-// The library, of the bytes of pxplanes.wasm, of a module compiled of them, or of the file beside this one.
-export async function load(source) {
+// The library, of the bytes of pxplanes.wasm, a module compiled of them, a response with them, their address, or a promise of one of
+// these; without it, of the file pxplanes.wasm beside this one.
+export async function load(source = new URL("./pxplanes.wasm", import.meta.url)) {
   const why = lacking();
   if (why) throw new Error(why);
-  const module = source instanceof WebAssembly.Module ? source : await WebAssembly.compile(source ?? await beside());
-  return new Library(await WebAssembly.instantiate(module, {}));
+  const {exports} = await WebAssembly.instantiate(await moduleOf(await source), {});
+  if (!exports.pxplanes_render) throw new TypeError("the module is not the library of pxplanes");
+  return new Library(exports);
 }
 
-async function beside() {
-  const place = new URL("./pxplanes.wasm", import.meta.url);
-  if (place.protocol === "file:" && typeof process === "object") return (await import("node:fs/promises")).readFile(place);
-  const answer = await fetch(place);
-  if (!answer.ok) throw new Error(`there is no ${place}`);
-  return answer.arrayBuffer();
+async function moduleOf(source) {
+  if (source instanceof WebAssembly.Module) return source;
+  if (isBuffer(source) || ArrayBuffer.isView(source)) return WebAssembly.compile(source);
+  const isAddress = typeof source === "string" || source instanceof URL;
+  if (!isAddress && typeof source?.arrayBuffer !== "function")
+    throw new TypeError(`the source is ${kindOf(source)}; the bytes of pxplanes.wasm, a module, a response or an address is expected`);
+  const answer = isAddress ? await fetch(source) : source;
+  if (answer.ok === false) throw new Error(`there is no ${answer.url || source}`);
+  return WebAssembly.compile(await answer.arrayBuffer());
 }
 
-const bytesOf = text => typeof text === "string" ? new TextEncoder().encode(text) : text;
+// What a value is, in words.
+function kindOf(value) {
+  if (["number", "bigint", "boolean", "undefined"].includes(typeof value) || value === null) return String(value);
+  return `of type ${arrayKind(value) ?? (typeof value === "object" ? Object.prototype.toString.call(value).slice(8, -1) : typeof value)}`;
+}
+
+// The name of a typed array's kind, whatever the array says of itself; undefined for another value.
+const ARRAY_KIND = Object.getOwnPropertyDescriptor(Object.getPrototypeOf(Uint8Array.prototype), Symbol.toStringTag).get;
+const arrayKind = value => ARRAY_KIND.call(value);
+
+const isBuffer = value => ["[object ArrayBuffer]", "[object SharedArrayBuffer]"].includes(Object.prototype.toString.call(value));
+
+// The bytes of a text, as they are now.
+function bytesOf(text, name = "text") {
+  if (typeof text === "string") return new TextEncoder().encode(text);
+  if (isBuffer(text)) return new Uint8Array(text).slice();
+  if (["Uint8Array", "Uint8ClampedArray", "Int8Array"].includes(arrayKind(text))) return new Uint8Array(text);
+  throw new TypeError(`${name} is ${kindOf(text)}; a string, an ArrayBuffer or a Uint8Array is expected`);
+}
+
+// The elements of an array of a kind, as they are now.
+function copyOf(Kind, value, name) {
+  if (arrayKind(value) !== Kind.name) throw new TypeError(`${name} is ${kindOf(value)}; a ${Kind.name} is expected`);
+  return new Kind(value);
+}
+
+// A whole number from 0 to `most`, given as a Number or a BigInt.
+function whole(value, name, most = Number.MAX_SAFE_INTEGER) {
+  if (typeof value !== "number" && typeof value !== "bigint") throw new TypeError(`${name} is ${kindOf(value)}; a whole number is expected`);
+  const number = Number(value);
+  if (!Number.isSafeInteger(number) || number < 0 || number > most)
+    throw new RangeError(`${name} is ${value}; a whole number from 0 to ${most} is expected`);
+  return number;
+}
+
+// A Number, or a BigInt where that alone is exact.
+const exact = number => Number.isSafeInteger(Number(number)) ? Number(number) : number;
 
 export class Library {
   #calls;
 
-  constructor(instance) { this.#calls = instance.exports; }
+  constructor(calls) { this.#calls = calls; }
 
   get Refused() { return Refused; }
 
@@ -79,15 +122,15 @@ export class Library {
 
   // The depth and the face number of each pixel.
   render(text) {
-    const {width, height} = this.check(text), size = 4 * width * height;
-    return this.#ask("render", text, [[size, 4], [size, 4]], ({operations, clocks}, [depths, faces]) =>
+    const bytes = bytesOf(text), {width, height} = this.check(bytes), size = 4 * width * height;
+    return this.#ask("render", bytes, [[size, 4], [size, 4]], ({operations, clocks}, [depths, faces]) =>
       ({width, height, depths: this.#copy(Uint32Array, depths, size), faces: this.#copy(Uint32Array, faces, size), operations, clocks}));
   }
 
   // Red, green and blue of each pixel.
   colour(text) {
-    const {width, height} = this.check(text), size = 3 * width * height;
-    return this.#ask("colour", text, [[size, 1]], (found, [rgb]) => ({width, height, rgb: this.#copy(Uint8Array, rgb, size)}));
+    const bytes = bytesOf(text), {width, height} = this.check(bytes), size = 3 * width * height;
+    return this.#ask("colour", bytes, [[size, 1]], (found, [rgb]) => ({width, height, rgb: this.#copy(Uint8Array, rgb, size)}));
   }
 
   // The products that are drawn, each a list of solid numbers from 1 on, below 0 where a solid is taken away.
@@ -101,13 +144,15 @@ export class Library {
 
   // The machine after so many clocks of a scene or of a listing.
   state(text, clock) {
+    const made = whole(clock, "clock");
     return this.#roomy(count => this.#with([STATE], ([state]) => this.#ask("state", text, [[8 * count, 8]],
-      (found, [room]) => new State(this.#fields(state), this.#copy(Uint32Array, room, 8 * count)), [clock], [state])));
+      (found, [room]) => new State(this.#fields(state), this.#copy(Uint32Array, room, 8 * count)), [made], [state])));
   }
 
   // The microinstructions of so many clocks, from `first` on, as the library packs them.
   packed(text, first, count) {
-    return this.#ask("micros", text, [[MICRO * count, MICRO]], (found, [room]) => this.#copy(BigUint64Array, room, MICRO * count), [first]);
+    const begin = whole(first, "first"), size = MICRO * whole(count, "count", Number.MAX_SAFE_INTEGER / MICRO);
+    return this.#ask("micros", text, [[size, MICRO]], (found, [room]) => this.#copy(BigUint64Array, room, size), [begin]);
   }
 
   micros(text, first, count) { return Array.from(this.packed(text, first, count), word => new Micro(word)); }
@@ -117,16 +162,16 @@ export class Library {
 
   // The operations of a scene or of a listing, so many from `first` on, or all from there; each with what it is for.
   course(text, first = 0, count = null) {
-    const due = count ?? Math.max(0, this.counts(text).operations - first), size = OPERATION * due;
-    return this.#ask("course", text, [[size, OPERATION]], (found, [room]) => {
-      const view = new DataView(this.#calls.memory.buffer, room, size);
-      return Array.from({length: due}, (_, at) => new Operation(view, OPERATION * at));
-    }, [first]);
+    const begin = whole(first, "first"), all = count === null ? Math.max(0, this.counts(text).operations - begin) : whole(count, "count", Number.MAX_SAFE_INTEGER / OPERATION);
+    return this.#ask("course", text, [[OPERATION * all, OPERATION]], (found, [room]) => {
+      const view = new DataView(this.#calls.memory.buffer, room, OPERATION * all);
+      return Array.from({length: all}, (_, at) => new Operation(view, OPERATION * at));
+    }, [begin]);
   }
 
   // The bytes that the program writes for a command's words, as "tile 600 400", with the text as its standard input.
   run(text, words = "render") {
-    const bytes = bytesOf(text), asked = bytesOf(words);
+    const bytes = bytesOf(text), asked = bytesOf(words, "words");
     for (let room = ROOM; ;) {
       const {status, told, output} = this.#with([bytes.length, asked.length, room, FOUND], ([text, words, out, found]) => {
         this.#put(text, bytes);
@@ -141,14 +186,17 @@ export class Library {
     }
   }
 
-  // The words of the state behind some packed microinstructions, of a state or of what has its words, width and height.
-  clocks({words, width, height}, packed) {
-    const {pxplanes_clocks: call} = this.#calls, half = words.byteLength / 8;
+  // The words of the state after some packed microinstructions, of a state or of what has its words, width and height.
+  clocks(state, packed) {
+    if (state === null || typeof state !== "object") throw new TypeError(`state is ${kindOf(state)}; a State is expected`);
+    const {pxplanes_clocks: call} = this.#calls, words = copyOf(Uint32Array, state.words, "state.words"), half = Math.floor(words.length / 2);
+    const width = whole(state.width, "state.width", MOST_SIDE), height = whole(state.height, "state.height", MOST_SIDE);
+    const given = copyOf(BigUint64Array, packed, "packed");
     if (!call) throw new Error("this module makes no clocks of a state");
-    return this.#with([words.byteLength, packed.byteLength, FOUND], ([room, micros, found]) => {
+    return this.#with([words.byteLength, given.byteLength, FOUND], ([room, micros, found]) => {
       this.#put(room, words);
-      this.#put(micros, packed);
-      const status = call(BigInt(room), BigInt(half), width, height, BigInt(micros), BigInt(packed.length), BigInt(found));
+      this.#put(micros, given);
+      const status = call(BigInt(room), BigInt(half), width, height, BigInt(micros), BigInt(given.length), BigInt(found));
       if (status !== STATUS.ok) throw this.#refusal(status, this.#found(found));
       return this.#copy(Uint32Array, room, words.byteLength);
     });
@@ -209,7 +257,7 @@ export class Library {
     const view = new DataView(this.#calls.memory.buffer, place, FOUND), word = at => view.getUint32(at, true);
     const long = at => Number(view.getBigUint64(at, true));
     return {width: word(0), height: word(4), faces: word(8), line: word(12), cause: word(16), kind: word(20),
-      number: Number(view.getBigInt64(24, true)), digits: String(view.getBigInt64(24, true)), operations: long(32), clocks: long(40), room: long(48)};
+      number: exact(view.getBigInt64(24, true)), operations: long(32), clocks: long(40), room: long(48)};
   }
 
   #fields(place) {
@@ -220,8 +268,7 @@ export class Library {
   }
 
   #refusal(status, found) {
-    // (a number of a text may have more digits than one of JavaScript holds)
-    const {line, number, digits, operations, clocks, room} = found;
+    const {line, number, operations, clocks, room} = found;
     const word = (call, at) => this.#with([WORD], ([place]) => this.#letters(place, Number(call(at, BigInt(place), BigInt(WORD)))));
     if (status === STATUS.malformed) {
       const cause = word(this.#calls.pxplanes_cause_name, found.cause);
@@ -229,14 +276,14 @@ export class Library {
     }
     if (status === STATUS.limit) {
       const kind = word(this.#calls.pxplanes_kind_name, found.kind);
-      return new Refused(`limit line ${line}: ${kind} ${digits}`, status, {line, kind, number});
+      return new Refused(`limit line ${line}: ${kind} ${number}`, status, {line, kind, number});
     }
     if (status === STATUS.usage) return new Refused("the words name no command", status);
     if (status === STATUS.clock) return new Refused(`there are ${clocks} clocks`, status, {clocks});
     if (status === STATUS.operation) return new Refused(`there are ${operations} operations`, status, {operations});
     if (status === STATUS.grid) return new Refused("a grid has not so many columns or rows", status);
     if (status === STATUS.micro) return new Refused(`element ${number} is no microinstruction`, status, {number});
-    if (status === STATUS.room) return new Refused(`${room} elements are due`, status, {number: room});
+    if (status === STATUS.room) return new Refused(`${room} elements are needed`, status, {number: room});
     return new Refused(status === STATUS.memory ? "out of memory" : `status ${status}`, status, {number});
   }
 }
@@ -245,6 +292,7 @@ export class Library {
 // tree does, and the bits of the lines a, b, c. `String` of it is as the debugger's trace writes it.
 export class Micro {
   constructor(word) {
+    if (typeof word !== "bigint") throw new TypeError(`the word of a microinstruction is ${kindOf(word)}; a BigInt is expected`);
     const low = Number(word & 0xffffffffn), high = Number(word >> 32n), act = high & 255, lines = high >> 24;
     Object.assign(this, {act: ACTS[act], place: low, value: high >> 8 & 1, tree: TREES[high >> 16 & 3],
       lines: [lines & 1, lines >> 1 & 1, lines >> 2 & 1], hasPlace: HAVE_A_PLACE.has(act), hasValue: HAVE_A_VALUE.has(act)});
@@ -260,7 +308,7 @@ export class Micro {
 // `String` of it is its line in a listing.
 export class Operation {
   constructor(view, at) {
-    const long = place => Number(view.getBigInt64(at + place, true)), word = place => view.getUint32(at + place, true);
+    const long = place => exact(view.getBigInt64(at + place, true)), word = place => view.getUint32(at + place, true);
     Object.assign(this, {kind: KINDS[word(64) - 1], numbers: Array.from({length: word(68)}, (_, which) => long(8 * which)),
       clock: long(40), pass: long(48), literal: long(56), role: ROLES[word(72)], solid: word(76), face: word(80), other: word(84)});
   }
@@ -279,29 +327,47 @@ export class State {
     this.perPlane = this.perRow * this.height;
   }
 
-  // The plane of a memory bit, or of a register, by its number.
-  planeOf(which) { return REGISTERS.includes(which) ? this.bits + REGISTERS.indexOf(which) : Number(which); }
+  // The plane of a memory bit, or of a register: by its name, or as the bit after those of the memory.
+  planeOf(which) {
+    if (REGISTERS.includes(which)) return this.bits + REGISTERS.indexOf(which);
+    return whole(which, "the plane", this.bits + REGISTERS.length - 1);
+  }
 
-  bit(which, x, y) { return this.words[this.planeOf(which) * this.perPlane + y * this.perRow + (x >> 5)] >>> (x & 31) & 1; }
+  #needPixel(x, y) {
+    const {width, height} = this, column = whole(x, "x"), row = whole(y, "y");
+    if (column >= width || row >= height) throw new RangeError(`pixel ${x}, ${y} is outside of ${width} by ${height}`);
+    return [column, row];
+  }
+
+  #needField(at, length) {
+    const first = whole(at, "the first bit"), count = whole(length, "the length", MOST_BITS);
+    if (first + count > this.bits) throw new RangeError(`the bits ${first} to ${first + count - 1} are outside of 0 to ${this.bits - 1}`);
+    return [first, count];
+  }
+
+  #bit(plane, x, y) { return this.words[plane * this.perPlane + y * this.perRow + (x >> 5)] >>> (x & 31) & 1; }
+
+  bit(which, x, y) { return this.#bit(this.planeOf(which), ...this.#needPixel(x, y)); }
 
   // All that a pixel holds.
   pixel(x, y) {
-    const [enable, carry, latch, leaf] = REGISTERS.map(name => this.bit(name, x, y));
-    return {memory: Array.from({length: this.bits}, (_, at) => this.bit(at, x, y)).join(""), enable, carry, latch, leaf};
+    const pixel = this.#needPixel(x, y), [enable, carry, latch, leaf] = REGISTERS.map(name => this.#bit(this.planeOf(name), ...pixel));
+    return {memory: Array.from({length: this.bits}, (_, at) => this.#bit(at, ...pixel)).join(""), enable, carry, latch, leaf};
   }
 
   // The number in a field of the pixel at x, y: so many bits from one on, the lowest first.
   number(at, length, x, y) {
+    const [first, count] = this.#needField(at, length), pixel = this.#needPixel(x, y);
     let number = 0;
-    for (let bit = length - 1; bit >= 0; bit--) number = 2 * number + this.bit(at + bit, x, y);
+    for (let bit = count - 1; bit >= 0; bit--) number = 2 * number + this.#bit(first + bit, ...pixel);
     return number;
   }
 
   // The numbers in a field of all pixels, row by row.
   numbers(at, length) {
-    const {width, height, perRow, perPlane, words} = this, found = new Float64Array(width * height);
-    for (let bit = 0; bit < length; bit++) {
-      const weight = 2 ** bit, plane = (at + bit) * perPlane;
+    const {width, height, perRow, perPlane, words} = this, [first, count] = this.#needField(at, length), found = new Float64Array(width * height);
+    for (let bit = 0; bit < count; bit++) {
+      const weight = 2 ** bit, plane = (first + bit) * perPlane;
       for (let y = 0; y < height; y++) {
         for (let column = 0; column < width; column += 32) {
           let word = words[plane + y * perRow + (column >> 5)];
@@ -314,7 +380,8 @@ export class State {
 
   // Output and carry of a node of the tree: levels from 1 on, a level's nodes from 0 on.
   node(level, index) {
-    const place = 2 ** level + index, wide = 2 * Math.ceil(2 ** (this.levels + 1) / 64), first = this.words.length - 2 * wide;
+    if (!whole(level, "level", this.levels)) throw new RangeError("level is 0; the first level of the tree is 1");
+    const place = 2 ** level + whole(index, "index", 2 ** level - 1), wide = 2 * Math.ceil(2 ** (this.levels + 1) / 64), first = this.words.length - 2 * wide;
     return [0, 1].map(row => this.words[first + row * wide + (place >> 5)] >>> (place & 31) & 1);
   }
 }
@@ -323,6 +390,8 @@ export class State {
 // of each operation, and the library makes clocks of a state, a state is made of one that is kept a few clocks before it.
 export class Machine {
   constructor(library, text, starts = null) {
+    const isRising = Array.isArray(starts) && starts.every((clock, at) => Number.isSafeInteger(clock) && (at ? clock > starts[at - 1] : clock === 0));
+    if (starts !== null && !isRising) throw new TypeError("starts is no array of the clocks at which the operations begin, from 0 on and rising");
     Object.assign(this, {library, text, starts, kept: new Map(), packed: [0, new BigUint64Array(0)]});
     this.first = library.state(text, 0);
     this.clocks = this.first.clocks;
@@ -331,37 +400,42 @@ export class Machine {
     this.#keep(this.first);
   }
 
-  state(clock) { return this.#keep(this.kept.get(clock) ?? this.#found(clock)); }
+  state(clock) {
+    const made = whole(clock, "clock");
+    return this.#keep(this.kept.get(made) ?? this.#found(made));
+  }
 
   // The microinstructions of so many clocks, from `first` on.
   micros(first, count) { return Array.from(this.#broadcast(first, count), word => new Micro(word)); }
 
   // What is broadcast in so many clocks from one on, packed; the last stretch is kept.
-  #broadcast(first, count) {
-    const [from, words] = this.packed;
+  #broadcast(begin, length) {
+    const [from, words] = this.packed, first = whole(begin, "first"), count = whole(length, "count");
+    if (first + count > this.clocks) throw new RangeError(`there are ${this.clocks} clocks, and none from ${first} to ${first + count - 1}`);
     if (first < from || first + count > from + words.length) {
-      const start = Math.max(0, first - STRETCH), length = Math.min(this.clocks - start, first - start + Math.max(STRETCH, count));
-      this.packed = [start, this.library.packed(this.text, start, length)];
+      const start = Math.max(0, first - STRETCH), stretch = Math.min(this.clocks - start, first - start + Math.max(STRETCH, count));
+      this.packed = [start, this.library.packed(this.text, start, stretch)];
     }
     return this.packed[1].subarray(first - this.packed[0], first - this.packed[0] + count);
   }
 
   // Makes the states before a clock, as many as are near, so that going back finds them.
   prepare(clock) {
+    whole(clock, "clock", this.clocks);
     if (!this.canStep || clock < NEAR || this.kept.has(clock - 1)) return;
     let known = this.#keep(this.library.state(this.text, clock - NEAR));
-    while (known.clock + 1 < clock) known = this.#keep(this.#behind(known, known.clock + 1));
+    while (known.clock + 1 < clock) known = this.#keep(this.#after(known, known.clock + 1));
   }
 
   // Goes on from a state that is near.
   #found(clock) {
     if (this.canStep && clock <= this.clocks)
       for (let near = clock - 1; near >= Math.max(0, clock - NEAR); near--)
-        if (this.kept.has(near)) return this.#behind(this.kept.get(near), clock);
+        if (this.kept.has(near)) return this.#after(this.kept.get(near), clock);
     return this.library.state(this.text, clock);
   }
 
-  #behind(known, clock) {
+  #after(known, clock) {
     const words = this.library.clocks(known, this.#broadcast(known.clock, clock - known.clock)), isEnd = clock === this.clocks;
     const operation = isEnd ? this.starts.length : this.#operationAt(clock);
     return new State({...this.first, clock, operation, operationClock: isEnd ? 0 : clock - this.starts[operation],
@@ -377,7 +451,7 @@ export class Machine {
     return low - 1;
   }
 
-  // Keeps a state, and forgets the one that was wanted longest ago.
+  // Keeps a state, and forgets the one that was used longest ago.
   #keep(state) {
     this.kept.delete(state.clock);
     this.kept.set(state.clock, state);

@@ -1,15 +1,15 @@
-// What the page asks, answered in a worker by the library; and of a scene's text what the page reads in it by itself.
+// What the page asks, answered in a worker by the library.
 import {Refused, load} from "../library/pxplanes.mjs";
-import {cureOf} from "./cures.js";
-import {compared, fill, mapsOf, marksOf, pictureOf, wordsOf} from "./differences.js";
-import {hintsOf, rayOf} from "./looks.js";
+import {compared, fill, greatest, mapsOf, marksOf, pictureOf, wordsOf} from "./differences.js";
 import {Bad, rastersOf} from "./maps.js";
 import {coloursOf, packed} from "./palette.js";
 import {operationsOf, operationsOfListing} from "./passes.js";
+import {rayOf} from "./ray.js";
+import {refusalOf} from "./refusals.js";
 import {Life} from "./replay.js";
-import {OF_PRODUCTS, Refusal, bytesOf, cutLines, lettersOf, needMemory, readScene} from "./scene.js";
+import {readScene} from "./scene.js";
 
-const MOST_CLOCKS = 64, MOST_SMALL = 256, MOST_GROUPS = 200, FIRST = 8, MALFORMED = 3, LIMIT = 4, NO_CLOCK = 9, IDLE = 200;
+const MOST_CLOCKS = 64, MOST_SMALL = 256, MOST_GROUPS = 200, MALFORMED = 3, LIMIT = 4, NO_CLOCK = 9, IDLE = 200;
 // `idle` makes ready what may be asked next, where nothing is asked for a moment; `lived` is the pixel whose life was asked last.
 let px = null, idle = null, lived = null;
 
@@ -19,8 +19,8 @@ function kept(make) {
   return text => known?.text === text ? known.value : (known = {text, value: make(text)}).value;
 }
 
-const lettersIn = kept(text => lettersOf(new TextEncoder().encode(text)));
-const sceneIn = kept(text => readScene(lettersIn(text)));
+// (`check` throws where the library refuses the text)
+const sceneIn = kept(text => px.check(text) && readScene(text));
 const courseIn = kept(courseOf);
 const machineIn = kept(text => px.machine(text, courseIn(text).operations.map(([, , , clock]) => clock)));
 
@@ -34,8 +34,7 @@ function wholeNumber(words, name, most = Number.MAX_SAFE_INTEGER) {
 }
 
 // Number, solid, kind and which, colour and line of each face.
-const facesOf = scene => scene.faces().map(([number, solid, kind, which, colour, line]) =>
-  [number, solid.name, which === null ? kind : `${kind} ${which}`, colour, line]);
+const facesOf = scene => scene.faces.map(({number, solid, kind, colour, line}) => [number, solid, kind, colour, line]);
 
 // The picture of a scene: its depths, faces and colours; of a listing what it is alone.
 function draw(text) {
@@ -49,18 +48,15 @@ function draw(text) {
     const colour = colours[drawn.faces[place]];
     rgb[to] = colour[0]; rgb[to + 1] = colour[1]; rgb[to + 2] = colour[2];
   }
-  return {kind: "scene", width: drawn.width, height: drawn.height, far: scene.far(), operations: drawn.operations, clocks: drawn.clocks,
-    layout: {depth: scene.depthBits, fraction: scene.fractionBits, face: scene.numberBits()}, facesOf: faces,
+  return {kind: "scene", width: drawn.width, height: drawn.height, far: scene.far, operations: drawn.operations, clocks: drawn.clocks,
+    layout: {depth: scene.depthBits, fraction: scene.fractionBits, face: scene.numberBits}, facesOf: faces,
     depths: drawn.depths, faces: drawn.faces, rgb};
 }
-
-// What is likely wrong with an accepted scene, and what is worth a look.
-const hints = (text, {faces}) => ({hints: hintsOf(sceneIn(text), faces)});
 
 // The ray of a pixel: what is seen, and where it is inside each solid.
 function ray(text, words) {
   const scene = sceneIn(text);
-  return rayOf(scene, wholeNumber(words, "x", scene.width - 1), wholeNumber(words, "y", scene.height - 1));
+  return rayOf(px, scene, wholeNumber(words, "x", scene.width - 1), wholeNumber(words, "y", scene.height - 1));
 }
 
 // The operations of a scene or a listing: of each its pass, its line, its words and its first clock; and the passes.
@@ -77,21 +73,24 @@ function state(text, words) {
   return {...fields, micro: next && String(next)};
 }
 
-// A small picture of key B behind a clock: of some of its pixels the colours of their faces, at most so many in a row.
+// A small picture of key B after a clock: of some of its pixels the colours of their faces, at most so many in a row.
 function thumb(text, words) {
   const scene = sceneIn(text), most = wholeNumber(words, "most", MOST_SMALL), own = px.state(text, wholeNumber(words, "clock"));
-  const step = Math.ceil(Math.max(scene.width, scene.height) / Math.max(1, most)), [width, height] = [scene.width, scene.height].map(side => Math.ceil(side / step));
-  const faces = own.numbers(0, scene.numberBits()), colours = coloursOf(facesOf(scene)), pixels = new Uint32Array(width * height);
-  for (let place = 0; place < pixels.length; place++) {
-    const x = place % width * step, y = Math.floor(place / width) * step;
-    pixels[place] = packed(colours[faces[y * own.width + x]]);
-  }
-  return {width, height, pixels};
+  const faces = own.numbers(0, scene.numberBits), colours = coloursOf(facesOf(scene));
+  return sampled(scene, most, (x, y) => colours[faces[y * own.width + x]]);
 }
 
-// The life of a pixel: enable behind each operation, and the number in key B's face, 0 where the text is a listing.
+// A picture of every so many pixels of one, at most so many a side, where `colour(x, y)` is red, green and blue.
+function sampled({width, height}, most, colour) {
+  const step = Math.ceil(Math.max(width, height) / Math.max(1, most)), [columns, rows] = [width, height].map(side => Math.ceil(side / step));
+  const pixels = Uint32Array.from({length: columns * rows}, (_, place) =>
+    packed(colour(place % columns * step, Math.floor(place / columns) * step)));
+  return {width: columns, height: rows, pixels};
+}
+
+// The life of a pixel: enable after each operation, and the number in key B's face, 0 if the text is a listing.
 function life(text, words) {
-  const own = lifeIn(text, words), bits = isListing(text) ? 0 : sceneIn(text).numberBits(), faces = new Uint16Array(own.enable.length);
+  const own = lifeIn(text, words), bits = isListing(text) ? 0 : sceneIn(text).numberBits, faces = new Uint16Array(own.enable.length);
   for (let place = 0; place < faces.length; place++) for (let bit = 0; bit < bits; bit++) faces[place] |= own.at(place, bit) << bit;
   return {enable: own.enable, faces};
 }
@@ -102,11 +101,11 @@ function lifeIn(text, words) {
   return lived.life;
 }
 
-// The next clock, or the last one before, behind which a pixel's enable, a bit of its memory or the face in its key B is another one.
+// The next clock, or the last one before, after which a pixel's enable, a bit of its memory or the face in its key B is another one.
 function stop(text, words) {
   const own = lifeIn(text, words), {operations, clocks} = courseIn(text), now = wholeNumber(words, "clock", clocks), way = words.back ? -1 : 1;
   const what = {enable: () => "enable", bit: () => [wholeNumber(words, "bit", machineIn(text).first.bits - 1), 1],
-    face: () => [0, isListing(text) ? 0 : sceneIn(text).numberBits()]}[words.what]();
+    face: () => [0, isListing(text) ? 0 : sceneIn(text).numberBits]}[words.what]();
   const endOf = operation => operations[operation + 1]?.[3] ?? clocks;
   let operation = operations.findLastIndex(([, , , start]) => start <= now);
   for (; operation >= 0 && operation < operations.length; operation += way) {
@@ -128,78 +127,33 @@ function wave(text, words) {
   return {first, last, pixels, micros};
 }
 
-// Another renderer's map beside the picture, which whoever has it gives.
+// Another renderer's map compared with the picture, which the page has, or with a second map.
 async function compare(text, words) {
-  const scene = sceneIn(text), tolerance = wholeNumber(words, "tolerance", scene.far()), {width, height} = scene;
-  const ours = words.picture ? {width, height, ...words.picture} : px.render(text);
-  const theirs = mapsOf(await rastersOf(words.map, [width, height]));
-  fill(theirs, scene.far());
-  const {lines, differences, kinds} = compared(ours, theirs, tolerance, FIRST, scene);
+  const read = async bytes => mapsOf(await rastersOf(bytes)), theirs = await read(words.map);
+  const scene = words.second ? null : sceneIn(text), ours = scene ? words.picture ?? px.render(text) : await read(words.second);
+  const far = scene?.far ?? 1 + Math.max(...[ours, theirs].map(greatest)), tolerance = wholeNumber(words, "tolerance", far);
+  for (const maps of [ours, theirs]) fill(maps, far);
+  const {lines, differences, kinds} = compared(ours, theirs, tolerance, scene?.faces ?? [], far);
   if (!differences) return {lines, groups: []};
   const groups = kinds.sorted.map(([kind, count]) => [count, kind]);
   return {lines, groups: groups.slice(0, MOST_GROUPS), width: ours.width, height: ours.height, rgb: pictureOf(ours, theirs, differences),
     marks: marksOf(differences.gaps.length, differences.at, kinds.kinds, kinds.sorted), depths: wordsOf(theirs.depths),
-    faces: wordsOf(theirs.faces)};
+    faces: wordsOf(theirs.faces), ours: {depths: wordsOf(ours.depths), faces: wordsOf(ours.faces)}};
 }
 
 // The bytes that the program writes for a command.
 const run = (text, {command}) => ({output: px.run(text, command)});
 
-// The picture of a scene, of every so many pixels, at most so many a side: for the list of scenes.
+// A small picture of a scene, for the list of scenes.
 function small(text, words) {
-  const {width, height, rgb} = px.colour(text), step = Math.ceil(Math.max(width, height) / wholeNumber(words, "most", MOST_SMALL));
-  const size = [width, height].map(side => Math.ceil(side / step)), pixels = new Uint32Array(size[0] * size[1]);
-  for (let place = 0; place < pixels.length; place++) {
-    const from = 3 * (Math.floor(place / size[0]) * step * width + place % size[0] * step);
-    pixels[place] = packed(rgb.subarray(from, from + 3));
-  }
-  return {width: size[0], height: size[1], pixels};
+  const drawn = px.colour(text);
+  return sampled(drawn, wholeNumber(words, "most", MOST_SMALL), (x, y) => drawn.rgb.subarray(3 * (y * drawn.width + x)));
 }
 
-// What the page tells of a refusal: the program's note and, where its own reading knows more, the place and the cure.
-function refused(text, {message, line, kind}) {
-  const head = {note: message, line, span: null, due: null, limit: null, cure: null};
-  if (isListing(text)) return head;
-  const known = kind === "products" ? new Refusal(message, null, null, ...OF_PRODUCTS) : ownRefusal(text);
-  if (known?.note !== message) return head;
-  const {due, limit} = known, span = known.span && columnsOf(cutLines(lettersIn(text))[line - 1], known.span);
-  const cure = cureOf(lettersIn(text), known) ?? known.cure;
-  return {...head, due, limit, span, cure, fix: fixOf(text, line, span, cure)};
-}
+const QUESTIONS = {draw, ray, program: courseIn, state, wave, thumb, life, stop, compare, run, small};
 
-// The change that a cure says: the words of the row in whose place others are to stand. It is given only where the library then refuses
-// no line up to this one.
-function fixOf(text, line, span, cure) {
-  const said = /(?:^|: )write ([^\s,;]+(?: [^\s,;]+)*)(?:[,;]|$)/.exec(cure ?? ""), row = text.split("\n")[line - 1];
-  if (!said || row === undefined) return null;
-  const isWhole = said[1].includes(" "), code = row.split("#")[0].trimEnd();
-  const columns = isWhole ? [0, code.length] : span, words = isWhole ? row.match(/^\s*/)[0] + said[1] : said[1];
-  if (!columns) return null;
-  const lines = text.split("\n");
-  lines[line - 1] = row.slice(0, columns[0]) + words + row.slice(columns[1]);
-  try {
-    px.check(lines.join("\n"));
-  } catch (error) {
-    if (!(error instanceof Refused) || error.line <= line) return null;
-  }
-  return {row: line - 1, columns, words};
-}
-
-function ownRefusal(text) {
-  try {
-    needMemory(sceneIn(text));
-    return null;
-  } catch (error) {
-    return error;
-  }
-}
-
-// The columns of some bytes of a line.
-function columnsOf(line, span) {
-  return span.map(at => new TextDecoder("utf-8", {ignoreBOM: true}).decode(bytesOf(line.slice(0, at))).length + Math.max(0, at - line.length));
-}
-
-const QUESTIONS = {draw, hints, ray, program: courseIn, state, wave, thumb, life, stop, compare, run, small};
+// What the page says of a refusal; of a listing only the program's note.
+const refused = (text, error) => isListing(text) ? {note: error.message, line: error.line, span: null, says: "", fix: null} : refusalOf(px, text, error);
 
 async function answered({name, words, text}) {
   try {
@@ -207,7 +161,6 @@ async function answered({name, words, text}) {
   } catch (error) {
     if (error instanceof Refused && [MALFORMED, LIMIT].includes(error.status)) return {refused: refused(text, error)};
     if (error instanceof Refused && error.status === NO_CLOCK) return {trouble: `there is no such clock: ${error.message}`, clocks: error.clocks};
-    if (error instanceof Refusal) return {trouble: error.note};
     if (error instanceof Bad || error instanceof Refused) return {trouble: error.message};
     throw error;
   }

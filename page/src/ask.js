@@ -3,11 +3,11 @@
 import {lacking} from "../library/pxplanes.mjs";
 import {code, library} from "./given.js";
 
-const PATIENCE = 200, LANE = {draw: "draw", hints: "slow", compare: "slow", thumb: "small", small: "list", run: "slow", life: "life", stop: "life"};
+const PATIENCE = 200, LANE = {draw: "draw", compare: "slow", thumb: "small", small: "list", run: "slow", life: "life", stop: "life"};
 
 export class Trouble extends Error {}
 
-// Nobody wants the answer any more.
+// Nobody needs the answer any more.
 export class Dropped extends Error {}
 
 class Lane {

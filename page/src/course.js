@@ -1,12 +1,9 @@
 // The course of a scene's broadcasts: its operations and passes, at which clock each begins, and where a move leads.
 
-// What a pass is for, by its words: a name, a pattern, and what the legend says.
-export const KINDS = [
-  ["start", /^start|^pass/, "the background"], ["candidate", /^candidate/, "a candidate"],
-  ["against", /^against|^is there/, "it is counted against other faces"], ["merge", /^merge/, "the nearer stays"],
-  ["open", /./, "a solid begins"]];
-
-export const kindOf = words => KINDS.find(([, pattern]) => pattern.test(words))?.[0] ?? "open";
+// The kinds of passes, and what the legend says of each.
+export const KINDS = {start: "the background", candidate: "a candidate", against: "it is counted against other faces", merge: "the nearer stays",
+  open: "a solid begins"};
+const NONE = {said: "", kind: "open", face: 0, literal: 0, solid: null}, LEAST = 32;
 
 // The operations by name (docs/LISTINGS.md).
 export const NAMES = ["all", "keep-sign", "keep-bit", "keep-at-most", "keep-less", "set-bit", "toggle", "load-linear", "add-linear", "load-const", "copy"];
@@ -26,9 +23,28 @@ export class Course {
   constructor({operations, passes, clocks}) {
     Object.assign(this, {operations, passes, clocks, passStarts: []});
     for (const [pass, , , clock] of operations) if (this.passStarts.length === pass) this.passStarts.push(clock);
+    // The stretch of clocks that the time line shows.
+    this.view = [0, clocks];
   }
 
-  // The operation under way behind so many clocks: the last that begins there or before.
+  // Shows so many times as many clocks, with a clock where it was.
+  zoom(clock, times) {
+    const [from, to] = this.view, wide = Math.min(this.clocks, Math.max(LEAST, (to - from) * times));
+    this.turn(clock - (clock - from) * wide / Math.max(1, to - from), wide);
+  }
+
+  turn(from, wide) {
+    const first = Math.max(0, Math.min(this.clocks - wide, from));
+    this.view = [first, first + wide];
+  }
+
+  // Turns the time line to a clock that it does not show.
+  reveal(clock) {
+    const [from, to] = this.view;
+    if (clock < from || clock > to) this.turn(clock - (to - from) / 2, to - from);
+  }
+
+  // The operation under way after so many clocks: the last that begins there or before.
   operationAt(clock) {
     let low = 0, high = this.operations.length;
     while (low < high) {
@@ -37,6 +53,8 @@ export class Course {
     }
     return low - 1;
   }
+
+  pass(number) { return this.passes[number] ?? NONE; }
 
   passAt(clock) { return this.passStarts.findLastIndex(start => start <= clock); }
 

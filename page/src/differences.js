@@ -1,21 +1,18 @@
 // Compares another renderer's map with the picture, pixel by pixel: what differs, in kinds. Why it differs is not said here: that takes the
 // evidence that `pxplanes compare --scene` counts.
 const SAME = ["same depth", "theirs nearer", "theirs farther"];
-const LARGEST = 2 ** 32, MARKS = 65535, FACES = 2 ** 24;
+const LARGEST = 2 ** 32, MARKS = 65535;
 
-// The depths and the faces of a file's rasters, `times` as great; null for what they do not hold.
-export function mapsOf(rasters, times = 1) {
-  const [first, second] = rasters;
-  return {width: first.width, height: first.height, first, depths: first.numbers(times), faces: second ? second.numbers() : null};
+// The depths and the faces of a file's rasters; null for what they do not hold.
+export function mapsOf([first, second]) {
+  return {width: first.width, height: first.height, depths: first.numbers(), faces: second ? second.numbers() : null};
 }
+
+// The greatest depth that is finite.
+export const greatest = ({depths}) => depths.reduce((most, depth) => depth > most ? depth : most, 0);
 
 // Makes what is not finite the background.
 export function fill(maps, far) { maps.depths = maps.depths.map(depth => Number.isNaN(depth) ? far : depth); }
-
-const namesOf = scene => new Map(scene.faces().map(([number, solid, kind, which]) =>
-  [number, `${solid.name} ${kind}${which === null ? "" : ` ${which}`}`]));
-
-const named = (face, names) => face === 0 ? "0 (background)" : `${face} (${names.get(face) ?? "no face of the scene"})`;
 
 // What differs at each pixel: the gaps of depths past the tolerance, whether faces do, and the places where one of both does.
 export function differencesOf(ours, theirs, tolerance) {
@@ -31,37 +28,20 @@ export function differencesOf(ours, theirs, tolerance) {
 const isOtherFace = (ours, theirs, place) => ours.faces !== null && theirs.faces !== null && ours.faces[place] !== theirs.faces[place];
 
 // Counts the kinds of difference: those of the most pixels first, each with its number of pixels; and of each place its kind.
-export function kindsOf(scene, ours, theirs, at) {
-  const words = new Map(scene.faces().map(([number, solid, kind]) => [number, `${solid.name} ${kind}`])), far = scene.far();
+export function kindsOf(faces, far, ours, theirs, at) {
+  const words = new Map(faces.map(({number, solid, kind}) => [number, `${solid} ${kind.split(" ")[0]}`]));
   const side = (whose, maps, place) => {
     if (maps.faces) return `${whose} ${maps.faces[place] === 0 ? "background" : words.get(maps.faces[place]) ?? `face ${maps.faces[place]}`}`;
     return maps.depths[place] === far ? `${whose} background` : null;
   };
-  const said = place => [side("ours", ours, place), side("theirs", theirs, place), SAME[order(place)]].filter(Boolean).join(", ");
   const order = place => theirs.depths[place] < ours.depths[place] ? 1 : theirs.depths[place] > ours.depths[place] ? 2 : 0;
-  const number = (maps, place) => maps.faces ? maps.faces[place] : maps.depths[place] === far ? 0 : 1;
-  const known = new Map(), counts = new Map();
-  const kinds = at.map(place => {
-    const key = (number(ours, place) * FACES + number(theirs, place)) * 4 + order(place);
-    if (!known.has(key)) known.set(key, said(place));
-    const kind = known.get(key);
+  const counts = new Map(), kinds = at.map(place => {
+    const kind = [side("ours", ours, place), side("theirs", theirs, place), SAME[order(place)]].filter(Boolean).join(", ");
     counts.set(kind, (counts.get(kind) ?? 0) + 1);
     return kind;
   });
   const sorted = [...counts].sort(([one, few], [other, many]) => many - few || (one < other ? -1 : 1));
   return {sorted, kinds};
-}
-
-function kindLines(sorted, most) {
-  const lines = sorted.map(([kind, count]) => `  ${count} pixel${count === 1 ? "" : "s"}: ${kind}`), more = lines.length - most;
-  return more > 0 ? [...lines.slice(0, most), `  and ${more} more kind${more === 1 ? "" : "s"}`] : lines;
-}
-
-function told(place, ours, theirs, names) {
-  const parts = [`depths ${ours.depths[place]} and ${theirs.depths[place]}`];
-  if (ours.faces && theirs.faces) parts.push(`faces ${named(ours.faces[place], names)} and ${named(theirs.faces[place], names)}`);
-  else parts.push(`our face ${named(ours.faces[place], names)}`);
-  return `  at ${place % ours.width} ${Math.floor(place / ours.width)}: ${parts.join(", ")}`;
 }
 
 function extentOf(numbers) {
@@ -85,19 +65,17 @@ export function pictureOf(ours, theirs, {gaps}) {
   return rgb;
 }
 
-// Lines on what differs, and the differences; null if the sizes differ.
-export function compared(ours, theirs, tolerance, first, scene) {
+// Lines on what differs, and the differences; null if the sizes differ. `faces` are those of the scene, and `far` is the background.
+export function compared(ours, theirs, tolerance, faces, far) {
   if (ours.width !== theirs.width || ours.height !== theirs.height)
     return {lines: [`the sizes differ: ${ours.width} by ${ours.height} and ${theirs.width} by ${theirs.height}`], differences: null};
   const differences = differencesOf(ours, theirs, tolerance), {gaps, at} = differences;
-  const lines = [`${at.length} of ${gaps.length} pixels differ`], kinds = kindsOf(scene, ours, theirs, at);
+  const lines = [`${at.length} of ${gaps.length} pixels differ`], kinds = kindsOf(faces, far, ours, theirs, at);
   if (!at.length) return {lines, differences, kinds};
-  lines.push("`pxplanes compare --scene` looks for the cause");
+  if (faces.length) lines.push("pxplanes compare --scene looks for the cause");
   const [, most] = extentOf(gaps), place = gaps.indexOf(most);
   if (most) lines.push(`greatest difference of depths: ${most}, at ${place % ours.width} ${Math.floor(place / ours.width)}`);
-  if (at.length > 1) lines.push(...kindLines(kinds.sorted, first));
-  const names = namesOf(scene);
-  return {lines: [...lines, ...at.slice(0, first).map(each => told(each, ours, theirs, names))], differences, kinds};
+  return {lines, differences, kinds};
 }
 
 // Numbers of two and of four bytes, as the page keeps them.

@@ -1,7 +1,7 @@
 // Drafts: what was written and is not saved, kept by the browser. Every page that is open keeps its own, under a number of its own, and
 // holds a lock of that number while it is open: so a page gives back the drafts of pages that are gone, and touches no other's.
 
-const KEPT = "pxplanes kept ", PAGE = "pxplanes page", OLDER = "pxplanes draft ";
+const KEPT = "pxplanes kept ", PAGE = "pxplanes page";
 let own = "";
 
 function stored(call) {
@@ -48,10 +48,8 @@ export async function begin() {
   await numbered();
   const others = await open();
   return stored(store => Object.keys(store).flatMap(key => {
-    // (an older page kept drafts by their names alone)
-    const [number, name] = /^pxplanes kept (\d+) (.*)$/s.exec(key)?.slice(1) ?? [null, key.startsWith(OLDER) ? key.slice(OLDER.length) : null];
-    const isFree = name !== null && (number === null || number === own || others !== null && !others.has(number));
-    if (!isFree) return [];
+    const [number, name] = /^pxplanes kept (\d+) (.*)$/s.exec(key)?.slice(1) ?? [];
+    if (number === undefined || number !== own && (others === null || others.has(number))) return [];
     const {base, text} = JSON.parse(store.getItem(key));
     store.removeItem(key);
     store.setItem(keyOf(free(store, name)), JSON.stringify({base, text}));

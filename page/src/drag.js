@@ -16,7 +16,7 @@ export function numberAt(line, column) {
 }
 
 export class Drag {
-  // `isFree` tells whether the text that stands is drawn or refused; `screen` is the image that the lines of a solid lie over.
+  // `isFree` says whether the text is drawn or refused; `screen` is the image that the lines of a solid lie over.
   constructor(editor, screen, isFree) {
     Object.assign(this, {editor, screen, isFree, place: null, wanted: null, lines: drawn("svg", {class: "handles"})});
     this.grip = editor.root.appendChild(made("div", "grip", "\u2194"));
@@ -40,7 +40,7 @@ export class Drag {
     });
   }
 
-  // Sets the grip behind the number under the pointer, and never under the pointer itself.
+  // Puts the grip after the number under the pointer, and never under the pointer itself.
   over(event) {
     const {code} = this.editor, {line: row, ch, outside} = this.editor.placeOf(event), found = outside ? null : numberAt(code.getLine(row), ch);
     const isOn = found !== null && ch < found[1];
@@ -67,7 +67,7 @@ export class Drag {
     for (const end of ["pointerup", "pointercancel"]) element.addEventListener(end, () => { this.isHeld = false; stop.abort(); }, {signal});
   }
 
-  // A number that begins at a column of a row is to be another one: at once, or when what stands is drawn.
+  // A number that begins at a column of a row is to be another one: at once, or when the text is drawn.
   want(row, column, number) {
     const isWaiting = this.wanted !== null;
     this.wanted = {row, column, number};
@@ -128,7 +128,7 @@ export class Drag {
     const held = drawn("g", {}, drawn("line", {...place, class: "seen"}), drawn("line", {...place, class: "held"}));
     held.addEventListener("pointerdown", event => {
       event.preventDefault();
-      // (the handle itself is drawn anew as it moves)
+      // (the handle itself is drawn again as it moves)
       this.follow(this.lines, event, moved => this.move(plane, moved));
     });
     return held;

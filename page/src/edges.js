@@ -25,7 +25,7 @@ export class Edges {
     screen.whenPlaced.push(() => this.place());
   }
 
-  // Who turns them on or off shows them anew.
+  // After they are turned on or off they must be shown again.
   turn(isOn = !this.isOn) {
     this.isOn = isOn;
     this.screen.margins = isOn ? [ROOM, ROOM] : [0, 0];
@@ -52,7 +52,7 @@ export class Edges {
   }
 }
 
-// Draws an image of bits: `place(x, y)` is a number and which of its bits stands there.
+// Draws an image of bits: `place(x, y)` is a number and which of its bits is there.
 function fill(canvas, width, height, place, now) {
   Object.assign(canvas, {width, height});
   const pixels = new Uint32Array(width * height);

@@ -1,4 +1,4 @@
-// The editor: CodeMirror, with the colours of solids and faces beside their lines, and a mark and a cure at the line that is refused.
+// The editor: CodeMirror, with the colours of solids and faces beside their lines, and a mark and what is wrong at the line that is refused.
 import CodeMirror from "codemirror/lib/codemirror.js";
 import "codemirror/addon/dialog/dialog.js";
 import "codemirror/addon/edit/matchbrackets.js";
@@ -20,6 +20,8 @@ export class Editor {
       mode: "pxplanes", inputStyle: "contenteditable", lineNumbers: true, gutters: [COLOURS, "CodeMirror-linenumbers"], matchBrackets: true,
       screenReaderLabel: "the text of the scene", spellcheck: false, autocorrect: false, autocapitalize: false, undoDepth: 10000,
       hintOptions: {hint: completions, completeSingle: true},
+      // (a no-break space looks like a space, and the library refuses it)
+      specialChars: /[\0-\x1f\x7f-\xa0\xad\u200b-\u200f\u2028\u2029\ufeff]/,
       // (Tab leaves the editor, as it leaves every other field)
       extraKeys: {"Ctrl-Space": "autocomplete", "Tab": false, "Shift-Tab": false, "Esc": () => this.code.getInputField().blur(), "Cmd-S": false, "Ctrl-S": false}
     });
@@ -56,7 +58,7 @@ export class Editor {
 
   focus() { this.code.focus(); }
 
-  // Takes the place of a text; what stood there comes back by undoing.
+  // Replaces a text; the old one comes back by undoing.
   replace(doc, text) {
     doc.setValue(text);
     doc.setCursor(0, 0);
@@ -65,7 +67,7 @@ export class Editor {
   // The line, from 0 on, and the column of the letter under the pointer.
   placeOf({clientX, clientY}) { return this.code.coordsChar({left: clientX - this.code.defaultCharWidth() / 2, top: clientY}, "window"); }
 
-  // Marks the line that a refusal names, or none; the span has the columns of what is wrong there, and `said` stands below the line.
+  // Marks the line that a refusal names, or none; the span has the columns of what is wrong there, and `said` is shown below the line.
   mark(line, span, said = null) {
     this.bad?.();
     this.bad = null;

@@ -7,7 +7,7 @@ const source = document.documentElement.outerHTML, OWN = /(<script type="applica
 
 export const own = JSON.parse(at("own").textContent);
 
-// The bytes of a packed part; they are as they were packed, which their checksum tells, or the page says that it is damaged.
+// The bytes of a packed part; they are as they were packed, as their checksum shows, or the page says that it is damaged.
 async function unpacked(id) {
   if (!globalThis.DecompressionStream) throw new Error("DecompressionStream is not there");
   try {

@@ -1,5 +1,7 @@
 // The keys of the page. They work everywhere but where something is written or chosen.
 
+import {enter} from "./rove.js";
+
 const at = id => document.getElementById(id);
 const MOVES = {
   s: "clock-on", b: "clock-back", ArrowRight: "clock-on", ArrowLeft: "clock-back", m: "operation-on", M: "operation-back", p: "pass-on",
@@ -21,7 +23,7 @@ export function listen(page) {
   for (let number = 1; number <= page.parts; number++) everywhere[number] = () => page.choose(number - 1);
   const inMachine = {
     " ": () => page.machine.play(), u: () => { at("until").focus(); at("until").select(); }, t: page.toggleText,
-    z: () => page.machine.zoom(1), Z: () => page.machine.zoom(-1), n: () => page.stop(1), N: () => page.stop(-1), o: () => { at("stop").focus(); at("stop").select(); }, x: () => page.machine.turnEdges(), l: page.teach, Escape: page.teachNoMore, w: () => page.machine.wall.focus(), k: () => page.machine.strip.focus()};
+    c: () => page.machine.strip.zoom(-1), C: () => page.machine.strip.zoom(1), z: () => page.machine.zoom(1), Z: () => page.machine.zoom(-1), n: () => page.stop(1), N: () => page.stop(-1), o: () => { at("stop").focus(); at("stop").select(); }, x: () => page.machine.turnEdges(), l: page.teach, Escape: page.teachNoMore, w: () => enter(at("planes")), k: () => enter(at("strip"))};
   for (const [key, move] of Object.entries(MOVES)) inMachine[key] = () => page.machine.move(move);
 
   document.addEventListener("keydown", event => {

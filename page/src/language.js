@@ -34,7 +34,7 @@ const isListing = text => /^\s*(#[^\n]*\n\s*)*pxlist\b/.test(text);
 
 const namesIn = text => [...text.matchAll(/^[ \t]*solid[ \t]+(\w+)/gm)].map(match => match[1]);
 
-// What may stand at the cursor and begins as the word there does: the first word of a line, or in an expression the name of a solid.
+// What may be written at the cursor and begins as the word there does: the first word of a line, or in an expression the name of a solid.
 export function completions(editor) {
   const cursor = editor.getCursor(), line = editor.getLine(cursor.line), [word] = /[\w-]*$/.exec(line.slice(0, cursor.ch));
   const before = line.slice(0, cursor.ch - word.length), isFirst = !before.trim(), text = editor.getValue();

@@ -1,6 +1,5 @@
 // The whole life of the pixel that is kept: its enable as bars over the passes, what put it out in each, and which faces win there.
 import {ask, latest} from "./ask.js";
-import {kindOf} from "./course.js";
 import {rove} from "./rove.js";
 import {made} from "./show.js";
 
@@ -13,7 +12,9 @@ export class PixelLife {
     rove(at("lives"), "button");
     this.fetch = latest(() => this.take().catch(tell));
     at("life").addEventListener("pointerdown", event => {
-      if (this.course) this.go(Math.round(event.offsetX / at("life").clientWidth * this.course.clocks));
+      if (!this.course) return;
+      const [first, last] = this.course.view;
+      this.go(Math.round(first + event.offsetX / at("life").clientWidth * (last - first)));
     });
   }
 
@@ -53,11 +54,12 @@ export class PixelLife {
     const canvas = at("life"), {course, life: {enable}} = this;
     canvas.width = canvas.clientWidth * devicePixelRatio;
     canvas.height = canvas.clientHeight * devicePixelRatio;
-    const pen = canvas.getContext("2d"), style = getComputedStyle(document.documentElement), scale = canvas.width / Math.max(1, course.clocks);
+    const [first, last] = course.view, scale = canvas.width / Math.max(1, last - first);
+    const pen = canvas.getContext("2d"), style = getComputedStyle(document.documentElement);
     pen.fillStyle = style.getPropertyValue("--mark");
     for (let place = 0; place < enable.length; place++) {
       const from = course.startOf(place), until = course.startOf(place + 1);
-      if (enable[place]) pen.fillRect(from * scale, 0, Math.max(.5, (until - from) * scale), canvas.height);
+      if (enable[place]) pen.fillRect((from - first) * scale, 0, Math.max(.5, (until - from) * scale), canvas.height);
     }
     const count = enable.reduce((sum, bit) => sum + bit, 0);
     canvas.setAttribute("aria-label", `enable of pixel ${this.pixel.join(", ")}: 1 after ${count} of ${enable.length - 1} operations`);
@@ -75,8 +77,8 @@ export class PixelLife {
   }
 
   rowOf({pass, operation, face}) {
-    const {course} = this, [, , words] = course.operations[operation], said = course.passes[pass], clock = course.startOf(operation + 1);
-    const button = made("button", "event" + (face ? " wins" : ""), "", made("i", "chip pass-" + kindOf(said)),
+    const {course} = this, [, , words] = course.operations[operation], {said, kind} = course.pass(pass), clock = course.startOf(operation + 1);
+    const button = made("button", "event" + (face ? " wins" : ""), "", made("i", "chip pass-" + kind),
       made("span", "", face ? `face ${face} wins here` : said.replaceAll("`", "")), made("span", "quiet", face ? "" : `out: not ${words.replaceAll("`", "").replace(/^keep the pixels /, "")}`),
       made("span", "number", String(clock)));
     button.addEventListener("click", () => this.go(clock));

@@ -5,7 +5,7 @@ import {through} from "./pack.js";
 
 const MOST = 16384, FORM = "deflate-raw";
 
-// The letters of the readable form, and what they stand for.
+// The letters of the readable form, and what they mean.
 const LETTERS = {s: "scene", t: "tab", i: "image", c: "clock", v: "view", b: "beside", p: "pixel", e: "exercise"}, NUMBERS = ["clock", "exercise"];
 
 const whole = word => /^\d{1,15}$/.test(word) ? Number(word) : word;
@@ -19,12 +19,6 @@ export function read(part) {
     found[name] = name === "pixel" ? word.split(",").map(whole) : NUMBERS.includes(name) ? whole(word) : word;
   }
   return found;
-}
-
-// The readable part that names a scene of the page and how it is shown.
-export function written(shown) {
-  const letters = Object.entries(LETTERS).filter(([, name]) => shown[name] !== undefined && shown[name] !== null && shown[name] !== "");
-  return letters.map(([letter, name]) => `${letter}=${[shown[name]].flat().map(encodeURIComponent).join(",")}`).join("&");
 }
 
 // The packed part.

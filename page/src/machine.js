@@ -1,7 +1,7 @@
 // The machine at any clock of a scene: by a slider, by moves and by play; as images of its planes, and what one pixel holds.
 import {State} from "../library/pxplanes.mjs";
 import {Trouble, ask, latest} from "./ask.js";
-import {Course, KINDS, NAMES, kindOf} from "./course.js";
+import {Course, KINDS, NAMES} from "./course.js";
 import {PixelLife} from "./life.js";
 import {coloursOf} from "./palette.js";
 import {Edges, saidOf} from "./edges.js";
@@ -28,8 +28,9 @@ export class Machine {
     this.strip = new Strip(clock => this.go(clock), tell);
     this.wall = new Wall(at("planes"), (name, isBeside) => this.choose(name, isBeside));
     this.life = new PixelLife(clock => this.go(clock), tell);
+    this.strip.onView = () => this.life.draw();
     this.screens = ["array", "array-beside"].map(name => new Screen(at(name), pixel => this.point(pixel), pixel => this.keep(pixel)));
-    // Whether the machine's text is the one that stands, as the page knows it.
+    // Whether the machine's text is the one in the editor, as the page knows it.
     this.isCurrent = () => true;
     // What the page does when another pixel is pointed at, and when another state is shown.
     this.onPoint = this.onShow = () => {};
@@ -57,12 +58,13 @@ export class Machine {
       button.addEventListener("click", () => this.stopAt(Number(button.dataset.stop)).catch(tell));
     for (const button of document.querySelectorAll("[data-zoom]"))
       button.addEventListener("click", () => this.zoom(Number(button.dataset.zoom)));
-    for (const [kind, , words] of KINDS)
+    for (const [kind, words] of Object.entries(KINDS))
       at("legend").append(made("span", "", "", made("i", "chip pass-" + kind), words + " "));
-    new ResizeObserver(() => { this.strip.drawPasses(); this.life.draw(); this.inside(); if (this.state) this.arrange(); }).observe(at("machine"));
+    new ResizeObserver(() => { this.strip.drawPasses(); this.life.draw(); this.inside(); }).observe(at("machine"));
+    new ResizeObserver(() => { if (this.state) this.arrange(); }).observe(at("stages"));
   }
 
-  // Takes another text, at a clock or behind a share of its passes, and where they are said with views and a pixel; where `isPlayed`
+  // Takes another text, at a clock or after a share of its passes, with views and a pixel if they are given; if `isPlayed`
   // says by what, it plays from there.
   async load(text, head, {clock = 0, share, view, beside, pixel, isPlayed}) {
     this.text = text;
@@ -83,7 +85,7 @@ export class Machine {
     if (isPlayed) this.player.begin(isPlayed);
   }
 
-  // Goes to a clock, as who looks on wants it: what plays stops.
+  // Goes to a clock that the user chose: what plays stops.
   go(clock) {
     this.player.stop();
     this.goTo(clock);
@@ -119,7 +121,7 @@ export class Machine {
       : await ask("stop", {what, bit: Number(bit), x: pixel[0], y: pixel[1], clock: now, back: way < 0}, text);
     if (text !== this.text) return;
     if (trouble) throw new Trouble(trouble);
-    if (clock === null) throw new Trouble(`${words.join(" ")}: ${way > 0 ? "nothing of it comes any more" : "nothing of it was before"}`);
+    if (clock === null) throw new Trouble(`${words.join(" ")}: ${way > 0 ? "it does not come again" : "it did not come before"}`);
     this.go(clock);
   }
 
@@ -196,12 +198,12 @@ export class Machine {
   tellPlace() {
     const {state, course} = this, isDone = state.clock === state.clocks, count = course.operations.length;
     const operation = isDone ? count - 1 : state.operation;
-    const [pass, line, words, first] = course.operations[operation] ?? [0, "", "", 0], said = course.passes[pass] ?? "";
+    const [pass, line, words, first] = course.operations[operation] ?? [0, "", "", 0], {said, kind} = course.pass(pass);
     const end = this.head.layout ? "all is done: key B has the picture" : "all is done";
     const place = isDone ? `${count} operations in ${state.clocks} clocks`
       : `operation ${operation} (of 0 to ${count - 1}), next its clock ${state.operationClock} (of 0 to ${course.startOf(operation + 1) - first - 1})`;
     const number = made("span", "label", `pass ${pass + 1} of ${course.passes.length}`);
-    at("pass").replaceChildren(made("i", "chip pass-" + kindOf(said)), number, ...worded(said));
+    at("pass").replaceChildren(made("i", "chip pass-" + kind), number, ...worded(said));
     at("operation").replaceChildren(...worded(isDone ? end : words));
     at("line").replaceChildren(made("code", "", isDone ? "" : line), made("span", "quiet", place));
     at("micro").replaceChildren(made("span", "label", "next"), made("code", "", state.micro ?? "nothing"),
@@ -233,7 +235,7 @@ export class Machine {
     return new State(fields, words);
   }
 
-  // What is shown large, as it stands behind some clocks, picture by picture.
+  // What is shown large, after each of some clocks, picture by picture.
   async pictures(clocks, onEach) {
     const {text, head} = this, view = this.viewNamed(this.view), out = [];
     for (const clock of clocks) {
@@ -276,7 +278,7 @@ export class Machine {
     at("count").textContent = this.onesSaid(this.viewNamed(this.view));
   }
 
-  // Two images stand one above the other where they are larger so.
+  // Two images are one above the other if that makes them larger.
   arrange() {
     const {clientWidth: wide, clientHeight: high} = at("stages"), {width, height} = this.state;
     const scale = (columns, rows) => Math.min(wide / columns / width, high / rows / height);
@@ -319,7 +321,7 @@ export class Machine {
     if (String(this.life.pixel) !== String(pixel)) this.life.show(pixel);
   }
 
-  // What stands beside the array: the pixel, the tree and the waveform.
+  // What is beside the array: the pixel, the tree and the waveform.
   inside() {
     const {state} = this;
     if (!state || at("machine").hidden) return;
@@ -359,7 +361,7 @@ function cut(pixels, wide, {width, height}) {
   return {width, height, pixels: out};
 }
 
-// Words in which names stand between backticks.
+// Words in which names are between backticks.
 function worded(text) {
   const node = (part, number) => number % 2 ? made("b", "solid-name", part) : document.createTextNode(part);
   return text.split("`").map(node);

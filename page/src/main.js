@@ -12,7 +12,9 @@ import {Light} from "./light.js";
 import * as link from "./link.js";
 import {BOX, List} from "./list.js";
 import {Machine} from "./machine.js";
+import {isPicture} from "./maps.js";
 import {IMAGES, Picture} from "./picture.js";
+import {rove} from "./rove.js";
 import * as server from "./server.js";
 import {Story} from "./story.js";
 import * as take from "./take.js";
@@ -21,8 +23,6 @@ import {Texts} from "./texts.js";
 const at = id => document.getElementById(id), main = document.querySelector("main");
 const TABS = ["write", "machine", "compare", "lesson"], PARTS = ["write", "machine", "compare"];
 const MODELS = ["csg", "off", "stl"], TEXTS = ["scene", "listing"];
-// How the files of maps begin that Compare reads (maps.js): Netpbm and PFM, PNG, EXR, TIFF, NPY, and numbers as text.
-const MAPS = /^(P[1-7fF]\s|\x89PNG|\x76\x2f\x31\x01|II\*\0|MM\0\*|\x93NUMPY|\s*[-+.]?\d)/;
 const LARGEST_DROP = 1 << 26, TOLD = 6000, SMALLEST = 12, LARGEST = 30, FIRST = "first", NOTHING = "none";
 // What a page opens by itself, and how it is shown then: in the midst of being drawn, and going on.
 const OPENING = "letters", SIGHT = {view: "best colours", beside: "", isPlayed: "pass", share: 0.55, pixel: [60, 180]};
@@ -55,7 +55,7 @@ machine.onPoint = pixel => light.on(pixel && machine.isShown && machine.head.lay
 machine.onShow = () => light.again();
 picture.onPoint = pixel => light.on(pixel && picture.maps ? picture.maps.faces[pixel[1] * picture.head.width + pixel[0]] : 0);
 
-// The text that stands is another one: what is shown is not of it until it is drawn.
+// The text in the editor is another one: what is shown is not of it until it is drawn.
 function changed(isOther) {
   const {now, text} = texts;
   if (isOther) {
@@ -64,7 +64,8 @@ function changed(isOther) {
     document.title = `${now.name} - pxplanes`;
     at("save").title = `save ${now.file ?? now.name} (Ctrl+S)`;
   }
-  for (const part of PARTS) at(part).classList.add("old");
+  // (two maps that are compared are of no text)
+  for (const part of PARTS) at(part).classList.toggle("old", part !== "compare" || !compare.second);
   // (what is drawn of another text is no longer the machine's to take)
   if (page.stale?.text !== text) page.stale = null;
   newest(text);
@@ -94,7 +95,7 @@ function checkAsked({isMachine, clock = 0, pixel}, {width, height, clocks}) {
   if (pixel && (pixel[0] >= columns || pixel[1] >= rows)) throw new Trouble(`There is no pixel ${pixel.join(", ")} in ${columns} by ${rows}.`);
 }
 
-// Gives the machine the text that stands, where it is shown.
+// Gives the machine the text in the editor, if the machine is shown.
 function freshen() {
   if (page.tab !== "machine" || !page.stale) return;
   const {text, head, ...place} = page.stale;
@@ -128,7 +129,7 @@ async function saveThere(now, text) {
   document.body.dataset.saved = answer.saved;
 }
 
-// Another program wrote the file: what it has now is opened in a tab beside this one, which stays.
+// Another program wrote the file: what it has now opens in another tab, and this one stays.
 function changedThere(now, file, text) {
   texts.addAside(`${now.name} on the disk`, text);
   throw new Trouble(`Another program changed ${file}, so nothing was written. Its text is open as "${now.name} on the disk". If you save again, yours takes its place.`);
@@ -165,7 +166,7 @@ async function dropped(file) {
     return choose("write");
   }
   const bytes = new Uint8Array(await file.arrayBuffer());
-  if (TEXTS.includes(kind) || !MAPS.test(String.fromCharCode(...bytes.subarray(0, 64)))) return open(name, readable(file.name, bytes));
+  if (TEXTS.includes(kind) || !isPicture(bytes)) return open(name, readable(file.name, bytes));
   choose("compare");
   await compare.take(file);
 }
@@ -178,7 +179,7 @@ function readable(name, bytes) {
   }
 }
 
-// The text that stands with what is shown of it.
+// The text in the editor with what is shown of it.
 function shown() {
   const place = page.tab === "machine" ? {clock: machine.wanted, view: machine.view, beside: machine.beside, pixel: machine.pixel} : {pixel: picture.screen.kept};
   return {name: texts.now.name, text: texts.text, tab: page.tab === "lesson" ? "write" : page.tab, image: picture.image, ...place};
@@ -242,7 +243,7 @@ async function copyLink(isFrame) {
   note(server.isServed() ? "The link is copied. It begins with pxplanes.html: write the place of that file before it." : "The link is copied.");
 }
 
-// Nothing is taken away of what is not of the text that stands, but the text itself.
+// Only the text itself is taken away while what is shown is not of it.
 async function takeAway(what) {
   const {name} = texts.now;
   if (what === "scene") return take.away(new Blob([texts.text]), name + ".scene");
@@ -303,7 +304,6 @@ function choose(tab) {
   for (const each of TABS) {
     at(each).hidden = each !== tab;
     at("tab-" + each).setAttribute("aria-selected", String(each === tab));
-    at("tab-" + each).tabIndex = each === tab ? 0 : -1;
   }
   if (tab !== "machine") machine.stop();
   if (tab !== "machine") teach(false);
@@ -424,12 +424,7 @@ async function start() {
 }
 
 TABS.forEach(tab => at("tab-" + tab).addEventListener("click", () => choose(tab)));
-document.querySelector(".tabs").addEventListener("keydown", event => {
-  const way = {ArrowLeft: -1, ArrowRight: 1}[event.key];
-  if (!way) return;
-  choose(TABS[(TABS.indexOf(page.tab) + way + TABS.length) % TABS.length]);
-  at("tab-" + page.tab).focus();
-});
+rove(document.querySelector(".tabs"), "[role=tab]", true);
 at("file").addEventListener("change", () => {
   const file = at("file").files[0];
   if (file) dropped(file).catch(tell).then(() => { at("file").value = ""; });

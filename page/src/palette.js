@@ -4,7 +4,7 @@ export const ON = [255, 255, 255];
 export const OFF = [24, 30, 40];
 const NOTHING = [0, 0, 0];
 
-// A colour for each number from 1 on, far from those beside it; 0 is black.
+// A colour for each number from 1 on, far from those of its neighbours; 0 is black.
 export function hue(number) {
   if (!number) return NOTHING;
   const turn = number * 0.381966 % 1 * 6, part = 1 - Math.abs(turn % 2 - 1);
@@ -23,7 +23,7 @@ export function greys(depths, far) {
   };
 }
 
-// Red, green and blue of each face by its number, of faces as the page is told them; 0 is the background.
+// Red, green and blue of each face by its number, of faces as `draw` answers them; 0 is the background.
 export function coloursOf(faces) {
   const colours = [NOTHING];
   for (const [number, , , colour] of faces) colours[number] = colour;

@@ -1,5 +1,5 @@
 // What the operations of a scene are for, in words: docs/PASSES.md, step by step. Which they are the library says, with the step, the
-// literal and the face of each. tools/lib/passes.py says the same by itself, and of a listing what tools/lib/micros.py says.
+// literal and the face of each.
 
 const SIGN_BIT = 40, FORMS = new Set(["keep-sign", "keep-at-most", "load-linear", "add-linear"]);
 const ALL = "enable every pixel", WITH_CANDIDATE = "keep the pixels with a candidate", UNCOUNTED = "nothing is counted yet: par is 0";
@@ -38,7 +38,7 @@ class Passes {
     return product.map((literal, at) => (literal < 0 ? "- " : at ? "* " : "") + this.solidOf(literal).name).join(" ");
   }
 
-  // What a pass is for, and its operations behind the first, which enables every pixel; `operation` is any of them.
+  // What a pass is for, and its operations after the first, which enables every pixel; `operation` is any of them.
   of(operation) {
     const {role, solid, face: number, other} = operation, own = solid ? facesOf(this.scene.solids[solid - 1]).flat().find(each => each.number === number) : null;
     const {product, at, literal} = this.literals[operation.literal - 1] ?? {}, name = literal && this.solidOf(literal).name;
@@ -68,14 +68,22 @@ class Passes {
   counted(own, where) { return [`against \`${own.solid.name}\`: count ${own.said}`, [...this.passed(own, where), "count it: turn par"]]; }
 }
 
-// Of each operation of a scene's course its pass, its line, its words and its first clock; and the passes' words.
+// What a pass is for, by the step that the library names; all others count a candidate against other faces.
+const KINDS = {start: "start", open: "open", candidate: "candidate", merge: "merge"};
+// The steps that make a face a candidate, or count it.
+const OF_A_FACE = ["candidate", "front", "turn"];
+
+// Of each operation of a scene's course its pass, its line, its words and its first clock; and of each pass its words, its kind and the
+// number of the face that it is about, or 0; the number of its literal, and that literal's solid.
 export function operationsOf(scene, products, course) {
   const passes = new Passes(scene, products), said = [];
   let words = [], first = 0;
   const rows = course.map((operation, at) => {
     if (operation.pass === said.length) {
       const [says, does] = passes.of(operation);
-      said.push(says);
+      const {literal} = passes.literals[operation.literal - 1] ?? {}, solid = literal ? passes.solidOf(literal) : null;
+      said.push({said: says, kind: KINDS[operation.role] ?? "against", face: OF_A_FACE.includes(operation.role) ? operation.face : 0, literal: operation.literal,
+        solid: solid && {name: solid.name, colour: solid.colour}});
       [words, first] = [[ALL, ...does], at];
     }
     return [operation.pass, String(operation), words[at - first], operation.clock];
@@ -90,7 +98,7 @@ export function operationsOfListing(course) {
     if (operation.kind === "all" && at) pass += 1;
     return [pass, String(operation), spoken(operation.kind, operation.numbers), operation.clock];
   });
-  return [rows, rows.length ? Array.from({length: pass + 1}, (_, at) => `pass ${at + 1} of the listing`) : []];
+  return [rows, rows.length ? Array.from({length: pass + 1}, (_, at) => ({said: `pass ${at + 1} of the listing`, kind: "start", face: 0, literal: 0, solid: null})) : []];
 }
 
 // A linear form as one writes it.
@@ -123,7 +131,7 @@ function spoken(name, numbers) {
     "toggle": () => `turn bit ${one}`}[name]();
 }
 
-// The form of an operation's line with the bits that it wants of it; null where it has none.
+// The form of an operation's line with the bits that it takes of it; null if it has none.
 export function formOf(line) {
   const [name, ...words] = line.split(" "), numbers = words.map(Number);
   return FORMS.has(name) ? {form: numbers.slice(0, 3), bits: name === "keep-sign" ? SIGN_BIT : numbers[4]} : null;

@@ -1,11 +1,11 @@
-// The picture beside the text: drawn anew at each change, with a pixel, its ray, and what is likely wrong.
+// The picture beside the text: drawn again at each change, with a pixel and its ray.
 import {Trouble, ask, latest} from "./ask.js";
 import {css, greys, hue} from "./palette.js";
 import {rove} from "./rove.js";
 import {Screen, made, painted} from "./show.js";
 
 const at = id => document.getElementById(id);
-const FEW_MISSED = 4, MOST_NAMED = 12;
+const MOST_NAMED = 12;
 const NO_PIXEL = "Point at a pixel, or click one to keep it.";
 export const IMAGES = ["colours", "depths", "faces"];
 
@@ -29,7 +29,7 @@ export class Picture {
     rove(at("image"), "button", true);
   }
 
-  // Whether what is shown is of the text that stands.
+  // Whether what is shown is of the text in the editor.
   get isFresh() { return this.drawnText !== null && this.drawnText === this.text; }
 
   // The text is another one, after keys or in another tab: it is drawn, unless that is under way.
@@ -52,32 +52,30 @@ export class Picture {
 
   refuse(text, refusal) {
     document.body.classList.toggle("nothing", this.isOther);
-    this.editor.mark(refusal.line, refusal.span, refusal.line ? this.cure(refusal) : null);
+    this.editor.mark(refusal.line, refusal.span, refusal.line ? this.said(refusal) : null);
     document.body.classList.add("refused");
     for (const words of document.querySelectorAll(".refusal")) words.replaceChildren(...this.refusalWords(refusal, words.closest("section")));
     const go = made("button", "note", refusal.note);
     go.disabled = !refusal.line;
     go.addEventListener("click", () => this.editor.go(refusal.line));
-    const lines = [["due", "expected"], ["limit", "limit"], ["cure", "cure"]].filter(([what]) => refusal[what])
-      .map(([what, label]) => made("div", "", "", made("span", "label", label), " " + refusal[what]));
     at("verdict").className = "bad";
-    at("verdict").replaceChildren(go, ...lines);
-    at("hints").replaceChildren();
+    at("verdict").replaceChildren(go, made("div", "", refusal.says), made("div", "quiet", "", made("code", "", "pxplanes explain"), " says more."));
     document.body.dataset.drawn = "refused";
     this.onRefused(text);
   }
 
-  // What stands below the bad line: what is wrong, and the cure as an action where the library found that it helps.
-  cure({due, cure, fix}) {
-    const said = made("div", "cure", "", cure ?? (due ? `expected: ${due}` : ""));
-    if (!fix) return cure || due ? said : null;
-    const button = made("button", "", `Write ${fix.words.trim() || "it"}`);
+  // What is shown below the bad line: what is wrong, and the change as an action if exactly one mends it.
+  said({says, fix}) {
+    if (!says && !fix) return null;
+    const said = made("div", "cure", says);
+    if (!fix) return said;
+    const button = made("button", "", `Write ${fix.words}`);
     button.addEventListener("click", () => this.editor.write(fix.row, fix.columns, fix.words));
     said.prepend(button, " ");
     return said;
   }
 
-  // What stands over the parts that are not of the text.
+  // What is shown over the parts that are not of the text.
   refusalWords({note, line}, part) {
     const go = made("button", "", line ? `Go to line ${line}` : "Go to the text");
     go.addEventListener("click", () => this.onGo(line));
@@ -106,8 +104,6 @@ export class Picture {
     this.paint();
     document.body.dataset.drawn = "yes";
     document.body.dataset.pictureTook = Math.round(took);
-    at("hints").replaceChildren();
-    if (isScene) this.hint(text).catch(this.tell);
     this.onDrawn(text, head, this.maps);
   }
 
@@ -118,7 +114,7 @@ export class Picture {
   }
 
   // What the canvas shows, in words.
-  said() {
+  inWords() {
     const {head, image, maps} = this, shown = maps.faces.reduce((count, face) => count + (face ? 1 : 0), 0);
     const seen = new Set(maps.faces), solids = [...new Set(head.facesOf.filter(([number]) => seen.has(number)).map(([, name]) => name))];
     return `the picture as ${image}, ${head.width} by ${head.height} pixels, ${shown} of them show a solid: ${
@@ -136,16 +132,8 @@ export class Picture {
       faces: place => hue(faces[place])};
     const {width, height} = this.head;
     this.screen.draw(width, height, painted(width, height, paints[this.image]));
-    at("picture").setAttribute("aria-label", this.said());
+    at("picture").setAttribute("aria-label", this.inWords());
     this.point(this.screen.kept);
-  }
-
-  async hint(text) {
-    const head = await ask("hints", {faces: this.maps.faces}, text);
-    if (!head.hints || text !== this.text) return;
-    at("hints").replaceChildren(...head.hints.map(([heading, said]) =>
-      made("li", heading === "likely wrong" ? "likely" : "", "", made("span", "label", heading + ":"), " " + said)));
-    document.body.dataset.hinted = head.hints.length;
   }
 
   // What is seen at a pixel; the ray follows.
@@ -167,26 +155,15 @@ export class Picture {
 
   async rayShown(x, y) {
     const text = this.drawnText, head = await ask("ray", {x, y}, text);
-    if (!head.lines || this.rayOf !== `${x} ${y}` || text !== this.text) return;
+    if (!head.solids || this.rayOf !== `${x} ${y}` || text !== this.text) return;
     const bar = (run, colour) => barOf(run, head.far, colour), cells = run => `${run[0]} to ${run[1] - 1}`;
     const met = head.solids.filter(each => each.run).map(({name, colour, run, ends}) =>
       rowOf(name, [bar(run, colour)], `${cells(run)}: from ${ends[0]}, to ${ends[1]}`));
-    const words = head.shown.map(cells).join(", ") || "nothing: the background";
-    const shown = rowOf("shown", head.shown.map(run => bar(run)), words, "shown");
+    const words = head.shown?.map(cells).join(", ") || "nothing: the background";
+    const shown = head.shown ? rowOf("shown", head.shown.map(run => bar(run)), words, "shown") : made("p", "quiet", "The scene is too large for the rest.");
     const scale = rowOf("", [made("span", "", "the eye, 0"), made("span", "", String(head.far))], "", "scale");
-    at("ray").replaceChildren(scale, ...met, shown, ...this.missed(head.solids.filter(each => !each.run)));
-  }
-
-  // The solids that a ray does not meet, and why; folded where they are many.
-  missed(solids) {
-    if (!solids.length) return [];
-    const count = solids.length === 1 ? "1 solid is" : `${solids.length} solids are`;
-    const summary = made("summary", "", `${count} not met here`);
-    const others = made("details", "", "", summary,
-      ...solids.map(({name, why}) => made("div", "missed", "", made("b", "", name), made("span", "quiet", why))));
-    others.open = this.unfolded ?? solids.length < FEW_MISSED;
-    summary.addEventListener("click", () => { this.unfolded = !others.open; });
-    return [others];
+    const missed = head.solids.filter(each => !each.run).map(({name}) => name);
+    at("ray").replaceChildren(scale, ...met, shown, ...missed.length ? [made("p", "quiet missed", `Not met here: ${missed.join(", ")}.`)] : []);
   }
 }
 

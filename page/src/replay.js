@@ -1,7 +1,7 @@
 // The whole life of one pixel by one replay of the library: on an array of two by two, whose first pixel is made to be that one. A pixel
 // sees nothing of the others, and of the tree only the bits of A*x + B*y + C; so a listing of the same operations, each form with that sum
 // for its C and no slope, makes of the first pixel what the scene makes of the one at x, y (docs/MACHINE.md). Its tree has two levels, and
-// the acts of an operation stand as far before its end as in any array.
+// the acts of an operation are as far before its end as in any array.
 import {formOf} from "./passes.js";
 
 const WORDS = 3, MANY = 1 << 16, HEAD = "pxlist 1\ngrid 1 1\n";
@@ -18,7 +18,7 @@ export class Life {
     this.replayed();
   }
 
-  // Enable behind each operation, and the memory in words of 32 bits, the lowest bits first; at place 0 what stood there before all.
+  // Enable after each operation, and the memory in words of 32 bits, the lowest bits first; at place 0 what was there before all.
   replayed() {
     const count = this.counts.length;
     this.enable = new Uint8Array(count + 1);
@@ -55,7 +55,7 @@ export class Life {
 
   at(place, bit) { return this.memory[WORDS * place + (bit >> 5)] >>> (bit & 31) & 1; }
 
-  // The clock behind which an operation has changed that, wholly, in the array of the scene, where the operation ends at `end`.
+  // The clock after which an operation has changed all of that, in the array of the scene, in which the operation ends at `end`.
   clockOf(operation, what, end) {
     const clocks = this.counts[operation], from = this.places[operation], planes = what === "enable" ? [this.first.bits] : Array.from({length: what[1]}, (_, at) => what[0] + at);
     let state = this.stateAt(operation), last = null;

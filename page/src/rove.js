@@ -1,22 +1,26 @@
 // One tab stop for many buttons: arrow keys go from one to the next, Home and End to the ends.
 
-// `root` holds the buttons that a selector finds, also such as come later; where `isChoice`, the one that gets the focus is chosen too.
+const isChosen = each => [each.getAttribute("aria-checked"), each.getAttribute("aria-selected")].includes("true");
+
+// `root` holds the buttons that a selector finds, also such as come later; if `isChoice`, the one that gets the focus by a key is chosen too.
 export function rove(root, selector, isChoice = false) {
   const all = () => [...root.querySelectorAll(selector)];
   const stop = now => { for (const each of all()) each.tabIndex = each === now ? 0 : -1; };
-  const isChosen = each => each.getAttribute("aria-checked") === "true";
   const first = () => { if (isChoice || all().filter(each => each.tabIndex === 0).length !== 1) stop(all().find(isChosen) ?? all()[0]); };
   root.addEventListener("focusin", event => { if (event.target.matches(selector)) stop(event.target); });
   root.addEventListener("keydown", event => {
     const buttons = all(), place = buttons.indexOf(document.activeElement);
     const to = {ArrowLeft: place - 1, ArrowUp: place - 1, ArrowRight: place + 1, ArrowDown: place + 1, Home: 0, End: buttons.length - 1}[event.key];
-    if (place < 0 || to === undefined || event.ctrlKey || event.altKey || event.metaKey) return;
+    if (place < 0 || to === undefined || event.ctrlKey || event.altKey || event.metaKey || event.defaultPrevented) return;
     event.preventDefault();
     event.stopPropagation();
     const next = buttons[isChoice ? (to + buttons.length) % buttons.length : Math.max(0, Math.min(buttons.length - 1, to))];
     next.focus();
     if (isChoice) next.click();
   });
-  new MutationObserver(first).observe(root, {childList: true, subtree: true, attributeFilter: ["aria-checked"]});
+  new MutationObserver(first).observe(root, {childList: true, subtree: true, attributeFilter: ["aria-checked", "aria-selected"]});
   first();
 }
+
+// Puts the focus on the button that Tab would reach.
+export function enter(root) { root.querySelector("[tabindex='0']")?.focus(); }

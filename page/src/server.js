@@ -7,7 +7,7 @@ const isNear = location.protocol === "http:" && location.hostname === "127.0.0.1
 async function post(name, words, body) {
   const query = new URLSearchParams(words).toString();
   const response = await fetch(name + (query ? "?" + query : ""), {method: "POST", body}).catch(() => {
-    throw new Trouble("the studio does not answer; is it still running?");
+    throw new Trouble("`pxplanes view --serve` does not answer; is it still running?");
   });
   if (!response.ok) throw new Trouble((await response.text()).trim());
   const head = await response.json();
@@ -25,10 +25,10 @@ export async function begin() {
   return isThere ? head : null;
 }
 
-// Whether the page comes from a studio, whose address is for one's own machine alone.
+// Whether the page comes from a studio, whose address works on this machine only.
 export const isServed = () => isThere;
 
-// Saves the text of the file, which had this checksum when it was read; where it has another one, the answer has what stands there.
+// Saves the text of the file, which had this checksum when it was read; if it has another one, the answer is the text in the file.
 export const save = (text, sum) => post("save", {sum}, text);
 
 // The scene of a model's file.

@@ -16,7 +16,7 @@ export class Screen {
     this.inner = null;
     // The scale that was chosen; null where the image is as large as there is room for.
     this.zoom = null;
-    // What is left free beside and above the image, and what is called each time it was placed.
+    // What stays free beside and above the image, and what is called each time it was placed.
     this.margins = [0, 0];
     this.whenPlaced = [];
     [this.mark, this.frame] = ["mark", "frame"].map(name => this.stage.appendChild(made("div", name)));
@@ -84,7 +84,7 @@ export class Screen {
   }
 
   // The next larger scale, or the next smaller one, by whole numbers; what is smaller than all that there is room for is that again.
-  // What stands at x, y of the stage stays there; where they are not said, the pixel that is kept comes to its middle.
+  // What is at x, y of the stage stays there; without them, the pixel that is kept comes to its middle.
   zoomed(way, x = null, y = null) {
     const {stage, scale, canvas} = this, next = way > 0 ? SCALES.find(each => each > scale) : SCALES.findLast(each => each < scale);
     const [before, left, top] = [scale, stage.scrollLeft, stage.scrollTop];
@@ -178,10 +178,10 @@ export function put(canvas, pixels) {
   canvas.getContext("2d").putImageData(new ImageData(new Uint8ClampedArray(pixels.buffer, pixels.byteOffset, 4 * width * height), width, height), 0, 0);
 }
 
-// How large letters are beside the usual size.
+// How large letters are compared with the usual size.
 export const unit = () => parseFloat(getComputedStyle(document.documentElement).fontSize) / 16;
 
-// An element with a class, a text and what stands in it.
+// An element with a class, a text and what is in it.
 export function made(name, kind = "", text = "", ...inside) {
   const element = document.createElement(name);
   if (kind) element.className = kind;

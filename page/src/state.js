@@ -10,7 +10,7 @@ export function onesOf(state, plane) {
   return count;
 }
 
-// Where the parts of a pixel's memory stand (docs/PASSES.md, "Layout"): names, first bits and lengths.
+// Where the parts of a pixel's memory are (docs/PASSES.md, "Layout"): names, first bits and lengths.
 export function fieldsOf(layout) {
   if (!layout) return [];
   const {depth, fraction, face} = layout, key = depth + fraction + face, found = [];

@@ -1,4 +1,4 @@
-// The story that a page tells when it is opened for the first time: six steps, each a state of this page with one thing lit.
+// The story that the page shows when it is opened for the first time: six steps, each a state of this page with one thing lit.
 import {made} from "./show.js";
 
 const at = id => document.getElementById(id);

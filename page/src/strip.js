@@ -1,21 +1,28 @@
 // The time line: a small picture of key B for each pass, up to forty, the passes in their colours, and what lies under the pointer.
 import {ask, latest} from "./ask.js";
-import {kindOf} from "./course.js";
+import {KINDS} from "./course.js";
+import {rove} from "./rove.js";
+import {css} from "./palette.js";
 import {made, put} from "./show.js";
 
 const at = id => document.getElementById(id);
-const MOST = 40, SMALL = 64, LARGER = 160, GAP = 4;
+const MOST = 40, SMALL = 64, LARGER = 160, GAP = 4, ROWS = 3, CLOSER = .8;
+// An operation is drawn if it has at least so many pixels.
+const FEWEST = 3;
 
 export class Strip {
   // `go` is called with a clock.
   constructor(go, tell) {
-    Object.assign(this, {go, tell, text: null, course: null, thumbs: [], picture: null});
-    this.isLit = null;
-    this.onPass = () => {};
+    Object.assign(this, {go, tell, text: null, course: null, thumbs: [], picture: null, lit: 0, clock: 0});
+    // (called when another stretch of clocks is shown)
+    this.onView = () => {};
+    // (called with the number of the face that the pass under the pointer is about)
+    this.onFace = () => {};
     this.under = latest((clock, x) => this.previewed(clock, x).catch(tell));
     const line = at("line-of-passes"), clockAt = event => {
       const {left, width} = line.getBoundingClientRect(), share = Math.max(0, Math.min(1, (event.clientX - left) / width));
-      return Math.round(share * this.course.clocks);
+      const [from, to] = this.course.view;
+      return Math.round(from + share * (to - from));
     };
     line.addEventListener("pointerdown", event => {
       if (!this.course) return;
@@ -27,8 +34,14 @@ export class Strip {
       if (event.buttons & 1) this.go(clockAt(event));
       this.over(clockAt(event), event.clientX);
     });
+    line.addEventListener("wheel", event => {
+      if (!this.course) return;
+      event.preventDefault();
+      this.zoom(Math.sign(event.deltaY), clockAt(event));
+    }, {passive: false});
     for (const element of [line, at("strip")]) element.addEventListener("pointerleave", () => this.left());
-    at("strip").addEventListener("keydown", event => this.key(event));
+    // (arrow keys go from picture to picture, and the machine with them)
+    rove(at("strip"), ".thumb", true);
   }
 
   // Takes another text with its course; `picture` has the size of its picture, and is null for a listing.
@@ -39,22 +52,20 @@ export class Strip {
     this.thumbs = Array.from({length: many}, (_, place) => this.thumb(Math.ceil((place + 1) * count / many) - 1));
     at("strip").replaceChildren(...this.thumbs.map(each => each.button));
     at("strip").hidden = !many;
-    this.focusable(0);
     this.drawPasses();
     this.fill(text).catch(this.tell);
   }
 
   thumb(pass) {
     const clock = this.course.startOfPass(pass + 1), canvas = made("canvas"), button = made("button", "thumb", "", canvas);
-    button.setAttribute("aria-label", `after pass ${pass + 1}, ${this.course.passes[pass].replaceAll("`", "")}: clock ${clock}`);
+    button.setAttribute("aria-label", `after pass ${pass + 1}, ${this.course.pass(pass).said.replaceAll("`", "")}: clock ${clock}`);
     button.addEventListener("click", () => this.go(clock));
     button.addEventListener("pointerenter", event => this.over(clock, event.clientX));
-    button.addEventListener("focus", () => this.focusable(this.thumbs.findIndex(each => each.button === button)));
     Object.assign(canvas, {width: this.picture.width, height: this.picture.height});
     return {pass, clock, canvas, button};
   }
 
-  // The small pictures, one behind the other; the last one first, as it says most.
+  // The small pictures, one after the other; the last one first, as it says most.
   async fill(text) {
     const order = [...this.thumbs.slice(-1), ...this.thumbs.slice(0, -1)];
     for (const each of order) {
@@ -74,9 +85,9 @@ export class Strip {
   // What lies under the pointer, with the pass that it is in.
   over(clock, x) {
     this.wanted = clock;
-    const pass = this.course.passAt(Math.max(0, clock - 1)), said = this.course.passes[pass] ?? "";
-    at("under-words").replaceChildren(made("i", "chip pass-" + kindOf(said)), `clock ${clock}: ${said.replaceAll("`", "")}`);
-    this.onPass(said);
+    const {said, kind, face} = this.course.pass(this.course.passAt(Math.max(0, clock - 1)));
+    at("under-words").replaceChildren(made("i", "chip pass-" + kind), `clock ${clock}: ${said.replaceAll("`", "")}`);
+    this.onFace(face);
     at("under").hidden = false;
     this.placed(x);
     if (this.picture) this.under(clock, x);
@@ -98,57 +109,91 @@ export class Strip {
 
   left() {
     this.wanted = null;
-    this.onPass("");
+    this.onFace(0);
     at("under").hidden = true;
+  }
+
+  // Shows fewer clocks on the time line, or more, about one of them.
+  zoom(way, clock = this.clock) {
+    if (!this.course) return;
+    this.course.zoom(clock, CLOSER ** -way);
+    this.drawPasses();
+    this.onView();
   }
 
   // The clock that is shown now.
   at(clock) {
+    this.clock = clock;
+    const [from] = this.course.view;
+    this.course.reveal(clock);
+    this.drawPasses();
+    if (this.course.view[0] !== from) this.onView();
     const now = this.thumbs.findLastIndex(each => each.clock <= clock);
     this.thumbs.forEach(({button}, place) => button.classList.toggle("now", place === now));
   }
 
-  focus() { this.thumbs[this.now]?.button.focus(); }
-
-  focusable(place) {
-    this.now = place;
-    this.thumbs.forEach(({button}, each) => { button.tabIndex = each === place ? 0 : -1; });
-  }
-
-  // Arrow keys go from picture to picture, and the machine with them.
-  key(event) {
-    const way = {ArrowLeft: -1, ArrowRight: 1, Home: -this.now, End: this.thumbs.length - 1 - this.now}[event.key];
-    const to = this.thumbs[this.now + way];
-    if (way === undefined || event.ctrlKey || event.altKey || event.metaKey) return;
-    event.preventDefault();
-    event.stopPropagation();
-    if (!to) return;
-    to.button.focus();
-    this.go(to.clock);
-  }
-
-  // Lights the passes whose words are such, or none where it is null.
-  light(isLit) {
-    this.isLit = isLit;
+  // Lights the passes of a face, or none if it is 0.
+  light(face) {
+    this.lit = face;
     this.drawPasses();
   }
 
-  // The line of passes above the slider: a colour for what each is for.
+  // The time line above the slider: in rows the solids whose faces are made, the passes with a colour for what each is for, and the
+  // operations if there is room for them.
   drawPasses() {
     const canvas = at("line-of-passes"), {course} = this;
     if (!course || !canvas.clientWidth) return;
     canvas.width = canvas.clientWidth * devicePixelRatio;
     canvas.height = canvas.clientHeight * devicePixelRatio;
-    const pen = canvas.getContext("2d"), style = getComputedStyle(document.documentElement);
-    const scale = canvas.width / Math.max(1, course.clocks);
-    course.passStarts.forEach((start, pass) => {
-      const wide = (course.startOfPass(pass + 1) - start) * scale;
-      pen.fillStyle = style.getPropertyValue("--pass-" + kindOf(course.passes[pass]));
-      pen.fillRect(start * scale, 0, Math.max(1, wide > GAP ? wide - 1 : wide), canvas.height);
-      if (!this.isLit?.(course.passes[pass])) return;
-      pen.fillStyle = style.getPropertyValue("--ink");
-      pen.fillRect(start * scale, 0, Math.max(2, wide), canvas.height / 2);
+    const rows = new Rows(canvas, course.view), {passStarts, operations} = course;
+    const ink = rows.named("--ink"), colours = Object.fromEntries(Object.keys(KINDS).map(kind => [kind, rows.named("--pass-" + kind)]));
+    let first = 0;
+    passStarts.forEach((start, number) => {
+      const {said, kind, face, literal, solid} = course.pass(number), end = course.startOfPass(number + 1);
+      rows.bar(1, start, end, colours[kind], said.replaceAll("`", ""));
+      if (this.lit && face === this.lit) rows.bar(1, start, end, ink, "", .5);
+      if (literal !== course.pass(number + 1).literal || number === passStarts.length - 1) {
+        if (solid) rows.bar(0, passStarts[first], end, css(solid.colour), solid.name);
+        first = number + 1;
+      }
     });
+    const [from, to] = course.view.map(clock => course.operationAt(clock)), shades = ["--shade", "--line"].map(name => rows.named(name));
+    if (to - from > canvas.width / FEWEST) rows.bar(2, 0, course.clocks, shades[0], "the wheel, or c, shows the operations");
+    else for (let operation = from; operation <= to; operation++)
+      rows.bar(2, course.startOf(operation), course.startOf(operation + 1), shades[operation % 2], operations[operation]?.[1] ?? "");
+    rows.mark(this.clock);
+  }
+}
+
+// The rows of the time line, which show a stretch of clocks.
+class Rows {
+  constructor(canvas, [from, to]) {
+    Object.assign(this, {canvas, from, scale: canvas.width / Math.max(1, to - from), high: canvas.height / ROWS});
+    this.pen = canvas.getContext("2d");
+    this.pen.font = `${Math.floor(this.high * .78)}px system-ui, "DejaVu Sans", sans-serif`;
+    this.pen.textBaseline = "middle";
+  }
+
+  // A colour of the page by its name.
+  named(name) { return getComputedStyle(document.documentElement).getPropertyValue(name); }
+
+  // A bar over some clocks, of a share of its row's height, and its words if they have room.
+  bar(row, start, end, colour, words = "", share = 1) {
+    const {pen, from, scale, high, canvas} = this, left = Math.max(0, (start - from) * scale), right = Math.min(canvas.width, (end - from) * scale);
+    if (right < left || left >= canvas.width) return;
+    const wide = right - left;
+    pen.fillStyle = colour;
+    pen.fillRect(left, row * high, Math.max(1, wide > GAP ? wide - 1 : wide), (high - 1) * share);
+    if (!words || wide < high * 2 || pen.measureText(words).width > wide - 2 * GAP) return;
+    const parts = pen.fillStyle.match(/\w\w/g).map(part => parseInt(part, 16));
+    pen.fillStyle = .3 * parts[0] + .59 * parts[1] + .11 * parts[2] > 120 ? "#000" : "#fff";
+    pen.fillText(words, left + GAP, (row + .5) * high);
+  }
+
+  // The clock that is shown.
+  mark(clock) {
+    this.pen.fillStyle = this.named("--ink");
+    this.pen.fillRect((clock - this.from) * this.scale - 1, 0, 2, this.canvas.height);
   }
 }
 

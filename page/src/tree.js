@@ -6,7 +6,7 @@ const MOST = 16;
 
 export const isShown = state => state.width <= MOST && state.height <= MOST;
 
-// Where the nodes stand in a picture of a width.
+// Where the nodes are in a picture of a width.
 class Places {
   constructor(levels, width) {
     this.letters = unit();

@@ -1,5 +1,6 @@
 // The wall: every plane of the array at once, each as a small image, and both keys as colours, depths and faces. What the last move
-// changed is framed, and only that is drawn anew.
+// changed is framed, and only that is drawn again.
+import {rove} from "./rove.js";
 import {made, put} from "./show.js";
 
 const CAPTION = 13, LEAST = 33, GAP = 4, COARSE = 64;
@@ -7,10 +8,11 @@ const CAPTION = 13, LEAST = 33, GAP = 4, COARSE = 64;
 const GROUPS = ["", "key B", "key T", "rest"];
 
 export class Wall {
-  // `onChoose` is called with the name of a view, and whether it is to stand beside the one that is shown.
+  // `onChoose` is called with the name of a view, and whether it is shown beside the large one.
   constructor(root, onChoose) {
-    Object.assign(this, {root, onChoose, tiles: [], of: null, shown: null, now: 0});
+    Object.assign(this, {root, onChoose, tiles: [], of: null, shown: null});
     root.addEventListener("keydown", event => this.key(event));
+    rove(root, ".tile");
     new ResizeObserver(() => this.fit()).observe(root);
   }
 
@@ -18,13 +20,11 @@ export class Wall {
   load(views, used) {
     this.tiles = views.filter(view => view.group !== "memory" || used.has(view.plane)).map(view => this.tile(view));
     this.order();
-    this.now = 0;
     this.of = this.shown = null;
     this.root.replaceChildren(...GROUPS.flatMap((heading, group) => {
       const own = this.tiles.filter(tile => groupOf(tile.view) === group).map(tile => tile.button);
       return heading && own.length ? [made("b", "heading", heading), ...own] : own;
     }));
-    this.focusable(0);
   }
 
   // The registers first; then key B and key T, the numbers of each before its bits, the highest bit first; and the bits of no key.
@@ -39,7 +39,6 @@ export class Wall {
     button.title = view.label;
     button.setAttribute("aria-label", view.label);
     button.addEventListener("click", event => this.onChoose(view.name, event.shiftKey));
-    button.addEventListener("focus", () => this.focusable(this.tiles.findIndex(tile => tile.view === view)));
     return {view, canvas, caption, button, isDrawn: false};
   }
 
@@ -91,28 +90,17 @@ export class Wall {
     this.root.style.setProperty("--columns", columns);
   }
 
-  focus() { this.tiles[this.now]?.button.focus(); }
-
-  focusable(at) {
-    this.now = at;
-    this.tiles.forEach(({button}, place) => { button.tabIndex = place === at ? 0 : -1; });
-  }
-
+  // To the tile above or below the one that has the focus.
   key(event) {
-    const rows = {ArrowUp: -1, ArrowDown: 1}[event.key], way = {ArrowLeft: -1, ArrowRight: 1, Home: -this.now, End: this.tiles.length - 1 - this.now}[event.key];
-    if (rows === undefined && way === undefined || event.ctrlKey || event.altKey || event.metaKey) return;
+    const way = {ArrowUp: -1, ArrowDown: 1}[event.key];
+    if (way === undefined || event.ctrlKey || event.altKey || event.metaKey) return;
     event.preventDefault();
     event.stopPropagation();
-    (rows ? this.besideRow(rows) : this.tiles[this.now + way])?.button.focus();
-  }
-
-  // The tile above or below the one that has the focus.
-  besideRow(way) {
-    const {left, top} = this.tiles[this.now].button.getBoundingClientRect();
-    return this.tiles.find(({button}) => {
+    const {left, top} = document.activeElement.getBoundingClientRect();
+    this.tiles.find(({button}) => {
       const box = button.getBoundingClientRect();
       return Math.abs(box.left - left) < 2 && Math.abs(box.top - top - way * (box.height + GAP)) < box.height / 2;
-    });
+    })?.button.focus();
   }
 }
 

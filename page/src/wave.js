@@ -43,7 +43,7 @@ function linesOf({micros, pixels}, bits) {
     ...bits.map(([name, at]) => [name, before.map(pixel => Number(pixel.memory[at])), "memory"])];
 }
 
-// What stands at a clock: a stripe, its number where there is room, and what it broadcasts.
+// What is shown at a clock: a stripe, its number where there is room, and what it broadcasts.
 function clockOf(sizes, clock, x, micro) {
   const {letters, wide, top, foot} = sizes, middle = x + wide / 2, parts = [];
   if (clock % 2 === 0) parts.push(drawn("rect", {x, y: top - 5, width: wide, height: foot - top + 5, class: "stripe"}));

@@ -194,3 +194,23 @@ def test_at_most_eight_tabs_are_in_sight(page: Browser) -> None:
     page.run("(() => { const more = document.querySelector('#texts select'); more.selectedIndex = 1; "
              "more.dispatchEvent(new Event('change')); })()")
     assert page.run("document.querySelector('.text-tab[aria-selected=true]').textContent") == "first"
+
+
+def test_the_time_line_shows_fewer_clocks_about_the_one_that_is_shown(page: Browser) -> None:
+    """Ten steps, each to 0.8 of the clocks with clock 3000 in its place: from 3000 * (1 - 0.8^10) = 2677.9 to 3257.3 of 5396."""
+    page.run("document.activeElement.blur()")
+    page.press("2")
+    page.until("document.body.dataset.shown")
+    pages.go(page, 3000)
+    for _ in range(10):
+        page.press("c")
+    left, top, wide = page.run("(() => { const r = document.getElementById('line-of-passes').getBoundingClientRect(); "
+                               "return [r.left, r.top + r.height / 2, r.width] })()")
+    page.point(left, top, click=True)
+    page.until("document.body.dataset.shown === '2678'")
+    page.point(left + wide - 1, top, click=True)
+    assert abs(int(page.until("document.body.dataset.shown !== '2678' && document.body.dataset.shown")) - 3257) <= 1
+    for _ in range(10):
+        page.press("C")
+    page.point(left, top, click=True)
+    page.until("document.body.dataset.shown === '0'")

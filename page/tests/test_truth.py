@@ -1,6 +1,7 @@
 """Whether what the page shows is true at each moment: of the text that stands, of the pixel under the pointer, of what
 was copied and saved."""
 import struct
+import zlib
 from pathlib import Path
 
 import pytest
@@ -116,28 +117,83 @@ def test_an_edited_scene_stays_at_its_clock(page: Browser) -> None:
                "'1200'")
 
 
-def tiff(width: int, height: int) -> bytes:
-    """An uncompressed TIFF of 8 bits a pixel, all 0."""
-    tags = [(256, 3, width), (257, 3, height), (258, 3, 8), (259, 3, 1), (262, 3, 1), (273, 4, 8), (277, 3, 1),
-            (278, 3, height), (279, 4, width * height)]
-    count = struct.pack("<H", len(tags))
-    forms = {3: "<HHIHxx", 4: "<HHII"}
-    entries = b"".join(struct.pack(forms[kind], tag, kind, 1, value) for tag, kind, value in tags)
-    return b"II*\0" + struct.pack("<I", 8 + width * height) + bytes(width * height) + count + entries + bytes(4)
+DEPTHS = [(7 * x + 3 * y) % 500 for y in range(32) for x in range(48)]
 
 
-def npy(width: int, height: int) -> bytes:
-    head = ("{'descr': '<u2', 'fortran_order': False, 'shape': (%d, %d), }" % (height, width)).ljust(117) + "\n"
-    return b"\x93NUMPY\x01\x00" + struct.pack("<H", len(head)) + head.encode() + bytes(2 * width * height)
+def npy() -> bytes:
+    head = "{'descr': '<u2', 'fortran_order': False, 'shape': (32, 48), }".ljust(117) + "\n"
+    return b"\x93NUMPY\x01\x00" + struct.pack("<H", len(head)) + head.encode() + struct.pack("<1536H", *DEPTHS)
 
 
-@pytest.mark.parametrize("name, content", [("depth.tif", tiff(48, 32)), ("depth.npy", npy(48, 32))])
-def test_maps_of_every_form_are_dropped_on_compare(page: Browser, name: str, content: bytes) -> None:
+def pfm() -> bytes:
+    rows = [DEPTHS[at:at + 48] for at in range(0, 1536, 48)]
+    return b"Pf\n48 32\n-1.0\n" + struct.pack("<1536f", *(depth for row in rows[::-1] for depth in row))
+
+
+def png(*filters: int) -> bytes:
+    """A PNG file of greys of 16 bits, each line by the next of some filters: none, left, above."""
+    lines = [struct.pack(">48H", *DEPTHS[at:at + 48]) for at in range(0, 1536, 48)]
+    above, body = bytes(96), b""
+    for at, line in enumerate(lines):
+        kind = filters[at % len(filters)]
+        taken = {0: bytes(96), 1: bytes(2) + line[:-2], 2: above}[kind]
+        body += bytes([kind]) + bytes((own - other) % 256 for own, other in zip(line, taken))
+        above = line
+    chunks = ((b"IHDR", struct.pack(">IIBBBBB", 48, 32, 16, 0, 0, 0, 0)), (b"IDAT", zlib.compress(body)), (b"IEND", b""))
+    return b"\x89PNG\r\n\x1a\n" + b"".join(struct.pack(">I", len(data)) + kind + data + struct.pack(">I", zlib.crc32(kind + data))
+                                            for kind, data in chunks)
+
+
+def pgm() -> bytes:
+    return b"P5 48 32 # a comment\n65535\n" + struct.pack(">1536H", *DEPTHS)
+
+
+def plain() -> bytes:
+    return b"P2\n# a comment\n48 32\n500\n" + " ".join(map(str, DEPTHS)).encode()
+
+
+MAPS = {"depth.npy": npy(), "depth.pfm": pfm(), "depth.png": png(0, 1, 2), "depth.pgm": pgm(), "plain.pgm": plain()}
+
+
+@pytest.mark.parametrize("name", MAPS)
+def test_maps_are_dropped_on_compare(page: Browser, name: str) -> None:
+    page.run("delete document.body.dataset.compared")
+    drop(page, name, MAPS[name])
+    ours = called(page, "text => studio.library().then(px => [...px.render(text).depths])", source(page))
+    due = sum(own != other for own, other in zip(ours, DEPTHS))
+    assert page.until("document.body.dataset.compared") == "%d of 1536 pixels differ" % due
+    assert page.run("document.querySelector('main').dataset.tab") == "compare"
+
+
+def test_two_maps_are_compared_without_a_scene(page: Browser, tmp_path: Path) -> None:
+    """Of the depths one is greater by 40, and the text is refused meanwhile."""
+    changed = DEPTHS[:100] + [DEPTHS[100] + 40] + DEPTHS[101:]
+    (tmp_path / "one.npy").write_bytes(npy())
+    (tmp_path / "other.pgm").write_bytes(b"P5 48 32 65535\n" + struct.pack(">1536H", *changed))
+    refuse(page)
+    page.run("document.activeElement.blur()")
+    page.press("3")
+    pages.give(page, "#second", str(tmp_path / "other.pgm"))
+    pages.give(page, "#map", str(tmp_path / "one.npy"))
+    assert page.until("document.body.dataset.compared") == "1 of 1536 pixels differ"
+    assert "greatest difference of depths: 40, at 4 2" in text_of(page, "#compare-says")
+    assert not is_pale(page, "compare") and not page.run("document.querySelector('#compare .refusal').checkVisibility()")
+    choose(page, "- shafd)")
+    assert written(page, "- shaft)") == "yes"
+    page.run("delete document.body.dataset.compared")
+    click(page, "#no-second")
+    ours = called(page, "text => studio.library().then(px => [...px.render(text).depths])", source(page))
+    assert page.until("document.body.dataset.compared") == "%d of 1536 pixels differ" % sum(own != other for own, other in zip(ours, DEPTHS))
+
+
+@pytest.mark.parametrize("name, content, said", [
+    ("a.tif", b"II*\0" + bytes(60), "TIFF"), ("a.exr", b"\x76\x2f\x31\x01" + bytes(60), "EXR"), ("a.txt", b"1 2 3\n4 5 6\n", "numbers as text"),
+    ("a.png", MAPS["depth.png"][:24] + b"\x08\x03" + MAPS["depth.png"][26:], "palette")], ids=["tiff", "exr", "text", "palette"])
+def test_other_forms_are_refused_by_name(page: Browser, name: str, content: bytes, said: str) -> None:
     page.run("delete document.body.dataset.compared")
     drop(page, name, content)
-    said = page.until("document.body.dataset.compared")
-    assert "of 1536 pixels differ" in said
-    assert page.run("document.querySelector('main').dataset.tab") == "compare"
+    told = page.until("document.body.dataset.compared")
+    assert said in told and "`pxplanes compare` reads it" in told
 
 
 @pytest.mark.parametrize("clipboard", ["undefined", "{writeText: () => Promise.reject(new DOMException('no', "
@@ -221,3 +277,18 @@ def test_a_cure_is_an_action(page: Browser, first: str) -> None:
     click(page, ".cure button")
     assert page.until(DRAWN) == "yes"
     assert source(page) == first
+
+
+@pytest.mark.parametrize("typed, marked, says, action", [
+    ("fron 0 0 320", "fron", "in this order", "Write front"), ("front 0 0 3.5", "3.5", "whole number", None),
+    ("front 0 0", "front 0 0", "front A B C", None), ("front 9999999 0 0", "9999999", "", None),
+    ("gont 0 0 320", "gont", "in this order", "Write front"),
+    ("xyznt 0 0 320", "xyznt", "in this order", None)])
+def test_a_refusal_has_its_place_and_at_most_one_change(page: Browser, typed: str, marked: str, says: str, action: str | None) -> None:
+    """There is an action only if exactly one word is near that the library takes there: `gont` is two keys from `front`, `xyznt` three."""
+    choose(page, "front 0 0 320")
+    assert written(page, typed) == "refused"
+    assert page.run("[...document.querySelectorAll('.wrong')].map(each => each.textContent).join('')") == marked
+    assert text_of(page, "#verdict .note").startswith(("malformed line 18: ", "limit line 18: "))
+    assert says in text_of(page, "#verdict")
+    assert page.run("document.querySelector('.cure button')?.textContent ?? null") == action

@@ -3,8 +3,13 @@
 tools/dev/build keeps that module, module.bc, which it passes to the kit's clang. Its text gets the layout and the features of wasm64,
 and its one instruction of x86 becomes the same one of WebAssembly. The kit's clang and lld compile and link it with page/library/heap.c
 and wide.c, and memory32.py gives it a 32-bit memory. page/library/README.md says what that rests on."""
+import gzip
+import io
+import json
 import os
 import re
+import shutil
+import tarfile
 import tempfile
 
 import building
@@ -24,6 +29,8 @@ FOREIGN = {"rattle_alloc", "rattle_realloc", "rattle_dealloc"}
 PARTS = ("heap", "wide")
 HEAP_CALLS = ("px_malloc", "px_free")
 STACK, LARGEST = 1 << 20, 1 << 30
+# The modules over pxplanes.wasm, and their types.
+MODULES = ("pxplanes.mjs", "node.mjs", "pxplanes.d.mts")
 
 
 def translated(text: str, layout: str) -> str:
@@ -82,3 +89,27 @@ def make(out: str) -> None:
         if not building.is_kept():
             building.Proved(ends.TOP, 2).make_library(building.FIRST)
         compiled(building.KEPT, out, place)
+
+
+def npm(wasm: bytes, version: str, out: str) -> str:
+    """Makes the tarball for npm in a folder, by `npm pack` if npm is there; its path."""
+    with open(os.path.join(WEB, "package.json"), encoding="utf-8") as file:
+        described = {**json.load(file), "version": version}
+    files = {leaf: ends.content(os.path.join(WEB, leaf)) for leaf in (*MODULES, "README.md")}
+    files.update({"package.json": json.dumps(described, indent=2).encode() + b"\n", "pxplanes.wasm": wasm})
+    path = os.path.join(out, "pxplanes-%s.tgz" % version)
+    if shutil.which("npm") is None:
+        with open(path, "wb") as packed, gzip.GzipFile("", "wb", mtime=0, fileobj=packed) as unpacked:
+            with tarfile.open(fileobj=unpacked, mode="w") as tar:
+                for leaf, content in sorted(files.items()):
+                    entry = tarfile.TarInfo("package/" + leaf)
+                    entry.size = len(content)
+                    tar.addfile(entry, io.BytesIO(content))
+        return path
+    with tempfile.TemporaryDirectory(prefix="px-npm-") as place:
+        for leaf, content in files.items():
+            with open(os.path.join(place, leaf), "wb") as file:
+                file.write(content)
+        own = dict(os.environ, npm_config_cache=os.path.join(place, "cache"), npm_config_update_notifier="false")
+        done(["npm", "pack", "--offline", "--silent", "--pack-destination", os.path.abspath(out), place], "npm", env=own)
+    return path

@@ -23,7 +23,7 @@ LARGEST = 650000
 LIBRARIES = "/usr/share/javascript"
 # The browsers whose syntax is written: those that have SIMD (page/library/README.md).
 ESBUILD = ("esbuild", "--bundle", "--minify", "--log-level=error", "--target=chrome91,firefox90,safari16.4",
-           "--define:import.meta.url=location.href", "--external:node:fs/promises")
+           "--define:import.meta.url=location.href")
 # The scenes that the page offers, by folders.
 OFFERED = (("gallery", "gallery"), ("docs/scenes", "of the documents"), ("suite", "the suite"))
 GALLERY = os.path.join(ends.TOP, "docs", "GALLERY.md")

@@ -1,5 +1,5 @@
-"""Asks the page what the tools say by their own reading: of each text of the cases and of each mistake that people make its refusal, or
-its hints, rays and course; and of maps as renderers write them what differs."""
+"""Asks the page what the tools say by their own reading: of each text of the cases and of each mistake that people make the place of its
+refusal, or its rays and course; and of maps as renderers write them what differs."""
 import base64
 import glob
 import os
@@ -8,24 +8,23 @@ import tarfile
 
 sys.path[:0] = [os.path.join(os.getcwd(), "tools", "lib"), os.path.join(os.getcwd(), "python")]
 from pxplanes.errors import Trouble
-from pxplanes.explain import cures
 from pxplanes import ends
 from pxplanes.explain import explaining
 from pxplanes.machine import listings
-from pxplanes.explain import looks
 from pxplanes.machine import micros
-from pxplanes.image import netpbm
 import pages
 from pxplanes.machine import passes
 from pxplanes import program
 from pxplanes.image import maps as images
-from pxplanes.scene import scenes
+from pxplanes.scene import rays, scenes
 from browser import Browser
 
 cases = ends.script("dev/run_cases")
 BUILT, CASES, SCENE = os.environ["PROGRAM"], os.path.join("tools", "cases"), "cases/drilled_block_and_post"
-# What the package reads, and the page does not, and says so.
-NOT_ON_THE_PAGE = ("woven.png", "palette.tif")
+# The forms that the page reads, and files of them that it refuses by name: woven, with a palette, of single bits, by columns.
+ON_THE_PAGE, NOT_ON_THE_PAGE = (".pgm", ".ppm", ".pfm", ".npy", ".png"), ("woven.png", "palette.png", "one.png", "fortran.npy")
+# The page asks for a ray by one more name and bracket than a scene may have at most: of such a scene it shows the solids alone.
+FULL = ("leaves_to_their_limit", "nested_64_deep")
 FORMS = os.path.join("python", "tests", "data", "formats")
 RAYS = ((0, 0), (1, 2), (2, 4), (3, 8))
 MOST = 4000
@@ -38,14 +37,15 @@ TOLD = """async texts => {
       out.push({refused: drawn.refused ?? null, trouble: drawn.trouble ?? null});
       continue;
     }
-    const {width, height, faces} = drawn, own = {hints: (await studio.ask("hints", {faces}, text)).hints, rays: [], rgb: 0};
+    const {width, height} = drawn, own = {rays: []};
     for (const [at, over] of %s) {
       const [x, y] = [Math.floor((width - 1) * at / 3), Math.floor((height - 1) * over / 8)];
-      own.rays.push((await studio.ask("ray", {x, y}, text)).lines);
+      const {solids, shown} = await studio.ask("ray", {x, y}, text);
+      own.rays.push([solids.map(({run, ends}) => run && [...run, ...ends]), shown]);
     }
     const {operations, passes, trouble} = await studio.ask("program", {}, text);
     if (trouble) throw new Error(trouble);
-    out.push({...own, rows: operations.map(([pass, line, words, clock]) => `${pass} ${clock} ${line}: ${words}`), passes});
+    out.push({...own, rows: operations.map(([pass, line, words, clock]) => `${pass} ${clock} ${line}: ${words}`), passes: passes.map(({said}) => said)});
   }
   return out;
 }""" % [list(each) for each in RAYS]
@@ -56,23 +56,50 @@ COMPARED = """async (text, map, tolerance) => {
 }"""
 
 
-def refusal_of(text, note):
-    """What the tools tell of a refused text: due, limit and cure, and the columns of what is wrong."""
+def columns_of(text, note):
+    """The columns of what the tools find wrong in a refused text; None if they name none."""
     known = explaining.own_reading(text)[1]
-    if note.startswith("limit line 0: products") and known is None:
-        known = scenes.Refusal(note, None, None, *explaining.OF_PRODUCTS)
-    span = known.span
-    if span:
-        line = scenes.cut_lines(text)[int(note.split(":")[0].split(" ")[-1]) - 1]
-        span = [len(line[:at].decode("utf-8", "replace").encode("utf-16-le")) // 2 + max(0, at - len(line)) for at in span]
-    return {"due": known.due, "limit": known.limit, "cure": cures.of(text, known) or known.cure, "span": span}
+    if known is None or not known.span:
+        return None
+    line = scenes.cut_lines(text)[int(note.split(":")[0].split(" ")[-1]) - 1]
+    return [len(line[:at].decode("utf-8", "replace").encode("utf-16-le")) // 2 for at in known.span]
+
+
+def is_right(refused, text, note):
+    """Whether the page gives the program's note, marks something of what the tools find wrong, and has no change that the program
+    refuses at that line."""
+    columns, span, fix = columns_of(text, note), refused["span"], refused["fix"]
+    is_beside = columns and span and max(columns[0], span[0]) > min(columns[1], span[1])
+    if refused["note"] != note or is_beside or bool(fix) and not is_mended(text, refused["line"], fix):
+        return False
+    return True
+
+
+def is_mended(text, line, fix):
+    rows = text.decode().split("\n")
+    first, end = fix["columns"]
+    rows[line - 1] = rows[line - 1][:first] + fix["words"] + rows[line - 1][end:]
+    status, _, note = program.answer(BUILT, ["cost"], "\n".join(rows).encode())
+    return status == 0 or int(note.split(":")[0].split(" ")[-1]) > line
+
+
+def end_of(end, is_far=False):
+    """The words of an end of a ray."""
+    if is_far:
+        return "far limit"
+    return "%s%s, face %d%s" % (end.kind, " %d" % end.which if end.which else "", end.number, ", line %d" % end.line if end.which else "")
+
+
+def ray_of(scene, x, y):
+    found = rays.crossings(scene, x, y)
+    solids = [each and [each.first, each.end, end_of(each.front), end_of(each.back, each.end == scene.far())] for each in found]
+    return [solids, [list(run) for run in rays.runs(scene, found)]]
 
 
 def due_of(text):
     """What is due of an accepted scene."""
-    scene, faces = scenes.read(text), netpbm.images(program.answer(BUILT, ["render"], text)[1])[1].numbers()
-    found = looks.all_looks(scene)
-    rays = [looks.ray(scene, (scene.width - 1) * at // 3, (scene.height - 1) * over // 8) for at, over in RAYS]
+    scene = scenes.read(text)
+    own = [ray_of(scene, (scene.width - 1) * at // 3, (scene.height - 1) * over // 8) for at, over in RAYS]
     listed = [line for line in program.answer(BUILT, ["list"], text)[1].decode().split("\n")[2:-2]]
     operations, said = passes.operations(scene, passes.products_of(scene, program.answer(BUILT, ["plan"], text)[1]))
     assert [passes.line(name, numbers) for _, name, numbers, _ in operations] == listed
@@ -80,9 +107,7 @@ def due_of(text):
     for number, name, numbers, words in operations:
         rows.append("%d %d %s: %s" % (number, clock, passes.line(name, numbers), words))
         clock += micros.clocks_of(name, numbers, (wide * high).bit_length() - 1)
-    hints = looks.sorted_hints(looks.before_drawing(scene, found) + looks.from_picture(scene, faces, found))
-    return {"hints": [list(hint) for hint in hints], "rays": rays, "rgb": 0,
-            "rows": rows, "passes": said}
+    return {"rays": own, "rows": rows, "passes": said}
 
 
 def texts():
@@ -114,12 +139,13 @@ def looked(page, name, text, told, counts):
     if told.get("trouble"):
         print("%s: %s" % (name, told["trouble"]))
     elif status in (3, 4) and "refused" in told:
-        due = refusal_of(raw, note)
-        if not told["refused"] or told["refused"]["note"] != note or {key: told["refused"][key] for key in due} != due:
-            print("%s: %s in place of %s, %s" % (name, told["refused"], note, due))
+        if not told["refused"] or not is_right(told["refused"], raw, note):
+            print("%s: %s in place of %s, columns %s" % (name, told["refused"], note, columns_of(raw, note)))
         counts["refused"] += 1
     elif status == 0 and "rows" in told:
         due = due_of(raw)
+        if name in FULL:
+            due["rays"] = [[solids, None] for solids, _ in due["rays"]]
         for key in due:
             if told[key] != due[key]:
                 print("%s: %s: %r in place of %r" % (name, key, str(told[key])[:300], str(due[key])[:300]))
@@ -135,9 +161,8 @@ def maps():
     yield scene, program.answer(BUILT, ["colour"], scene)[1], 0
     yield scene, program.answer(BUILT, ["render"], ends.content("cases/drilled_block/stdin"))[1], 3
     for path in sorted(glob.glob(os.path.join(FORMS, "*.*"))):
-        if os.path.basename(path) in NOT_ON_THE_PAGE:
-            continue
-        yield BLANK, ends.content(path), 0
+        if path.endswith(ON_THE_PAGE) and os.path.basename(path) not in NOT_ON_THE_PAGE:
+            yield BLANK, ends.content(path), 0
 
 
 def compared(page, scene, data, tolerance):

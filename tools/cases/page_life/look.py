@@ -173,14 +173,15 @@ def edges(page, text):
     print(text_of(page, "#sum"))
 
 
-# What is lit: the face, the line of the text, the pixels of an image, and of each pass whether it is, by the middle of its place.
+# What is lit: the face, the line of the text, the pixels of an image, and of each pass whether it is, by the middle of its place in the
+# second row of the time line.
 LIT = """(image, middles) => {
   const canvas = document.getElementById(image), over = canvas.parentElement.querySelector(".lit"), line = document.getElementById("line-of-passes");
   // (the picture is 48 pixels wide, and the array 64)
   const pixels = over.hidden ? [] : [...over.getContext("2d").getImageData(0, 0, 48, over.height).data].filter((_, at) => at % 4 === 3);
   const ink = getComputedStyle(document.documentElement).getPropertyValue("--ink"), pen = line.getContext("2d");
   return [Number(document.body.dataset.lit), document.querySelector(".lit .CodeMirror-line")?.textContent.trim() ?? "", pixels.map(each => Number(each > 0)),
-    middles.map(share => [...pen.getImageData(Math.floor(share * line.width), 1, 1, 1).data.slice(0, 3)].map(each => each.toString(16).padStart(2, "0")).join("") === ink.slice(1))];
+    middles.map(share => [...pen.getImageData(Math.floor(share * line.width), Math.floor(line.height / 3) + 2, 1, 1).data.slice(0, 3)].map(each => each.toString(16).padStart(2, "0")).join("") === ink.slice(1))];
 }"""
 
 

@@ -1,5 +1,8 @@
-/** A scene or a listing: a string, or the bytes of one. */
-export type Text = string | Uint8Array;
+/** A scene or a listing: a string, or the bytes of one. Another kind of array is refused as a TypeError. */
+export type Text = string | Uint8Array | Uint8ClampedArray | Int8Array | ArrayBuffer | SharedArrayBuffer;
+
+/** A whole number from 0 on; another one is refused as a RangeError, which names it. */
+export type Whole = number | bigint;
 
 /** Why a text is refused, or a call not answered; the message is the program's note. */
 export class Refused extends Error {
@@ -11,8 +14,8 @@ export class Refused extends Error {
   readonly cause: string;
   /** With status 4 which limit is passed, as "solids" (docs/SCENES.md, "Limits"). */
   readonly kind: string;
-  /** With status 4 what was found there, with 11 the index of the element. */
-  readonly number: number;
+  /** With status 4 what was found there, with 11 the index of the element; a bigint if a number cannot hold it exactly. */
+  readonly number: number | bigint;
   /** With status 9 how many clocks there are. */
   readonly clocks: number;
   /** With status 12 how many operations there are. */
@@ -59,9 +62,9 @@ export type Role = "start" | "open" | "candidate" | "drop" | "clear" | "front" |
 
 /** An operation, and what it is for (docs/PASSES.md, "Steps"); `String` of it is its line in a listing. */
 export class Operation {
-  /** The word of its line, and the numbers behind it (docs/LISTINGS.md, "Operations"). */
+  /** The word of its line, and the numbers after it (docs/LISTINGS.md, "Operations"). */
   readonly kind: string;
-  readonly numbers: number[];
+  readonly numbers: (number | bigint)[];
   /** The clock at which it begins. */
   readonly clock: number;
   /** Its step among all steps of a scene, from 0 on, and the step's kind; null in a listing. */
@@ -95,22 +98,25 @@ export class State {
   readonly next: Micro | null;
   /** The words of include/pxplanes.h, each in two halves, the lower first. */
   readonly words: Uint32Array;
-  planeOf(which: number | Register): number;
-  bit(which: number | Register, x: number, y: number): number;
-  pixel(x: number, y: number): { memory: string } & Record<Register, number>;
-  number(at: number, length: number, x: number, y: number): number;
-  numbers(at: number, length: number): Float64Array;
-  node(level: number, index: number): [number, number];
+  planeOf(which: Whole | Register): number;
+  /** A pixel outside of the grid is refused as a RangeError, as is a bit that there is not; so in all calls below. */
+  bit(which: Whole | Register, x: Whole, y: Whole): number;
+  pixel(x: Whole, y: Whole): { memory: string } & Record<Register, number>;
+  /** The number in so many bits from one on, at most 53. */
+  number(at: Whole, length: Whole, x: Whole, y: Whole): number;
+  numbers(at: Whole, length: Whole): Float64Array;
+  /** Output and carry of a node: levels from 1 on, a level's nodes from 0 on. */
+  node(level: Whole, index: Whole): [number, number];
 }
 
 /** A machine over a text, which keeps states to go on from and back to. */
 export class Machine {
   readonly clocks: number;
   readonly first: State;
-  state(clock: number): State;
+  state(clock: Whole): State;
   /** Makes the states before a clock, so that going back finds them. */
-  prepare(clock: number): void;
-  micros(first: number, count: number): Micro[];
+  prepare(clock: Whole): void;
+  micros(first: Whole, count: Whole): Micro[];
 }
 
 export class Library {
@@ -125,13 +131,13 @@ export class Library {
   products(text: Text): number[][];
   counts(text: Text): { operations: number; clocks: number };
   /** The operations, so many from `first` on, or all from there. */
-  course(text: Text, first?: number, count?: number | null): Operation[];
-  state(text: Text, clock: number): State;
-  micros(text: Text, first: number, count: number): Micro[];
-  packed(text: Text, first: number, count: number): BigUint64Array;
+  course(text: Text, first?: Whole, count?: Whole | null): Operation[];
+  state(text: Text, clock: Whole): State;
+  micros(text: Text, first: Whole, count: Whole): Micro[];
+  packed(text: Text, first: Whole, count: Whole): BigUint64Array;
   /** What the program writes for a command's words, as "tidy" or "tile 600 400", with the text as its standard input. */
-  run(text: Text, words?: string): Uint8Array;
-  /** The words of the state behind some microinstructions, as `packed` gives them or of one's own. */
+  run(text: Text, words?: Text): Uint8Array;
+  /** The words of the state after some microinstructions, as `packed` gives them or your own. */
   clocks(state: Pick<State, "words" | "width" | "height">, packed: BigUint64Array): Uint32Array;
   machine(text: Text, starts?: readonly number[] | null): Machine;
 }
@@ -139,5 +145,9 @@ export class Library {
 /** What an engine lacks to run the library, in words; null where it lacks nothing. */
 export function lacking(): string | null;
 
-/** The library, of the bytes of pxplanes.wasm, of a module compiled of them, or of the file beside this one. */
-export function load(source?: BufferSource | WebAssembly.Module): Promise<Library>;
+/**
+ * The library, of the bytes of pxplanes.wasm, a module compiled of them, a response with them, their address, or a promise of one of these;
+ * without it, of the file pxplanes.wasm beside this module.
+ */
+type Source = BufferSource | WebAssembly.Module | Response | Blob | URL | string;
+export function load(source?: Source | Promise<Source>): Promise<Library>;

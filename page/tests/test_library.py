@@ -1,0 +1,151 @@
+"""The library for JavaScript: as an npm package in Node, in a page and in a worker, bundled by esbuild, and called wrongly."""
+import functools
+import http.server
+import json
+import os
+import shutil
+import subprocess
+import tarfile
+import threading
+from pathlib import Path
+from typing import Iterator
+
+import pytest
+
+import web
+import web_page
+from browser import Browser
+from conftest import FIRST, TOP
+
+pytestmark = pytest.mark.skipif(shutil.which("node") is None, reason="there is no node")
+HOSTILE = os.path.join(TOP, "page", "tests", "hostile.mjs")
+# What a caller says of the first scene: the depth and the face at 24, 16 (docs/LIBRARY.md), and how it is refused.
+SAID = """
+export async function said(source, text) {
+  const px = await load(source), {width, depths, faces} = px.render(text), out = [depths[16 * width + 24], faces[16 * width + 24]];
+  for (const call of [() => px.render("pxscene 1\\nx\\n"), () => px.render(new Uint16Array(4)), () => px.state(text, 3).pixel(1000, 1000)])
+    try { call(); } catch (error) { out.push(`${error.name}: ${error.message}`); }
+  return out.join("; ");
+}
+"""
+EXPECTED = ("320; 9; Refused: malformed line 2: unexpected; "
+            "TypeError: text is of type Uint16Array; a string, an ArrayBuffer or a Uint8Array is expected; "
+            "RangeError: pixel 1000, 1000 is outside of 64 by 32")
+
+
+def node(*words: str, cwd: Path) -> str:
+    run = subprocess.run(["node", *words], cwd=cwd, capture_output=True, text=True)
+    assert run.returncode == 0, run.stderr
+    return run.stdout.strip()
+
+
+@pytest.fixture(scope="module")
+def wasm() -> bytes:
+    return web_page.library_in(web_page.read(web_page.PAGE))[0]
+
+
+@pytest.fixture(scope="module")
+def place(tmp_path_factory: pytest.TempPathFactory, wasm: bytes, first: str) -> Path:
+    """A folder with the package installed in it, as npm does it from the tarball."""
+    folder = tmp_path_factory.mktemp("npm")
+    with tarfile.open(web.npm(wasm, "1.2.3", str(folder))) as tar:
+        tar.extractall(folder / "node_modules")
+    os.rename(folder / "node_modules" / "package", folder / "node_modules" / "pxplanes")
+    (folder / "first.scene").write_text(first)
+    return folder
+
+
+def bundled(place: Path, leaf: str, *words: str) -> str:
+    if shutil.which("esbuild") is None:
+        pytest.skip("there is no esbuild")
+    subprocess.run(["esbuild", leaf, "--bundle", "--outfile=host/" + leaf, "--log-level=error", *words], cwd=place, check=True)
+    return (place / "host" / leaf).read_text(encoding="utf-8", errors="replace")
+
+
+@pytest.mark.parametrize("npm", ["npm", "none"])
+def test_the_tarball_has_what_its_description_names(tmp_path: Path, wasm: bytes, monkeypatch: pytest.MonkeyPatch, npm: str) -> None:
+    if npm == "none":
+        monkeypatch.setattr(web.shutil, "which", lambda name: None)
+    elif shutil.which("npm") is None:
+        pytest.skip("there is no npm")
+    with tarfile.open(web.npm(wasm, "1.2.3", str(tmp_path))) as tar:
+        names = {entry.name for entry in tar.getmembers()}
+        held = tar.extractfile("package/package.json")
+        assert held is not None
+        described = json.load(held)
+    assert described["version"] == "1.2.3" and described["types"].endswith(".d.mts")
+    leaves = [*described["exports"]["."].values(), described["exports"]["./pxplanes.wasm"], described["types"]]
+    assert names == {"package/" + leaf[2:] for leaf in leaves} | {"package/package.json", "package/README.md"}
+
+
+def test_the_types_name_what_the_module_exports(place: Path) -> None:
+    names = node("--input-type=module", "-e", 'import * as px from "pxplanes"; console.log(Object.keys(px).join(" "));', cwd=place)
+    types = (place / "node_modules" / "pxplanes" / "pxplanes.d.mts").read_text()
+    for name in names.split():
+        assert any("export %s %s" % (kind, name) in types for kind in ("class", "function", "declare const", "const")), name
+
+
+def test_a_package_in_node(place: Path) -> None:
+    (place / "in_node.mjs").write_text('import {load} from "pxplanes";\nimport {readFileSync} from "node:fs";' + SAID +
+                                       'console.log(await said(undefined, readFileSync("first.scene", "utf8")));')
+    assert node("in_node.mjs", cwd=place) == EXPECTED
+    bundled(place, "in_node.mjs", "--platform=node", "--format=esm")
+    shutil.copy(place / "node_modules" / "pxplanes" / "pxplanes.wasm", place / "host")
+    assert node("host/in_node.mjs", cwd=place) == EXPECTED
+
+
+class Quiet(http.server.SimpleHTTPRequestHandler):
+    extensions_map = {**http.server.SimpleHTTPRequestHandler.extensions_map, ".mjs": "text/javascript", ".wasm": "application/wasm"}
+
+    def log_message(self, *words: object) -> None:
+        pass
+
+
+@pytest.fixture
+def host(place: Path) -> Iterator[str]:
+    (place / "host").mkdir(exist_ok=True)
+    shutil.copy(place / "first.scene", place / "host")
+    server = http.server.ThreadingHTTPServer(("127.0.0.1", 0), functools.partial(Quiet, directory=str(place / "host")))
+    threading.Thread(target=server.serve_forever, daemon=True).start()
+    yield "http://127.0.0.1:%d/" % server.server_address[1]
+    server.shutdown()
+
+
+@pytest.mark.parametrize("with_wasm", [True, False], ids=["in the bundle", "beside it"])
+def test_a_bundle_in_a_page_and_in_a_worker(chromium: Browser, place: Path, host: str, with_wasm: bool) -> None:
+    bytes_of = 'import wasm from "pxplanes/pxplanes.wasm";' if with_wasm else "const wasm = undefined;"
+    fetched = "said(wasm, await (await fetch('first.scene')).text())"
+    (place / "page.mjs").write_text('import {load} from "pxplanes";' + bytes_of + SAID + "document.body.dataset.said = await %s;" % fetched)
+    (place / "worker.mjs").write_text('import {load} from "pxplanes";' + bytes_of + SAID + "postMessage(await %s);" % fetched)
+    for leaf in ("page.mjs", "worker.mjs"):
+        text = bundled(place, leaf, "--format=esm", "--loader:.wasm=binary")
+        assert "node:" not in text
+    if not with_wasm:
+        shutil.copy(place / "node_modules" / "pxplanes" / "pxplanes.wasm", place / "host")
+    (place / "host" / "page.html").write_text('<!DOCTYPE html><body><script type="module" src="page.mjs"></script>')
+    chromium.open(host + "page.html")
+    assert chromium.until("document.body?.dataset.said") == EXPECTED
+    worker = "new Promise(done => { new Worker('worker.mjs', {type: 'module'}).onmessage = event => done(event.data); })"
+    assert chromium.run(worker) == EXPECTED
+
+
+@pytest.mark.parametrize("seed", [1, 2, 3])
+def test_wrong_arguments_are_named_and_change_nothing(tmp_path: Path, wasm: bytes, seed: int) -> None:
+    """4,000 calls, each with one wrong argument: an error with a name, the right answers as before; and again, with no more memory."""
+    (tmp_path / "pxplanes.wasm").write_bytes(wasm)
+    found = json.loads(node(HOSTILE, "pxplanes.wasm", FIRST, str(seed), "4000", cwd=tmp_path))
+    assert found["failures"] == []
+    assert all(found["outcomes"].get(kind, 0) > 100 for kind in ("TypeError", "RangeError", "Refused"))
+
+
+def test_ten_thousand_renders_take_no_more_memory(tmp_path: Path, wasm: bytes) -> None:
+    (tmp_path / "pxplanes.wasm").write_bytes(wasm)
+    script = """import {readFileSync} from "node:fs";
+const {load} = await import(%r), px = await load(readFileSync("pxplanes.wasm")), text = readFileSync(%r);
+let before = 0;
+for (let at = 0; at < 10000; at++) {
+  px.render(text);
+  if (at === 100) before = px.bytes;
+}
+console.log(before > 0 && px.bytes === before);""" % ("file://" + web_page.GLUE, FIRST)
+    assert node("--input-type=module", "-e", script, cwd=tmp_path) == "true"
