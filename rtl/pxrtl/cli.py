@@ -1,5 +1,6 @@
 """The words of `rtl/rtl`, and what each command does."""
 import argparse
+import itertools
 import os
 import re
 import shutil
@@ -7,8 +8,8 @@ import sys
 import tempfile
 from typing import Callable, Iterator
 
-from pxrtl import against, chips, directed, marking, programs, proving, simulation, sources, whole
-from pxrtl.shared import RTL, Bad, ends, program
+from pxrtl import against, directed, marking, programs, proving, simulation, sources
+from pxrtl.shared import RTL, Bad, ends, frame
 
 BITS, RANDOM, FIELD, FEW = 72, 1000, 8, 4
 SIZES = ((1, 1), (1, 2), (2, 2), (3, 2)) + tuple((nx, 1) for nx in range(3, 10)) + tuple((1, ny) for ny in range(3, 10))
@@ -149,36 +150,38 @@ def draw(said) -> int:
     return proving.PROVED
 
 
-def whole_(said) -> int:
-    statuses, built = [], program.needed(said.program)
-    with tempfile.TemporaryDirectory(prefix="px-rtl-") as folder:
-        files, _ = files_of(said, folder)
-        for path in said.scenes:
-            lines, status = whole.check(path, ends.content(path), built, files, said.size, said.times)
-            print("\n".join(lines), flush=True)
-            statuses.append(status)
-    return proving.worst(statuses)
-
-
-def bytes_(said) -> int:
-    _, _, operations, _ = chips.operations(ends.content(said.text), said)
-    sys.stdout.buffer.write(chips.bytes_of(operations))
-    return proving.PROVED
-
-
-def chip(said) -> int:
+def drawings(said, links, named: str) -> int:
+    """Draws scenes on boards, compares what comes back, and writes the last picture."""
+    frame.need_numpy(sys.argv[1:], sys.argv[:1])
+    from pxplanes.image import maps
+    from pxrtl import board
     statuses = []
     for path in said.texts:
-        with tempfile.TemporaryDirectory(prefix="px-rtl-") as folder:
-            line, status = chips.check(path, ends.content(path), said, folder)
-        print(line, flush=True)
-        statuses.append(status)
+        drawing = board.Drawing(ends.content(path), *said.size, said.coarser, said.program)
+        wrong, picture = drawing.drawn(links(board))
+        print("\n  ".join([path + ":"] + wrong if wrong else [drawing.told(path, named)]), flush=True)
+        statuses.append(proving.WRONG if wrong else proving.PROVED)
+        if said.output:
+            with open(said.output, "wb") as file:
+                file.write(maps.png(picture))
     return proving.worst(statuses)
+
+
+def simulate_board(said) -> int:
+    with tempfile.TemporaryDirectory(prefix="px-rtl-") as folder:
+        return drawings(said, lambda board: iter(lambda: board.Simulated(board.built(*said.size), folder), None),
+                        "a simulated board")
+
+
+def send(said) -> int:
+    return drawings(said, lambda board: itertools.repeat(board.Port(said.port)), "the board at " + said.port)
 
 
 def fpga(said) -> int:
+    frame.need_numpy(sys.argv[1:], sys.argv[:1])
+    from pxrtl import board
     with tempfile.TemporaryDirectory(prefix="px-rtl-") as folder:
-        lines, bitstream = chips.fitted(folder, said.board, *(said.size or (0, 0)))
+        lines, bitstream = board.fitted(folder, said.board, *(said.size or (0, 0)))
         print("\n".join(lines))
         if said.out:
             shutil.copyfile(bitstream, said.out)
@@ -261,41 +264,38 @@ def reader() -> ends.Words:
     grading.add_argument("--jobs", metavar="N", help="files that are looked at side by side")
     drawing = command("draw", "print the picture that the array holds after a scene's last clock", draw)
     drawing.add_argument("scene", metavar="SCENE")
-    running = command("whole",
-                      "run whole scenes on an array by Verilator, and compare each operation with the library for C",
-                      whole_)
-    running.add_argument("scenes", nargs="+", metavar="SCENE")
-    running.add_argument("--size", type=int, choices=range(1, 7), nargs=2, default=whole.SIZE, metavar=("NX", "NY"),
-                         help="the array has 2^NX by 2^NY pixels")
-    running.add_argument("--times", action="store_true", help="print how long both took")
-    sending = command("bytes", "write the bytes that a chip on a board must receive", bytes_)
-    sending.add_argument("text", metavar="TEXT")
-    simulated = command("chip",
-                        "send scenes or listings to the chip in a simulation, and compare the answer with `play`", chip)
-    simulated.add_argument("texts", nargs="+", metavar="TEXT")
+    simulated = command("simulate-board", "draw scenes or listings on a whole board in Verilator, and compare what comes "
+                        "back with `play` and `render`", simulate_board)
+    sending = command("send", "draw scenes or listings on a board at a serial port, and compare what comes back", send)
+    sending.add_argument("--port", required=True, metavar="PORT", help="the serial port, as /dev/ttyUSB1")
+    for part in (simulated, sending):
+        part.add_argument("texts", nargs="+", metavar="TEXT", help="a scene or a listing; a larger one is drawn in windows")
+        part.add_argument("-o", "--output", metavar="PICTURE", help="write what the monitor shows as PNG")
+        part.add_argument("--size", type=int, choices=range(1, 6), nargs=2, default=(3, 4), metavar=("NX", "NY"),
+                          help="the board has 2^NX by 2^NY pixels")
     fitting = command("fpga", "fit a chip on a board's FPGA, and print what it takes", fpga)
-    fitting.add_argument("--board", choices=sorted(chips.BOARDS), required=True, help="the board")
+    fitting.add_argument("--board", choices=("hx8k", "icebreaker", "ulx3s"), required=True, help="the board")
     fitting.add_argument("--size", type=number_from(1), nargs=2, metavar=("NX", "NY"),
                          help="the chip has 2^NX by 2^NY pixels")
     fitting.add_argument("--out", metavar="FILE", help="write the bitstream")
     counting = command("gates", "count the gates of a pixel, a node and two multipliers by Yosys", gates)
     counting.add_argument("--bits", type=number_from(1), action="append", metavar="N",
                           help="memory bits of a pixel (16, 32 and 72)")
-    for part in (checking, drawing, running, sending, simulated):
+    for part in (checking, drawing, sending, simulated):
         part.add_argument("--program", metavar="PROGRAM",
                           help="the program to compare with, if not the one that was built")
     for part in (checking, drawing, sending, simulated):
         part.add_argument("--coarser", type=number_from(1), default=1, metavar="K",
                           help="take only each K-th column and row of a scene")
-    for part in (checking, drawing, simulated, grading):
+    for part in (checking, drawing, grading):
         part.add_argument("--simulator", choices=("iverilog", "verilator"),
                           help="iverilog, or verilator if only that is installed")
     proofs.add_argument("--simulator", choices=("iverilog", "verilator"),
                         help="compare in this simulator alone, not in all that are installed")
-    for part in (checking, drawing, simulated, grading, proofs):
+    for part in (checking, drawing, grading, proofs):
         part.add_argument("--seconds", type=number_from(1), default=simulation.SECONDS, metavar="N",
                           help="seconds of a processor for each simulation or question")
-    for part in (checking, drawing, running, proofs):
+    for part in (checking, drawing, proofs):
         for module in simulation.MODULES:
             part.add_argument("--" + module, metavar="FILE", help="use this file instead of rtl/%s.v" % module)
     return words

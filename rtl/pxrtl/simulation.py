@@ -1,7 +1,9 @@
 """Benches with modules of a user's, compiled for Icarus or Verilator, and what they answer."""
+import hashlib
 import os
 import re
 import shutil
+import tempfile
 
 from pxrtl import programs
 from pxrtl.shared import RTL, Bad
@@ -24,6 +26,27 @@ def bench(leaf):
 
 def proof(leaf):
     return os.path.join(RTL, "proof", leaf)
+
+
+def kept(top, words, sources, driver):
+    """The program that Verilator makes of a top and its driver in C++; it is made if it is not kept in a folder of our own."""
+    verilator, folder = programs.needed("verilator"), os.path.join(tempfile.gettempdir(), "px-rtl-%d" % os.getuid())
+    os.makedirs(folder, mode=0o700, exist_ok=True)
+    found = os.lstat(folder)
+    if os.path.islink(folder) or found.st_uid != os.getuid() or found.st_mode & 0o077:
+        raise Bad("%s is not your own" % folder)
+    total = hashlib.sha256((programs.made([verilator, "--version"], ".") + " ".join(words)).encode())
+    for source in sources + [driver]:
+        with open(source, "rb") as file:
+            total.update(hashlib.sha256(file.read()).digest())
+    path = os.path.join(folder, total.hexdigest()[:32])
+    if not os.path.exists(path):
+        with tempfile.TemporaryDirectory(prefix="making-", dir=folder) as making:
+            programs.made([verilator, "--cc", "--exe", "--build", "-O3", "--x-assign", "fast", "--x-initial", "fast",
+                           "-Wno-fatal", "-Wno-lint", "-CFLAGS", "-O2", "--top-module", top, "--Mdir", making] + words +
+                          sources + [driver], making)
+            os.replace(os.path.join(making, "V" + top), path)
+    return path
 
 
 class Simulation:

@@ -17,7 +17,7 @@ FILES = sorted(path for folder in (".", "proof", "chip", "bench") for path in (R
 def test_file_has_no_warning(path: pathlib.Path, tmp_path: pathlib.Path) -> None:
     top = path.stem.removesuffix("_student")
     kind = re.sub("px_same_|px_|_bench", "", top)
-    if kind in ports.TABLE:
+    if kind in ports.MODULES:
         (tmp_path / "px_dut.v").write_text(ports.wrapper("px_dut", kind, ports.parameters(kind)))
     folders = [word for folder in (tmp_path, RTL, RTL / "proof", RTL / "chip") for word in ("-y", str(folder))]
     done = subprocess.run(["verilator", "--lint-only", "-Wall", "--timing", *folders, "--top-module", top, str(path)],

@@ -11,7 +11,7 @@ from pxrtl import ports, sources, structure
 
 def test_readme_has_the_ports() -> None:
     text = (RTL / "README.md").read_text()
-    for module in ports.TABLE:
+    for module in ports.MODULES:
         part = text.split("## The ports of `%s`" % module)[1].split("\n## ")[0]
         found = [(name, way, width.strip("`").replace(" ", "")) for name, way, width in
                  re.findall(r"^\| `(\w+)` \| (input|output) \| (\S.*?) \|", part, re.M)]
