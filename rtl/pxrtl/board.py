@@ -10,7 +10,7 @@ from typing import Any, Iterable, Iterator
 import numpy as np
 import numpy.typing as npt
 
-from pxrtl import programs, simulation
+from pxrtl import ports, programs, simulation
 from pxrtl.shared import RTL, Bad, listings, micros, program, scenes, sessions, texts
 from pxplanes.image import maps, shades, show
 
@@ -20,8 +20,7 @@ OPERATIONS = ("all", "keep-sign", "keep-bit", "keep-at-most", "keep-less", "load
 FORMED = ("keep-sign", "keep-at-most", "load-linear", "add-linear")
 SHOWN_BITS, TRIES, SECONDS, CLOCKS_A_BIT = 7, 5, 1.0, 8
 MEMORY = re.compile(rb"^pixel (\d+) (\d+) m ([01]+) e ([01])$", re.M)
-SOURCES = [os.path.join(RTL, leaf) for leaf in ("boards/board.v", "boards/video.v", "chip/chip.v", "chip/sequencer.v",
-                                                "chip/serial.v", "chip/word.v", "tree.v", "node.v")]
+SOURCES = [ports.file_of(module) for module in ("board", "video", "chip", "sequencer", "serial", "word", "tree", "node")]
 # A board's FPGA: how yosys, nextpnr and the packer are asked, and its array if no other size is said.
 FITTED = {
     "icebreaker": ("synth_ice40", "nextpnr-ice40 --up5k --package sg48 --pcf %s.pcf --asc", "icepack", (2, 3)),
@@ -34,10 +33,6 @@ Pixels = npt.NDArray[np.uint8]
 def colours_of(numbers: Any) -> Pixels:
     """Colours of three bytes from numbers of 24 bits."""
     return np.stack([numbers >> 16 & 255, numbers >> 8 & 255, numbers & 255], -1).astype(np.uint8)
-
-
-def top_of(board: str) -> str:
-    return os.path.join(RTL, "boards", board + ".v")
 
 
 def groups(number: int, count: int) -> list[int]:
@@ -152,7 +147,7 @@ class Simulated(Link):
 def built(nx: int, ny: int) -> str:
     """The program that runs a board of this size; it is made if it is not kept."""
     words = ["-GNX=%d" % nx, "-GNY=%d" % ny, "-GCLOCKS_A_BIT=%d" % CLOCKS_A_BIT]
-    return simulation.kept("icebreaker", words, [top_of("icebreaker")] + SOURCES, simulation.bench("run_board.cpp"))
+    return simulation.kept("icebreaker", words, [ports.file_of("icebreaker")] + SOURCES, simulation.bench("run_board.cpp"))
 
 
 class Drawing:
@@ -275,7 +270,7 @@ def fitted(folder: str, board: str, nx: int, ny: int) -> tuple[list[str], str]:
     placer, *words = (place % os.path.join(RTL, "boards", board)).split()
     commands = [programs.needed(command) for command in ("yosys", placer, pack)]
     script = "read_verilog %s; chparam -set NX %d -set NY %d %s; %s -top %s -json board.json" % (
-        " ".join([top_of(board)] + SOURCES), nx, ny, board, synth, board)
+        " ".join([ports.file_of(board)] + SOURCES), nx, ny, board, synth, board)
     programs.made([commands[0], "-q", "-p", script], folder)
     printed = programs.made([commands[1]] + words + ["board.asc", "--json", "board.json", "--seed", "1"], folder)
     programs.made([commands[2], "board.asc", "board.bin"], folder)

@@ -1,14 +1,13 @@
 """The words of `rtl/rtl`, and what each command does."""
 import argparse
 import itertools
-import os
 import re
 import shutil
 import sys
 import tempfile
 from typing import Callable, Iterator
 
-from pxrtl import against, directed, marking, programs, proving, simulation, sources
+from pxrtl import against, directed, marking, ports, programs, proving, simulation, sources
 from pxrtl.shared import RTL, Bad, ends, frame
 
 BITS, RANDOM, FIELD, FEW = 72, 1000, 8, 4
@@ -17,16 +16,10 @@ STATUS = "Ends with 0 if all is right (prove: for every size that docs/PROMISES.
     "3 if something is not decided or not asked, 2 for trouble."
 
 
-def own_files() -> dict[str, str]:
-    """The file of each module in rtl/."""
-    return dict({module: simulation.own(module) for module in simulation.MODULES},
-                **{module: os.path.join(RTL, "chip", module + ".v") for module in ("sequencer", "word")})
-
-
 def files_of(said: argparse.Namespace, folder: str) -> tuple[dict[str, str], dict[str, str]]:
     """The file of each module, given or ours; and those that were given."""
     given = {module: getattr(said, module) for module in proving.PROOFS if getattr(said, module, None)}
-    files = own_files()
+    files = {module: ports.file_of(module) for module in ports.MODULES}
     files.update({module: sources.ready(path, module, folder) for module, path in given.items()})
     return files, given
 
@@ -191,7 +184,7 @@ def fpga(said) -> int:
 def counted(module, chosen) -> tuple[int, int]:
     """Cells and flip-flops of a module with its parameters, as Yosys makes them."""
     script = "read_verilog %s; %s hierarchy -top %s; synth -flatten; abc -g gates; opt_clean; stat" % (
-        simulation.own(module), "".join("chparam -set %s %d %s; " % (it + (module,)) for it in chosen.items()), module)
+        ports.file_of(module), "".join("chparam -set %s %d %s; " % (it + (module,)) for it in chosen.items()), module)
     printed = programs.made([programs.needed("yosys"), "-p", script], RTL)
     table = printed[printed.rindex("Number of cells:"):]
     cells = dict((name, int(number)) for name, number in re.findall(r"^\s+(\$_\w+_)\s+(\d+)$", table, re.M))

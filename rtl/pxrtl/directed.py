@@ -8,7 +8,7 @@ import os
 import random
 import re
 
-from pxrtl import simulation
+from pxrtl import ports, simulation
 from pxrtl.shared import micros
 
 BITS = 72
@@ -219,7 +219,7 @@ def run_tree(folder, files, simulator, seconds, levels, told, above, has_waves):
 def node(folder, files, simulator, seconds, seed, waves=None, count=400):
     """How many clocks were run on both nodes, as a tree of one level, and the first fault of each row of each kind."""
     told = list(moves(random.Random(seed), count))
-    files = dict(files, tree=simulation.own("tree"))
+    files = dict(files, tree=ports.file_of("tree"))
     bench, found = run_tree(folder, files, simulator, seconds, 1, told, "parent", bool(waves))
     faults = []
     for clock, row, which, got, due, before in found:

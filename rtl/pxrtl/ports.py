@@ -7,6 +7,7 @@ from typing import NamedTuple
 from pxrtl.shared import RTL
 
 MODULES = ("pixel", "node", "tree", "column", "array", "sequencer", "word")
+ALL = MODULES + ("serial", "chip", "video", "board", "icebreaker", "hx8k", "ulx3s", "tt_um_pxplanes")
 HEAD = re.compile(r"^module (\w+) #\((.*?)\) \((.*?)^\);", re.M | re.S)
 PORT = re.compile(r"^ *(input|output) +(?:wire|reg) *(?:\[(.+?):0\])? *(\w+)", re.M)
 
@@ -50,6 +51,14 @@ def parameters(module: str) -> dict[str, int]:
 def ports(module: str) -> tuple[Port, ...]:
     """The ports of a module."""
     return head_of(module)[1]
+
+
+def row(module: str) -> str:
+    """The row of a module in the table of rtl/README.md."""
+    cells = {way: " ".join("`%s%s`" % (port.name, "" if port.width == "1" else "[%s]" % port.width)
+                           for port in ports(module) if port.direction == way) for way in ("input", "output")}
+    return "| `%s` | %s | %s | %s |" % (module, ", ".join("%s = %d" % it for it in parameters(module).items()),
+                                        cells["input"], cells["output"])
 
 
 def declared(module: str) -> str:

@@ -5,19 +5,15 @@ import re
 import shutil
 import tempfile
 
-from pxrtl import programs
+from pxrtl import ports, programs
 from pxrtl.shared import RTL, Bad
 
-MODULES = ("pixel", "node", "tree", "column", "array")
+MODULES = ports.MODULES[:5]
 REGISTERS = ("enable", "carry", "latch", "leaf")
 END = re.compile(r"^end \d+$", re.M)
 SECONDS = 60
 # A short run is compiled sooner than it is made fast.
 UNHURRIED = ["-MAKEFLAGS", "OPT_FAST=-O0 OPT_SLOW=-O0 OPT_GLOBAL=-O0"]
-
-
-def own(module):
-    return os.path.join(RTL, module + ".v")
 
 
 def bench(leaf):
@@ -106,7 +102,7 @@ class Bench:
 
     def __init__(self, folder, files, nx, ny, bits, made_, simulator=None, seconds=SECONDS, has_waves=True):
         self.folder, self.nx, self.ny, self.bits, self.micros, self.clocks = folder, nx, ny, bits, made_, len(made_)
-        self.pixels, self.ports_alone = 1 << nx + ny, files["array"] != own("array") or files["column"] != own("column")
+        self.pixels, self.ports_alone = 1 << nx + ny, files["array"] != ports.file_of("array") or files["column"] != ports.file_of("column")
         self.write("program.hex", ["%05x" % micro.code() for micro in made_])
         self.write("texts.hex", [in_hex(micro.text(), 40) for micro in made_] + [in_hex("", 40)])
         values = {"NX": nx, "NY": ny, "N": bits, "CLOCKS": len(made_)}

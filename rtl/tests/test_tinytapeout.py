@@ -4,16 +4,16 @@ import re
 import shutil
 
 import pytest
-from conftest import RTL, Edited
+from conftest import RTL, TESTS, Edited
 
-from pxrtl import simulation, yosys
+from pxrtl import ports, simulation, yosys
 
 NAME = "tinytapeout/tt_um_pxplanes"
-PARTS = [simulation.own(module) for module in simulation.MODULES]
+PARTS = [ports.file_of(module) for module in simulation.MODULES]
 
 
 def difference(path: pathlib.Path, folder: pathlib.Path) -> str:
-    texts = [simulation.bench("px_tt_bench.v"), simulation.proof("px_whole.v"), simulation.proof("px_acts.v"), str(path)]
+    texts = [str(TESTS / "px_tt_bench.v"), simulation.proof("px_whole.v"), simulation.proof("px_acts.v"), str(path)]
     bench = simulation.Simulation(str(folder), "px_tt_bench", texts + PARTS, {"CLOCKS": 10000}, "iverilog", has_waves=False)
     return str(bench.run("answers.txt"))
 
