@@ -1,4 +1,4 @@
-"""A board (rtl/boards/): scenes sent to its serial port, or to that of a whole board in Verilator, and the picture that it shows."""
+"""A board (rtl/boards/), real or in Verilator: scenes sent to its serial port, and the picture that it shows."""
 import os
 import re
 import select
@@ -20,7 +20,7 @@ OPERATIONS = ("all", "keep-sign", "keep-bit", "keep-at-most", "keep-less", "load
 FORMED = ("keep-sign", "keep-at-most", "load-linear", "add-linear")
 SHOWN_BITS, TRIES, SECONDS, CLOCKS_A_BIT = 7, 5, 1.0, 8
 MEMORY = re.compile(rb"^pixel (\d+) (\d+) m ([01]+) e ([01])$", re.M)
-SOURCES = [ports.file_of(module) for module in ("board", "video", "chip", "sequencer", "serial", "word", "tree", "node")]
+SOURCES = list(map(ports.file_of, ("board", "video", "chip", "sequencer", "serial", "word", "tree", "node")))
 # A board's FPGA: how yosys, nextpnr and the packer are asked, and its array if no other size is said.
 FITTED = {
     "icebreaker": ("synth_ice40", "nextpnr-ice40 --up5k --package sg48 --pcf %s.pcf --asc", "icepack", (2, 3)),
@@ -260,7 +260,7 @@ class Drawing:
         return "%s: %d by %d pixels on %s of %d by %d%s; it holds what `play` prints%s%s" % (
             (path,) + self.size + (board, 1 << self.nx, 1 << self.ny, windows,
                                    ", and `render` draws the same" * bool(self.scene),
-                                   "" if self.bits <= SHOWN_BITS else "; colours are those of the lowest 7 bits of a face"))
+                                   "; a colour has 7 bits of a face's number" * (self.bits > SHOWN_BITS)))
 
 
 def fitted(folder: str, board: str, nx: int, ny: int) -> tuple[list[str], str]:

@@ -36,13 +36,6 @@ def row_lines(rows, faults, still=(), width: int = 13) -> Iterator[str]:
             yield "    clock %d, %s" % (by_row[row].clock, by_row[row].text)
 
 
-def differs(title, rows, faults, still, waves) -> int:
-    """Prints the table of a module that differs, and where its waveforms are."""
-    print("\n".join([title + ":"] + list(row_lines(rows, faults, still))))
-    print("waveforms of the clocks around the first, found and expected: %s" % waves)
-    return proving.WRONG
-
-
 def sizes_for(asked) -> list[tuple[int, int]]:
     """The arrays on which sums are tried, small ones first. A column depends on its height alone; a tree has runs of
     its own at each size."""
@@ -51,43 +44,43 @@ def sizes_for(asked) -> list[tuple[int, int]]:
                   key=sum)
 
 
-def check_modules(files, given, said, folder) -> int:
-    """Directed runs of the given modules, or of all; then random microinstructions. The status."""
-    asked, run = set(given) or set(simulation.MODULES), (said.simulator, said.seconds)
+def directed_runs(asked, files, said, folder) -> Iterator[tuple]:
+    """Directed runs of single modules: a title, the rows of its table, the faults, and the rows in which nothing moved."""
+    run = said.simulator, said.seconds
     if "pixel" in asked:
         clocks, faults, still = directed.pixel(folder, files, *run, RANDOM, said.seed, said.waves)
-        if faults:
-            status = differs("one pixel, %d clocks, each act at each place" % clocks, directed.ROWS, faults, still,
-                             said.waves)
-            print("".join(line + "\n" for line in sources.latches(files["pixel"], "pixel", folder)), end="")
-            return status
-        print("one pixel, %d clocks, each act at each place: nothing differs" % clocks)
+        yield "one pixel, %d clocks, each act at each place" % clocks, directed.ROWS, faults, still
     if "node" in asked:
         clocks, faults = directed.node(folder, files, *run, said.seed, said.waves)
-        if faults:
-            rows = ["%s %s" % (kind, move) for kind in ("even", "odd") for move in directed.MOVES]
-            return differs("both nodes, %d clocks" % clocks, rows, faults, (), said.waves)
-        print("both nodes, %d clocks: nothing differs" % clocks)
+        rows = ["%s %s" % (kind, move) for kind in ("even", "odd") for move in directed.MOVES]
+        yield "both nodes, %d clocks" % clocks, rows, faults, ()
     if "tree" in asked:
         levels, faults = directed.tree(folder, files, *run, said.seed, said.waves)
+        yield ("a tree of %d levels" if faults else "trees of 1 to %d levels") % levels, directed.MOVES, faults, ()
+
+
+def check_modules(files, given, said, folder) -> int:
+    """Directed runs of the given modules, or of all; then random microinstructions, and sums. The status."""
+    asked = set(given) or set(simulation.MODULES)
+    for title, rows, faults, still in directed_runs(asked, files, said, folder):
         if faults:
-            return differs("a tree of %d levels" % levels, directed.MOVES, faults, (), said.waves)
-        print("trees of 1 to %d levels: nothing differs" % levels)
-    made, title = against.at_random(said.random or RANDOM, said.seed,
-                                    BITS), "%d random microinstructions on 4 by 2 pixels" % (
-        said.random or RANDOM)
-    lines = against.check_micros(made, 2, 1, BITS, files, said, folder)
-    if lines:
-        print("%s:\n%s" % (title, "\n".join(lines)))
-        return proving.WRONG
-    print("%s: nothing differs" % title)
-    sizes = sizes_for(asked)
-    for nx, ny in sizes:
-        lines = against.check_micros(against.sums(nx, ny, said.seed, FIELD), nx, ny, FIELD, files, said, folder,
-                                     every=4)
-        if lines:
-            print("sums on %d by %d pixels:\n%s" % (1 << nx, 1 << ny, "\n".join(lines)))
+            latches = sources.latches(files["pixel"], "pixel", folder) if rows == directed.ROWS else []
+            print("\n".join([title + ":", *row_lines(rows, faults, still), "waveforms of the clocks around the first, "
+                             "found and expected: %s" % said.waves, *latches]))
             return proving.WRONG
+        print("%s: nothing differs" % title)
+    count, sizes = said.random or RANDOM, sizes_for(asked)
+    runs = itertools.chain(
+        [("%d random microinstructions on 4 by 2 pixels" % count, against.at_random(count, said.seed, BITS), 2, 1, BITS, 1)],
+        (("sums on %d by %d pixels" % (1 << nx, 1 << ny), against.sums(nx, ny, said.seed, FIELD), nx, ny, FIELD, 4)
+         for nx, ny in sizes))
+    for title, made, nx, ny, bits, every in runs:
+        lines = against.check_micros(made, nx, ny, bits, files, said, folder, every)
+        if lines:
+            print("\n".join([title + ":"] + lines))
+            return proving.WRONG
+        if every == 1:
+            print("%s: nothing differs" % title)
     if sizes:
         print("sums on arrays of %d sizes, up to %d pixels wide and %d high: nothing differs" % (
             len(sizes), 1 << max(nx for nx, _ in sizes), 1 << max(ny for _, ny in sizes)))
@@ -262,8 +255,8 @@ def reader() -> ends.Words:
     sending = command("send", "draw scenes or listings on a board at a serial port, and compare what comes back", send)
     sending.add_argument("--port", required=True, metavar="PORT", help="the serial port, as /dev/ttyUSB1")
     for part in (simulated, sending):
-        part.add_argument("texts", nargs="+", metavar="TEXT", help="a scene or a listing; a larger one is drawn in windows")
-        part.add_argument("-o", "--output", metavar="PICTURE", help="write what the monitor shows as PNG")
+        part.add_argument("texts", nargs="+", metavar="TEXT", help="a scene, drawn in windows if it is larger, or a listing")
+        part.add_argument("-o", "--output", metavar="PICTURE", help="write the picture as PNG")
         part.add_argument("--size", type=int, choices=range(1, 6), nargs=2, default=(3, 4), metavar=("NX", "NY"),
                           help="the board has 2^NX by 2^NY pixels")
     fitting = command("fpga", "fit a chip on a board's FPGA, and print what it takes", fpga)

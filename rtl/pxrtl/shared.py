@@ -1,4 +1,4 @@
-"""What this command takes of the package pxplanes: scenes, sessions, listings, and the microinstructions by the tables."""
+"""What this command takes of the package pxplanes."""
 import os
 import sys
 

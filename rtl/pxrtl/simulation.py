@@ -25,7 +25,7 @@ def proof(leaf):
 
 
 def kept(top, words, sources, driver):
-    """The program that Verilator makes of a top and its driver in C++; it is made if it is not kept in a folder of our own."""
+    """The program that Verilator makes of a top and its driver in C++; it is kept in a folder of our own."""
     verilator, folder = programs.needed("verilator"), os.path.join(tempfile.gettempdir(), "px-rtl-%d" % os.getuid())
     os.makedirs(folder, mode=0o700, exist_ok=True)
     found = os.lstat(folder)
