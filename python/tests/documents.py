@@ -50,7 +50,7 @@ OF_SOURCES = (("BITS", "crates/px_commands/src/command_words.rt", r"const PIXEL_
               ("FORM_C", "crates/px_macro/src/limits.rt", r"is_within\(form.c, 1 << (\d+)\)"),
               ("FIELD", "crates/px_macro/src/limits.rt", r"field.len <= (\d+)"),
               ("GRID", "crates/px_listing/src/limit.rt", r"ListKind::Grid, 1, (\d+), nx\)"))
-RTL_WORDS = ("check", "prove", "marks", "draw", "whole", "bytes", "chip", "fpga")
+RTL_WORDS = ("check", "prove", "marks", "draw", "simulate-board", "send", "fpga")
 OF_LIGHTS = ("unexpected", "word-count", "bad-name", "unknown-name")
 OF_SCENES_ALONE = ("bad-name", "second-name", "bad-expression", "unknown-name", "missing-end")
 OWN_TROUBLE = "1"

@@ -48,7 +48,8 @@ SKIPPED = {"built": "it wants a program that is proved", "archive": NO_LIBRARY, 
 OF_BUILDS = {"archive", "shared", "states"}
 RUNNING = groups.Groups()
 # What runs of documents need, by what is in them.
-NEEDS = (("rtl/rtl ", ("iverilog", "yosys")), ("pxplanes compare", ("numpy",)), ("pxplanes suite", ("numpy",)), ("play_two_sums/stdin; printf", ("states",)))
+NEEDS = (("rtl/rtl ", ("iverilog", "yosys")), ("simulate-board", ("verilator", "numpy")), ("pxplanes compare", ("numpy",)),
+         ("pxplanes suite", ("numpy",)), ("play_two_sums/stdin; printf", ("states",)))
 # A process of a test that takes more of a processor is ended; so is a test that hangs for so long.
 SECONDS_OF_PROCESSOR, SECONDS_OF_WAITING = 600, 3600
 LINKED = ("tools", "cases", "docs", "gallery", "suite", "man", "pxplanes", "python", "rtl", "editors", "include", "page")

@@ -4,31 +4,22 @@ import re
 import sys
 
 from pxrtl import simulation
-from pxrtl.shared import Bad, listings, micros, program, scenes, sessions
+from pxrtl.shared import Bad, listings, micros, program, scenes, sessions, texts
 
 BITS = 72
 AROUND = 12
 COMMANDS_AT_ONCE = 900000
 MEMORY = re.compile(rb"^pixel (\d+) (\d+) m ([01]+) e ([01])$", re.M)
-FORM = re.compile(rb"^(\s*(?:front|back|side)\s+)(-?\d+)(\s+)(-?\d+)(\s.*)$")
-PICTURE = re.compile(rb"^(\s*picture\s+)(\d+)(\s+)(\d+)(.*)$")
 PIXEL = re.compile(rb"^pixel \d+ \d+ m (\d+) e (\d) k (\d) l (\d) t (\d)$")
 PROGRAM, TABLE = "by the program", "by the tables"
 
 
 def coarser(scene, every):
     """A scene's text over each so-many-th column and row alone."""
-    lines = []
-    for line in scene.split(b"\n"):
-        form, picture = FORM.match(line), PICTURE.match(line)
-        if form:
-            head, a, gap, b, tail = form.groups()
-            line = head + b"%d" % (int(a) * every) + gap + b"%d" % (int(b) * every) + tail
-        elif picture:
-            head, width, gap, height, tail = picture.groups()
-            line = head + b"%d" % -(-int(width) // every) + gap + b"%d" % -(-int(height) // every) + tail
-        lines.append(line)
-    return b"\n".join(lines)
+    try:
+        return texts.text_of(texts.coarser(scenes.read(scene), every)).encode() if every > 1 else scene
+    except scenes.Refusal as refusal:
+        raise Bad(refusal.note)
 
 
 class Run:

@@ -5,7 +5,7 @@ import shutil
 import tempfile
 from typing import TYPE_CHECKING, Callable, Iterator
 
-from pxrtl import against, directed, ports, programs, simulation
+from pxrtl import against, directed, ports, simulation
 from pxrtl.shared import Bad
 
 if TYPE_CHECKING:
@@ -76,9 +76,6 @@ def lines(module: str, files: dict[str, str], seconds: int, only: str | None = N
         with tempfile.TemporaryDirectory(prefix="px-rtl-") as folder:
             try:
                 wrong = RUNS[module](folder, files, simulator, seconds)
-            except programs.TooLong as why:
-                yield Line("%s in %s: not decided: %s" % (module, simulator, why), UNDECIDED)
-                continue
             except Bad as why:
                 yield Line("%s in %s: not decided: %s" % (module, simulator, why), UNDECIDED)
                 continue

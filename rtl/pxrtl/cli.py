@@ -1,14 +1,14 @@
 """The words of `rtl/rtl`, and what each command does."""
 import argparse
-import os
+import itertools
 import re
 import shutil
 import sys
 import tempfile
 from typing import Callable, Iterator
 
-from pxrtl import against, chips, directed, marking, programs, proving, simulation, sources, whole
-from pxrtl.shared import RTL, Bad, ends, program
+from pxrtl import against, directed, marking, ports, programs, proving, simulation, sources
+from pxrtl.shared import RTL, Bad, ends, frame
 
 BITS, RANDOM, FIELD, FEW = 72, 1000, 8, 4
 SIZES = ((1, 1), (1, 2), (2, 2), (3, 2)) + tuple((nx, 1) for nx in range(3, 10)) + tuple((1, ny) for ny in range(3, 10))
@@ -16,16 +16,10 @@ STATUS = "Ends with 0 if all is right (prove: for every size that docs/PROMISES.
     "3 if something is not decided or not asked, 2 for trouble."
 
 
-def own_files() -> dict[str, str]:
-    """The file of each module in rtl/."""
-    return dict({module: simulation.own(module) for module in simulation.MODULES},
-                **{module: os.path.join(RTL, "chip", module + ".v") for module in ("sequencer", "word")})
-
-
 def files_of(said: argparse.Namespace, folder: str) -> tuple[dict[str, str], dict[str, str]]:
     """The file of each module, given or ours; and those that were given."""
     given = {module: getattr(said, module) for module in proving.PROOFS if getattr(said, module, None)}
-    files = own_files()
+    files = {module: ports.file_of(module) for module in ports.MODULES}
     files.update({module: sources.ready(path, module, folder) for module, path in given.items()})
     return files, given
 
@@ -42,13 +36,6 @@ def row_lines(rows, faults, still=(), width: int = 13) -> Iterator[str]:
             yield "    clock %d, %s" % (by_row[row].clock, by_row[row].text)
 
 
-def differs(title, rows, faults, still, waves) -> int:
-    """Prints the table of a module that differs, and where its waveforms are."""
-    print("\n".join([title + ":"] + list(row_lines(rows, faults, still))))
-    print("waveforms of the clocks around the first, found and expected: %s" % waves)
-    return proving.WRONG
-
-
 def sizes_for(asked) -> list[tuple[int, int]]:
     """The arrays on which sums are tried, small ones first. A column depends on its height alone; a tree has runs of
     its own at each size."""
@@ -57,43 +44,43 @@ def sizes_for(asked) -> list[tuple[int, int]]:
                   key=sum)
 
 
-def check_modules(files, given, said, folder) -> int:
-    """Directed runs of the given modules, or of all; then random microinstructions. The status."""
-    asked, run = set(given) or set(simulation.MODULES), (said.simulator, said.seconds)
+def directed_runs(asked, files, said, folder) -> Iterator[tuple]:
+    """Directed runs of single modules: a title, the rows of its table, the faults, and the rows in which nothing moved."""
+    run = said.simulator, said.seconds
     if "pixel" in asked:
         clocks, faults, still = directed.pixel(folder, files, *run, RANDOM, said.seed, said.waves)
-        if faults:
-            status = differs("one pixel, %d clocks, each act at each place" % clocks, directed.ROWS, faults, still,
-                             said.waves)
-            print("".join(line + "\n" for line in sources.latches(files["pixel"], "pixel", folder)), end="")
-            return status
-        print("one pixel, %d clocks, each act at each place: nothing differs" % clocks)
+        yield "one pixel, %d clocks, each act at each place" % clocks, directed.ROWS, faults, still
     if "node" in asked:
         clocks, faults = directed.node(folder, files, *run, said.seed, said.waves)
-        if faults:
-            rows = ["%s %s" % (kind, move) for kind in ("even", "odd") for move in directed.MOVES]
-            return differs("both nodes, %d clocks" % clocks, rows, faults, (), said.waves)
-        print("both nodes, %d clocks: nothing differs" % clocks)
+        rows = ["%s %s" % (kind, move) for kind in ("even", "odd") for move in directed.MOVES]
+        yield "both nodes, %d clocks" % clocks, rows, faults, ()
     if "tree" in asked:
         levels, faults = directed.tree(folder, files, *run, said.seed, said.waves)
+        yield ("a tree of %d levels" if faults else "trees of 1 to %d levels") % levels, directed.MOVES, faults, ()
+
+
+def check_modules(files, given, said, folder) -> int:
+    """Directed runs of the given modules, or of all; then random microinstructions, and sums. The status."""
+    asked = set(given) or set(simulation.MODULES)
+    for title, rows, faults, still in directed_runs(asked, files, said, folder):
         if faults:
-            return differs("a tree of %d levels" % levels, directed.MOVES, faults, (), said.waves)
-        print("trees of 1 to %d levels: nothing differs" % levels)
-    made, title = against.at_random(said.random or RANDOM, said.seed,
-                                    BITS), "%d random microinstructions on 4 by 2 pixels" % (
-        said.random or RANDOM)
-    lines = against.check_micros(made, 2, 1, BITS, files, said, folder)
-    if lines:
-        print("%s:\n%s" % (title, "\n".join(lines)))
-        return proving.WRONG
-    print("%s: nothing differs" % title)
-    sizes = sizes_for(asked)
-    for nx, ny in sizes:
-        lines = against.check_micros(against.sums(nx, ny, said.seed, FIELD), nx, ny, FIELD, files, said, folder,
-                                     every=4)
-        if lines:
-            print("sums on %d by %d pixels:\n%s" % (1 << nx, 1 << ny, "\n".join(lines)))
+            latches = sources.latches(files["pixel"], "pixel", folder) if rows == directed.ROWS else []
+            print("\n".join([title + ":", *row_lines(rows, faults, still), "waveforms of the clocks around the first, "
+                             "found and expected: %s" % said.waves, *latches]))
             return proving.WRONG
+        print("%s: nothing differs" % title)
+    count, sizes = said.random or RANDOM, sizes_for(asked)
+    runs = itertools.chain(
+        [("%d random microinstructions on 4 by 2 pixels" % count, against.at_random(count, said.seed, BITS), 2, 1, BITS, 1)],
+        (("sums on %d by %d pixels" % (1 << nx, 1 << ny), against.sums(nx, ny, said.seed, FIELD), nx, ny, FIELD, 4)
+         for nx, ny in sizes))
+    for title, made, nx, ny, bits, every in runs:
+        lines = against.check_micros(made, nx, ny, bits, files, said, folder, every)
+        if lines:
+            print("\n".join([title + ":"] + lines))
+            return proving.WRONG
+        if every == 1:
+            print("%s: nothing differs" % title)
     if sizes:
         print("sums on arrays of %d sizes, up to %d pixels wide and %d high: nothing differs" % (
             len(sizes), 1 << max(nx for nx, _ in sizes), 1 << max(ny for _, ny in sizes)))
@@ -149,36 +136,38 @@ def draw(said) -> int:
     return proving.PROVED
 
 
-def whole_(said) -> int:
-    statuses, built = [], program.needed(said.program)
-    with tempfile.TemporaryDirectory(prefix="px-rtl-") as folder:
-        files, _ = files_of(said, folder)
-        for path in said.scenes:
-            lines, status = whole.check(path, ends.content(path), built, files, said.size, said.times)
-            print("\n".join(lines), flush=True)
-            statuses.append(status)
-    return proving.worst(statuses)
-
-
-def bytes_(said) -> int:
-    _, _, operations, _ = chips.operations(ends.content(said.text), said)
-    sys.stdout.buffer.write(chips.bytes_of(operations))
-    return proving.PROVED
-
-
-def chip(said) -> int:
+def drawings(said, links, named: str) -> int:
+    """Draws scenes on boards, compares what comes back, and writes the last picture."""
+    frame.need_numpy(sys.argv[1:], sys.argv[:1])
+    from pxplanes.image import maps
+    from pxrtl import board
     statuses = []
     for path in said.texts:
-        with tempfile.TemporaryDirectory(prefix="px-rtl-") as folder:
-            line, status = chips.check(path, ends.content(path), said, folder)
-        print(line, flush=True)
-        statuses.append(status)
+        drawing = board.Drawing(ends.content(path), *said.size, said.coarser, said.program)
+        wrong, picture = drawing.drawn(links(board))
+        print("\n  ".join([path + ":"] + wrong if wrong else [drawing.told(path, named)]), flush=True)
+        statuses.append(proving.WRONG if wrong else proving.PROVED)
+        if said.output:
+            with open(said.output, "wb") as file:
+                file.write(maps.png(picture))
     return proving.worst(statuses)
+
+
+def simulate_board(said) -> int:
+    with tempfile.TemporaryDirectory(prefix="px-rtl-") as folder:
+        return drawings(said, lambda board: iter(lambda: board.Simulated(board.built(*said.size), folder), None),
+                        "a simulated board")
+
+
+def send(said) -> int:
+    return drawings(said, lambda board: itertools.repeat(board.Port(said.port)), "the board at " + said.port)
 
 
 def fpga(said) -> int:
+    frame.need_numpy(sys.argv[1:], sys.argv[:1])
+    from pxrtl import board
     with tempfile.TemporaryDirectory(prefix="px-rtl-") as folder:
-        lines, bitstream = chips.fitted(folder, said.board, *(said.size or (0, 0)))
+        lines, bitstream = board.fitted(folder, said.board, *(said.size or (0, 0)))
         print("\n".join(lines))
         if said.out:
             shutil.copyfile(bitstream, said.out)
@@ -188,7 +177,7 @@ def fpga(said) -> int:
 def counted(module, chosen) -> tuple[int, int]:
     """Cells and flip-flops of a module with its parameters, as Yosys makes them."""
     script = "read_verilog %s; %s hierarchy -top %s; synth -flatten; abc -g gates; opt_clean; stat" % (
-        simulation.own(module), "".join("chparam -set %s %d %s; " % (it + (module,)) for it in chosen.items()), module)
+        ports.file_of(module), "".join("chparam -set %s %d %s; " % (it + (module,)) for it in chosen.items()), module)
     printed = programs.made([programs.needed("yosys"), "-p", script], RTL)
     table = printed[printed.rindex("Number of cells:"):]
     cells = dict((name, int(number)) for name, number in re.findall(r"^\s+(\$_\w+_)\s+(\d+)$", table, re.M))
@@ -261,41 +250,38 @@ def reader() -> ends.Words:
     grading.add_argument("--jobs", metavar="N", help="files that are looked at side by side")
     drawing = command("draw", "print the picture that the array holds after a scene's last clock", draw)
     drawing.add_argument("scene", metavar="SCENE")
-    running = command("whole",
-                      "run whole scenes on an array by Verilator, and compare each operation with the library for C",
-                      whole_)
-    running.add_argument("scenes", nargs="+", metavar="SCENE")
-    running.add_argument("--size", type=int, choices=range(1, 7), nargs=2, default=whole.SIZE, metavar=("NX", "NY"),
-                         help="the array has 2^NX by 2^NY pixels")
-    running.add_argument("--times", action="store_true", help="print how long both took")
-    sending = command("bytes", "write the bytes that a chip on a board must receive", bytes_)
-    sending.add_argument("text", metavar="TEXT")
-    simulated = command("chip",
-                        "send scenes or listings to the chip in a simulation, and compare the answer with `play`", chip)
-    simulated.add_argument("texts", nargs="+", metavar="TEXT")
+    simulated = command("simulate-board", "draw scenes or listings on a whole board in Verilator, and compare what comes "
+                        "back with `play` and `render`", simulate_board)
+    sending = command("send", "draw scenes or listings on a board at a serial port, and compare what comes back", send)
+    sending.add_argument("--port", required=True, metavar="PORT", help="the serial port, as /dev/ttyUSB1")
+    for part in (simulated, sending):
+        part.add_argument("texts", nargs="+", metavar="TEXT", help="a scene, drawn in windows if it is larger, or a listing")
+        part.add_argument("-o", "--output", metavar="PICTURE", help="write the picture as PNG")
+        part.add_argument("--size", type=int, choices=range(1, 6), nargs=2, default=(3, 4), metavar=("NX", "NY"),
+                          help="the board has 2^NX by 2^NY pixels")
     fitting = command("fpga", "fit a chip on a board's FPGA, and print what it takes", fpga)
-    fitting.add_argument("--board", choices=sorted(chips.BOARDS), required=True, help="the board")
+    fitting.add_argument("--board", choices=("hx8k", "icebreaker", "ulx3s"), required=True, help="the board")
     fitting.add_argument("--size", type=number_from(1), nargs=2, metavar=("NX", "NY"),
                          help="the chip has 2^NX by 2^NY pixels")
     fitting.add_argument("--out", metavar="FILE", help="write the bitstream")
     counting = command("gates", "count the gates of a pixel, a node and two multipliers by Yosys", gates)
     counting.add_argument("--bits", type=number_from(1), action="append", metavar="N",
                           help="memory bits of a pixel (16, 32 and 72)")
-    for part in (checking, drawing, running, sending, simulated):
+    for part in (checking, drawing, sending, simulated):
         part.add_argument("--program", metavar="PROGRAM",
                           help="the program to compare with, if not the one that was built")
     for part in (checking, drawing, sending, simulated):
         part.add_argument("--coarser", type=number_from(1), default=1, metavar="K",
                           help="take only each K-th column and row of a scene")
-    for part in (checking, drawing, simulated, grading):
+    for part in (checking, drawing, grading):
         part.add_argument("--simulator", choices=("iverilog", "verilator"),
                           help="iverilog, or verilator if only that is installed")
     proofs.add_argument("--simulator", choices=("iverilog", "verilator"),
                         help="compare in this simulator alone, not in all that are installed")
-    for part in (checking, drawing, simulated, grading, proofs):
+    for part in (checking, drawing, grading, proofs):
         part.add_argument("--seconds", type=number_from(1), default=simulation.SECONDS, metavar="N",
                           help="seconds of a processor for each simulation or question")
-    for part in (checking, drawing, running, proofs):
+    for part in (checking, drawing, proofs):
         for module in simulation.MODULES:
             part.add_argument("--" + module, metavar="FILE", help="use this file instead of rtl/%s.v" % module)
     return words

@@ -8,7 +8,7 @@ import os
 import random
 import re
 
-from pxrtl import simulation
+from pxrtl import ports, simulation
 from pxrtl.shared import micros
 
 BITS = 72
@@ -26,8 +26,7 @@ READS = {"nop": "ecst", "enable-all": "ec", "enable-carry": "ecv", "enable-tree"
          "carry-latch": "ecls", "add-tree": "ects"}
 ANSWER = re.compile(r"^clock (\d+) row (\d+) found (\S+) due (\S+) before (\S+) late ([01x])$", re.M)
 MOVED = re.compile(r"^moved ([01]+)$", re.M)
-NODE_ANSWER = re.compile(r"^clock (\d+) row (\d+) odd ([01]) found (\S+) due (\S+) before (\S+)$", re.M)
-TREE_ANSWER = re.compile(r"^clock (\d+) row (\d+) (\w+) (\d+) found (\S) due (\S)$", re.M)
+NODE_ANSWER = re.compile(r"^clock (\d+) row (\d+) node (\d+) found (\S+) due (\S+) before (\S+)$", re.M)
 
 
 class Input:
@@ -203,28 +202,32 @@ def move_text(code, above):
     return "%s, %s %d, line %d" % (move, above, code >> 2 & 1, code >> 3)
 
 
-def written(folder, told, above):
-    with open(os.path.join(folder, "inputs.hex"), "w") as file:
-        file.writelines("%x\n" % it for it in told)
-    with open(os.path.join(folder, "texts.hex"), "w") as file:
-        file.writelines(simulation.in_hex(move_text(it, above), 24) + "\n" for it in told)
+def run_tree(folder, files, simulator, seconds, levels, told, above, has_waves):
+    """The bench of a tree that was told so much, and of its first differences clock, row, node, what was found, due and
+    before."""
+    for leaf, lines in (("inputs.hex", ["%x" % it for it in told]),
+                        ("texts.hex", [simulation.in_hex(move_text(it, above), 24) for it in told])):
+        with open(os.path.join(folder, leaf), "w") as file:
+            file.writelines(line + "\n" for line in lines)
+    texts = [simulation.bench("px_tree_bench.v"), simulation.proof("px_nodes.v"), files["node"], files["tree"]]
+    bench = simulation.Simulation(folder, "px_tree_bench", texts, {"LEVELS": levels, "CLOCKS": len(told)}, simulator,
+                                  seconds=seconds, has_waves=has_waves)
+    found = NODE_ANSWER.findall(bench.run("answers.txt"))
+    return bench, [tuple(map(int, it[:3])) + it[3:] for it in found]
 
 
 def node(folder, files, simulator, seconds, seed, waves=None, count=400):
-    """How many clocks were run on both nodes, and the first fault of each row of each kind."""
+    """How many clocks were run on both nodes, as a tree of one level, and the first fault of each row of each kind."""
     told = list(moves(random.Random(seed), count))
-    written(folder, told, "parent")
-    bench = simulation.Simulation(folder, "px_node_bench", [simulation.bench("px_node_bench.v"), files["node"]],
-                                  {"CLOCKS": len(told)}, simulator,
-                                  seconds=seconds, has_waves=bool(waves))
+    files = dict(files, tree=ports.file_of("tree"))
+    bench, found = run_tree(folder, files, simulator, seconds, 1, told, "parent", bool(waves))
     faults = []
-    for clock, row, odd, found, due, before in NODE_ANSWER.findall(bench.run("answers.txt")):
-        kind, step = "odd" if odd == "1" else "even", told[int(clock)]
-        wrong = ["%s is %s, and %s is expected" % it for it in zip(("its output", "its carry"), found, due)
+    for clock, row, which, got, due, before in found:
+        wrong = ["%s is %s, and %s is expected" % it for it in zip(("its output", "its carry"), got[1:], due[1:])
                  if it[1] != it[2]]
-        faults.append(Fault("%s %s" % (kind, MOVES[int(row)]), int(clock),
+        faults.append(Fault("%s %s" % ("odd" if which % 2 else "even", MOVES[row]), clock,
                             "parent %d, line %d, output %s, carry %s: %s" % (
-            step >> 2 & 1, step >> 3, before[0], before[1], "; ".join(wrong))))
+            told[clock] >> 2 & 1, told[clock] >> 3, before[0], before[1], "; ".join(wrong))))
     shown(bench, faults, waves)
     return len(told), faults
 
@@ -233,20 +236,17 @@ def tree(folder, files, simulator, seconds, seed, waves=None, sizes=range(1, 10)
     """The greatest size of a tree that was run, and the first fault of each row of the first size that has one."""
     for levels in sizes:
         told = list(moves(random.Random(seed), count or (100 if levels < WIDE else 14), levels))
-        written(folder, told, "root")
-        bench = simulation.Simulation(folder, "px_tree_bench", [simulation.bench("px_tree_bench.v"), files["node"],
-                files["tree"]],
-                               {"LEVELS": levels, "CLOCKS": len(told)}, simulator, seconds=seconds,
-                                      has_waves=bool(waves))
-        faults = []
-        for clock, row, vector, at, found, due in TREE_ANSWER.findall(bench.run("answers.txt")):
-            level = max(1, int(at)).bit_length() - 1
-            name = "leaf %s" % at if vector == "leaves" else "bit %s of %s" % (at, vector) if int(at) < 2 else \
-                "node %d of level %d, its %s" % (int(at) - (1 << level), level, "output" if vector == "outs"
-                                                 else "carry")
-            faults.append(Fault(MOVES[int(row)], int(clock), "tree of %d levels: %s is %s, and %s is expected" %
-                                (levels, name, found, due)))
+        bench, found = run_tree(folder, files, simulator, seconds, levels, told, "root", bool(waves))
+        faults = {}
+        for clock, row, which, got, due, _ in found:
+            at = next(at for at in (1, 2, 0) if got[at] != due[at])
+            level = max(1, which).bit_length() - 1
+            name = "leaf %d" % (which - (1 << levels)) if at == 0 else "bit %d of %s" % (
+                which, ("outs", "carries")[at - 1]) if which < 2 else "node %d of level %d, its %s" % (
+                which - (1 << level), level, ("output", "carry")[at - 1])
+            faults.setdefault(row, Fault(MOVES[row], clock, "tree of %d levels: %s is %s, and %s is expected" % (
+                levels, name, got[at], due[at])))
         if faults:
-            shown(bench, faults, waves)
-            return levels, faults
+            shown(bench, list(faults.values()), waves)
+            return levels, list(faults.values())
     return max(sizes), []

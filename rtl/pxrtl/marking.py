@@ -4,7 +4,7 @@ import html
 import os
 import tempfile
 
-from pxrtl import directed, proving, programs, simulation, sources
+from pxrtl import directed, ports, programs, proving, simulation, sources
 from pxrtl.shared import Bad
 
 SHORT = {"enable-all": "enA", "enable-carry": "enC", "enable-tree": "enT", "enable-bit": "enB", "set-carry": "set",
@@ -89,7 +89,7 @@ def marked_file(path, simulator, seconds, is_asked):
     name, proof = os.path.basename(path), None
     with tempfile.TemporaryDirectory(prefix="px-rtl-") as folder:
         try:
-            files = {module: simulation.own(module) for module in simulation.MODULES}
+            files = {module: ports.file_of(module) for module in simulation.MODULES}
             files["pixel"] = sources.ready(path, "pixel", folder)
             _, faults, still = directed.pixel(folder, files, simulator, seconds, 1000, SEED)
             if is_asked:

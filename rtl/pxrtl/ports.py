@@ -1,21 +1,21 @@
-"""The ports of each module, in one table: for stubs, wrappers, the check of a file's ports, and the tables of
-rtl/README.md."""
+"""The ports of each module, as its file in rtl/ declares them: for stubs, wrappers, and the check of a file's ports."""
+import functools
+import os
 import re
 from typing import NamedTuple
 
-# Inputs, then outputs; a width stands after a colon, as an expression over the parameters.
-TABLE = {
-    "pixel": ({"N": 72}, "clk open act:4 place:8 value tree", "memory:N enable carry latch"),
-    "node": ({"ODD": 0}, "clk clear feed parent line", "out carry"),
-    "tree": ({"LEVELS": 1}, "clk clear feed root line", "leaves:(1<<LEVELS) outs:(2<<LEVELS) carries:(2<<LEVELS)"),
-    "column": ({"NY": 1, "N": 72}, "clk open clear feed root line_b act:4 place:8 value scan:8",
-               "plane:(1<<NY) enables:(1<<NY) carries:(1<<NY) latches:(1<<NY)"),
-    "array": ({"NX": 1, "NY": 1, "N": 72}, "clk open clear feed line_a line_b line_c act:4 place:8 value scan:8",
-              "plane:(1<<(NX+NY)) enables:(1<<(NX+NY)) carries:(1<<(NX+NY)) latches:(1<<(NX+NY))"),
-    "sequencer": ({"NX": 1, "NY": 1, "N": 72}, "clk reset start operation:4 at:8 length:6 to:8 a:29 b:29 c:40",
-                  "busy wipe clear feed line_a line_b line_c act:4 place:8 value"),
-    "word": ({"W": 16}, "clk wipe act:4 place:8 value next_place:8 leaves:W", "stored:W enables:W"),
-}
+from pxrtl.shared import RTL
+
+MODULES = ("pixel", "node", "tree", "column", "array", "sequencer", "word")
+ALL = MODULES + ("serial", "chip", "video", "board", "icebreaker", "hx8k", "ulx3s", "tt_um_pxplanes")
+HEAD = re.compile(r"^module (\w+) #\((.*?)\) \((.*?)^\);", re.M | re.S)
+PORT = re.compile(r"^ *(input|output) +(?:wire|reg) *(?:\[(.+?):0\])? *(\w+)", re.M)
+
+
+def file_of(module: str) -> str:
+    """The file of a module in rtl/."""
+    folders = (os.path.join(RTL, folder) for folder in ("", "chip", "boards", "tinytapeout"))
+    return next(path for path in (os.path.join(folder, module + ".v") for folder in folders) if os.path.exists(path))
 
 
 class Port(NamedTuple):
@@ -27,23 +27,38 @@ class Port(NamedTuple):
 
     def bits(self, values: dict[str, int]) -> int:
         """The width for these values of the parameters."""
-        text = re.sub(r"[A-Z]+", lambda name: str(values[name.group()]), self.width)
+        text = re.sub(r"[A-Z_]+", lambda name: str(values[name.group()]), self.width)
         return int(eval(text, {"__builtins__": {}}))  # only digits, brackets, + and << are left
+
+
+@functools.cache
+def head_of(module: str) -> tuple[dict[str, int], tuple[Port, ...]]:
+    """The parameters of a module with their defaults, and its ports."""
+    with open(file_of(module), encoding="utf-8") as file:
+        found = HEAD.search(file.read())
+    assert found and found.group(1) == module
+    values = {name: int(number) for name, number in re.findall(r"(\w+) = (\d+)", found.group(2))}
+    widths = ((way, re.sub(r" *- *1$", "", high) if not high.isdigit() else str(int(high) + 1), name)
+              for way, high, name in PORT.findall(found.group(3)))
+    return values, tuple(Port(name, way, width or "1") for way, width, name in widths)
 
 
 def parameters(module: str) -> dict[str, int]:
     """The parameters of a module and their defaults."""
-    return TABLE[module][0]
+    return head_of(module)[0]
 
 
-def ports(module: str) -> list[Port]:
-    """The ports of a module, inputs first."""
-    found = []
-    for direction, words in zip(("input", "output"), TABLE[module][1:]):
-        for word in words.split():
-            name, _, width = word.partition(":")
-            found.append(Port(name, direction, width or "1"))
-    return found
+def ports(module: str) -> tuple[Port, ...]:
+    """The ports of a module."""
+    return head_of(module)[1]
+
+
+def row(module: str) -> str:
+    """The row of a module in the table of rtl/README.md."""
+    cells = {way: " ".join("`%s%s`" % (port.name, "" if port.width == "1" else "[%s]" % port.width)
+                           for port in ports(module) if port.direction == way) for way in ("input", "output")}
+    return "| `%s` | %s | %s | %s |" % (module, ", ".join("%s = %d" % it for it in parameters(module).items()),
+                                        cells["input"], cells["output"])
 
 
 def declared(module: str) -> str:

@@ -3,6 +3,7 @@ every lawful input.
 
 A proof is a stream of `Line`s, each with a status, so that a line can be printed as soon as it is known."""
 import concurrent.futures
+import functools
 import itertools
 import os
 import re
@@ -537,13 +538,13 @@ STEPWISE = {
              wipe="-set-at 1 wipe 1"))}
 
 
-def stepwise(folder: str, module: str, path: str, seconds: int) -> Iterator[Line]:
+def stepwise(module: str, folder: str, files: Files, seconds: int) -> Iterator[Line]:
     """A module in each of its clocks, by induction, at each of its sizes."""
     proof = STEPWISE[module]
     for size in proof.sizes:
         title = proof.title(size)
         try:
-            yield stepwise_at(folder, module, path, size, seconds)
+            yield stepwise_at(folder, module, files[module], size, seconds)
         except structure.Refused as why:
             yield Line("%s REFUSED: %s" % (title, why), WRONG)
             return
@@ -571,16 +572,9 @@ def stepwise_at(folder: str, module: str, path: str, size: dict[str, int], secon
                                                             UNDECIDED)
 
 
-def sequencer(folder: str, files: Files, seconds: int) -> Iterator[Line]:
-    yield from stepwise(folder, "sequencer", files["sequencer"], seconds)
-
-
-def word(folder: str, files: Files, seconds: int) -> Iterator[Line]:
-    yield from stepwise(folder, "word", files["word"], seconds)
-
-
 PROOFS: dict[str, Callable[..., Iterator[Line]]] = {
-    "pixel": pixel, "node": node, "tree": tree, "column": column, "array": array, "sequencer": sequencer, "word": word}
+    "pixel": pixel, "node": node, "tree": tree, "column": column, "array": array,
+    "sequencer": functools.partial(stepwise, "sequencer"), "word": functools.partial(stepwise, "word")}
 
 
 def proved(module: str, files: Files, seconds: int, only: str | None = None, **how: int) -> Iterator[Line]:

@@ -1,4 +1,4 @@
-"""What this command takes of the package pxplanes: scenes, sessions, listings, and the microinstructions by the tables."""
+"""What this command takes of the package pxplanes."""
 import os
 import sys
 
@@ -8,7 +8,8 @@ sys.path.insert(0, os.path.join(TOP, "python"))
 
 from pxplanes import ends, program  # noqa: E402
 from pxplanes.errors import Trouble as Bad  # noqa: E402
+from pxplanes.cli import frame  # noqa: E402
 from pxplanes.machine import listings, micros, sessions  # noqa: E402
 from pxplanes.scene import scenes, texts  # noqa: E402
 
-__all__ = ["Bad", "RTL", "TOP", "ends", "listings", "micros", "program", "scenes", "sessions", "texts"]
+__all__ = ["Bad", "RTL", "TOP", "ends", "frame", "listings", "micros", "program", "scenes", "sessions", "texts"]

@@ -1,21 +1,19 @@
 """Benches with modules of a user's, compiled for Icarus or Verilator, and what they answer."""
+import hashlib
 import os
 import re
 import shutil
+import tempfile
 
-from pxrtl import programs
+from pxrtl import ports, programs
 from pxrtl.shared import RTL, Bad
 
-MODULES = ("pixel", "node", "tree", "column", "array")
+MODULES = ports.MODULES[:5]
 REGISTERS = ("enable", "carry", "latch", "leaf")
 END = re.compile(r"^end \d+$", re.M)
 SECONDS = 60
 # A short run is compiled sooner than it is made fast.
 UNHURRIED = ["-MAKEFLAGS", "OPT_FAST=-O0 OPT_SLOW=-O0 OPT_GLOBAL=-O0"]
-
-
-def own(module):
-    return os.path.join(RTL, module + ".v")
 
 
 def bench(leaf):
@@ -24,6 +22,27 @@ def bench(leaf):
 
 def proof(leaf):
     return os.path.join(RTL, "proof", leaf)
+
+
+def kept(top, words, sources, driver):
+    """The program that Verilator makes of a top and its driver in C++; it is kept in a folder of our own."""
+    verilator, folder = programs.needed("verilator"), os.path.join(tempfile.gettempdir(), "px-rtl-%d" % os.getuid())
+    os.makedirs(folder, mode=0o700, exist_ok=True)
+    found = os.lstat(folder)
+    if os.path.islink(folder) or found.st_uid != os.getuid() or found.st_mode & 0o077:
+        raise Bad("%s is not your own" % folder)
+    total = hashlib.sha256((programs.made([verilator, "--version"], ".") + " ".join(words)).encode())
+    for source in sources + [driver]:
+        with open(source, "rb") as file:
+            total.update(hashlib.sha256(file.read()).digest())
+    path = os.path.join(folder, total.hexdigest()[:32])
+    if not os.path.exists(path):
+        with tempfile.TemporaryDirectory(prefix="making-", dir=folder) as making:
+            programs.made([verilator, "--cc", "--exe", "--build", "-O3", "--x-assign", "fast", "--x-initial", "fast",
+                           "-Wno-fatal", "-Wno-lint", "-CFLAGS", "-O2", "--top-module", top, "--Mdir", making] + words +
+                          sources + [driver], making)
+            os.replace(os.path.join(making, "V" + top), path)
+    return path
 
 
 class Simulation:
@@ -83,7 +102,7 @@ class Bench:
 
     def __init__(self, folder, files, nx, ny, bits, made_, simulator=None, seconds=SECONDS, has_waves=True):
         self.folder, self.nx, self.ny, self.bits, self.micros, self.clocks = folder, nx, ny, bits, made_, len(made_)
-        self.pixels, self.ports_alone = 1 << nx + ny, files["array"] != own("array") or files["column"] != own("column")
+        self.pixels, self.ports_alone = 1 << nx + ny, files["array"] != ports.file_of("array") or files["column"] != ports.file_of("column")
         self.write("program.hex", ["%05x" % micro.code() for micro in made_])
         self.write("texts.hex", [in_hex(micro.text(), 40) for micro in made_] + [in_hex("", 40)])
         values = {"NX": nx, "NY": ny, "N": bits, "CLOCKS": len(made_)}

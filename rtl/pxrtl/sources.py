@@ -9,7 +9,6 @@ from typing import Iterator
 from pxrtl import ports, programs, structure
 from pxrtl.shared import Bad, ends
 
-MODULES = ("pixel", "node", "tree", "column", "array", "sequencer", "word")
 OURS = "px_"
 VHDL = (".vhd", ".vhdl")
 KINDS = (".v", ".sv") + VHDL
@@ -147,10 +146,10 @@ def ready(path: str, module: str, folder: str) -> str:
     found = modules_of(text.decode("latin-1"))
     if module not in found:
         raise Bad("%s: it has no module %s" % (path, module))
-    taken = sorted(name for name in found if name.startswith(OURS) or name in MODULES and name != module)
+    taken = sorted(name for name in found if name.startswith(OURS) or name in ports.MODULES and name != module)
     if taken:
         raise Bad("%s: it defines `%s` too, a name that this tool needs%s" % (
-            path, taken[0], "; give that module as --%s" % taken[0] if taken[0] in MODULES else ""))
+            path, taken[0], "; give that module as --%s" % taken[0] if taken[0] in ports.MODULES else ""))
     if path == "-":
         path = os.path.join(folder, "standard_input.v")
         with open(path, "wb") as file:

@@ -138,12 +138,12 @@ class Model(dict[int, dict[str, str]]):
     """An example that the solver found: the public signals of each clock, as texts of bits."""
 
 
-def solved(folder: str, leaf: str, words: list[str], seconds: int | None, proves: bool = True) -> Model | None:
-    """A case against a proof, or an example of a cover; None if the solver shows that there is none."""
+def solved(folder: str, leaf: str, words: list[str], seconds: int | None) -> Model | None:
+    """A case against a proof; None if the solver shows that there is none."""
     printed = run(folder, "read_rtlil %s.il\nsat -show-public %s\n" % (leaf, " ".join(words)), seconds)
     if re.search(r"no model found(: SUCCESS)?[.!]", printed):
         return None
-    at = re.search(r"model found(: FAIL)?[.:!]" if not proves else r"model found: FAIL", printed)
+    at = re.search(r"model found: FAIL", printed)
     if not at:
         raise Bad("yosys gives no answer to a question")
     model = Model()

@@ -11,12 +11,15 @@ from pxrtl import ports, sources, structure
 
 def test_readme_has_the_ports() -> None:
     text = (RTL / "README.md").read_text()
-    for module in ports.TABLE:
-        part = text.split("## The ports of `%s`" % module)[1].split("\n## ")[0]
-        found = [(name, way, width.strip("`").replace(" ", "")) for name, way, width in
-                 re.findall(r"^\| `(\w+)` \| (input|output) \| (\S.*?) \|", part, re.M)]
-        assert found == [(port.name, port.direction, re.sub(r"^\((.*)\)$", r"\1", port.width))
-                         for port in ports.ports(module)]
+    rows = [line for line in text.split("## The ports of all modules")[1].split("\n## ")[0].split("\n") if line[:3] == "| `"]
+    assert rows == [ports.row(module) for module in ports.ALL]
+    pixel = text.split("## The ports of a pixel")[1].split("\n## ")[0]
+    assert re.findall(r"^\| `(\w+)` \| (\w+) \| `?(\w+)`? \|", pixel, re.M) == list(map(tuple, ports.ports("pixel")))
+
+
+def test_every_module_is_in_the_readme() -> None:
+    files = {path.stem for path in RTL.rglob("*.v") if "tests" not in path.parts and not path.stem.startswith("px_")}
+    assert files == {*ports.ALL, "pixel_student", "multipliers"}
 
 
 @pytest.mark.parametrize("line, noted", [

@@ -127,13 +127,13 @@ def run_program(words: Sequence[str]) -> int:
         return refusal.status
 
 
-def need_numpy(words: Sequence[str]) -> None:
+def need_numpy(words: Sequence[str], command: Sequence[str] = ("-m", "pxplanes")) -> None:
     """Goes on in Debian's Python if that one has NumPy, and this one does not."""
     if importlib.util.find_spec("numpy") is not None:
         return
     if os.path.realpath(sys.executable) != os.path.realpath(DEBIAN_PYTHON) and shutil.which(DEBIAN_PYTHON) and subprocess.run(
             [DEBIAN_PYTHON, "-c", "import numpy"], capture_output=True).returncode == 0:
-        os.execv(DEBIAN_PYTHON, [DEBIAN_PYTHON, "-m", "pxplanes", *words])
+        os.execv(DEBIAN_PYTHON, [DEBIAN_PYTHON, *command, *words])
     raise Trouble("%s needs NumPy: install Debian's python3-numpy, or `pip install numpy`" % words[0])
 
 
