@@ -1,4 +1,5 @@
 """Pictures of models, pixel by pixel beside rays that share no code with the tool."""
+import math
 import os
 import random
 import shutil
@@ -8,6 +9,7 @@ import pytest
 import support
 
 numpy = pytest.importorskip("numpy")
+import judged as judged_models
 import ray_judge
 from pxplanes.errors import Trouble
 from pxplanes.image import netpbm
@@ -188,6 +190,30 @@ def test_a_text_of_slim_facets_is_refused_as_parts_and_right_by_columns(tmp_path
     for projection in "op":
         bad, there = judged(tree, projection=projection, size=(96, 40))
         assert not bad and there > 300
+
+
+@NEEDS_OPENSCAD
+@pytest.mark.parametrize("seed", range(1, 21))
+def test_random_programs_are_as_rays_through_openscads_mesh(seed):
+    row, = judged_models.judged(judged_models.subject_of_program(seed), judged_models.WAYS[:1])
+    assert row["word"] == "right", row
+
+
+def boxes(count, hole):
+    """Boxes of the size of a hole at places in a square."""
+    side = math.ceil(math.sqrt(count))
+    return "".join(CUBE % (hole, 5 * (i % side) + 2.5, hole, 5 * (i // side) + 2.5, hole, 2) for i in range(count))
+
+
+@pytest.mark.parametrize("text", ["union() { %s }" % boxes(300, 3), "difference() { %s %s }" % (CUBE % (85, 42.5, 85, 42.5, 4, 2), boxes(289, 4.5)),
+                                  "difference() { %s %s }" % (CUBE % (300, 150, 3, 1.5, 300, 150), "".join(
+                                      CUBE % (302, 150, 1, i % 2 + 0.5, 0.25, i + 0.625) for i in range(299)))])
+def test_more_solids_than_a_scene_may_have_are_drawn_by_columns(text):
+    tree = tree_of(text)
+    with pytest.raises(Trouble, match="the model makes no scene: .* `--draw MAPS` draws it by columns"):
+        modelling.as_one(tree, modelling.seen(tree, modelling.Choices(size=SIZE))[0], modelling.Choices(size=SIZE), True)
+    bad, there = judged(tree, projection="p")
+    assert not bad and there > 300
 
 
 TEN = (("gallery/temple.csg", {"eye": (-62, -118, 11), "at": (1, 0, 12.5), "fov": 31}),

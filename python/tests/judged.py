@@ -1,5 +1,5 @@
 """Random programs of OpenSCAD, and meshes in files, drawn by `pxplanes convert` and judged pixel by pixel: five rays a pixel through the mesh
-that OpenSCAD makes, or through the file's own triangles (python/tests/ray_judge.py). Nothing but the command is of the tool."""
+that OpenSCAD makes, or through the file's own triangles (ray_judge.py). Nothing but the command is of the tool."""
 import collections
 import concurrent.futures
 import glob
@@ -18,9 +18,9 @@ from typing import NamedTuple
 
 import numpy as np
 
-TOP = os.path.join(os.path.dirname(os.path.realpath(__file__)), "../../..")
-sys.path.append(os.path.join(TOP, "python", "tests"))
 import ray_judge
+
+TOP = os.path.realpath(os.path.join(os.path.dirname(__file__), "..", ".."))
 
 SIZE, SECONDS = (96, 72), 60
 RAW = np.dtype([("normal", "<f4", 3), ("corners", "<f4", (3, 3)), ("more", "<u2")])
@@ -284,9 +284,19 @@ def word_of(path, way, words, folder, camera, ends, away):
     return {**row, "word": "right"}
 
 
-def rows_of(subjects, jobs, ways=WAYS):
+def rows_at(work):
+    """The rows of a program, or of a mesh, by its number; of every fifth as one scene too."""
+    is_program, number = work
+    subject = subject_of_program(number) if is_program else subjects_of_files(number + 1)[number]
+    return judged(subject, WAYS if number % 5 == 0 else WAYS[:1])
+
+
+def rows_of(programs, meshes, known, jobs):
+    """The rows of so many programs and meshes, but for those that are known by name, as they come."""
+    works = [(True, number) for number in range(1, programs + 1) if "program %d" % number not in known]
+    works += [(False, own.seed) for own in subjects_of_files(meshes) if own.name not in known]
     with concurrent.futures.ProcessPoolExecutor(jobs) as pool:
-        for done in concurrent.futures.as_completed([pool.submit(judged, subject.seed, ways) for subject in subjects]):
+        for done in concurrent.futures.as_completed([pool.submit(rows_at, work) for work in works]):
             yield from done.result()
 
 
