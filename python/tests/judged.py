@@ -1,5 +1,6 @@
-"""Random programs of OpenSCAD, and meshes in files, drawn by `pxplanes convert` and judged pixel by pixel: five rays a pixel through the mesh
-that OpenSCAD makes, or through the file's own triangles (ray_judge.py). Nothing but the command is of the tool."""
+"""Random programs of OpenSCAD, and meshes in files, drawn by `pxplanes convert` and judged pixel by pixel: five rays a
+pixel through the mesh that OpenSCAD makes, or through the file's own triangles (ray_judge.py). Nothing but the command
+is of the tool."""
 import collections
 import concurrent.futures
 import glob
@@ -22,7 +23,7 @@ import ray_judge
 
 TOP = os.path.realpath(os.path.join(os.path.dirname(__file__), "..", ".."))
 
-SIZE, SECONDS = (96, 72), 60
+SIZE, SECONDS, NEARER = (96, 72), 60, 0.004
 RAW = np.dtype([("normal", "<f4", 3), ("corners", "<f4", (3, 3)), ("more", "<u2")])
 EXAMPLES = "/usr/share/openscad/examples"
 WAYS = ("--draw", "scene")
@@ -30,7 +31,8 @@ WORDS = ("right", "refused", "wrong", "timed out")
 
 
 class Subject(NamedTuple):
-    """A model: what its file is called, how it is written into a folder, and the triangles that rays meet; None for no witness."""
+    """A model: what its file is called, how it is written into a folder, and the triangles that rays meet; None for no
+    witness."""
 
     name: str
     write: object
@@ -69,8 +71,10 @@ def leaf(draw):
         "cylinder(h = %d, r = %d, center = true);" % (2 * a, b // 2 + 1),
         "cylinder(h = %d, r1 = %d, r2 = %d);" % (a, b // 2 + 2, c // 4),
         "sphere(%d);" % (a // 2 + 2),
-        "linear_extrude(%d) polygon(%s);" % (a, [[round(r * math.cos(t), 2), round(r * math.sin(t), 2)] for r, t in corners]),
-        'linear_extrude(%d) text("%s", size = %d, halign = "center", valign = "center");' % (a, draw.choice(("A", "k&", "8", "Rg")), b + 2)))
+        "linear_extrude(%d) polygon(%s);"
+                       % (a, [[round(r * math.cos(t), 2), round(r * math.sin(t), 2)] for r, t in corners]),
+        'linear_extrude(%d) text("%s", size = %d, halign = "center", valign = "center");'
+                       % (a, draw.choice(("A", "k&", "8", "Rg")), b + 2)))
     return "translate([%d, %d, %d]) %s%s" % (*(draw.randint(-6, 6) for _ in range(3)), turn(draw), own)
 
 
@@ -86,7 +90,8 @@ def subject_of_program(seed):
 # ---- files ----
 def by_openscad(source, folder, out):
     """What OpenSCAD exports; None for nothing."""
-    done = subprocess.run(["openscad", "-o", os.path.join(folder, out), source], cwd=folder, capture_output=True, preexec_fn=bounded(300))
+    done = subprocess.run(["openscad", "-o", os.path.join(folder, out), source], cwd=folder, capture_output=True,
+                          preexec_fn=bounded(300))
     path = os.path.join(folder, out)
     return path if done.returncode == 0 and os.path.exists(path) else None
 
@@ -119,12 +124,14 @@ def raw_stl(triangles):
 
 def obj(triangles):
     points, sides = points_of(triangles)
-    return ("".join("v %.9g %.9g %.9g\n" % tuple(own) for own in points) + "".join("f %d %d %d\n" % tuple(own + 1) for own in sides)).encode()
+    return ("".join("v %.9g %.9g %.9g\n" % tuple(own) for own in points) + "".join(
+        "f %d %d %d\n" % tuple(own + 1) for own in sides)).encode()
 
 
 def off(triangles):
     points, sides = points_of(triangles)
-    return ("OFF\n%d %d 0\n" % (len(points), len(sides)) + "".join("%.9g %.9g %.9g\n" % tuple(own) for own in points) + "".join(
+    return ("OFF\n%d %d 0\n" % (len(points), len(sides)) + "".join(
+        "%.9g %.9g %.9g\n" % tuple(own) for own in points) + "".join(
         "3 %d %d %d\n" % tuple(own) for own in sides)).encode()
 
 
@@ -133,13 +140,17 @@ def glb(triangles):
     points, sides = points_of(triangles)
     body = sides.astype("<u4").tobytes() + (points[:, (0, 2, 1)] * (0.001, 0.001, -0.001)).astype("<f4").tobytes()
     head = json.dumps({"asset": {"version": "2.0"}, "scene": 0, "scenes": [{"nodes": [0]}], "nodes": [{"mesh": 0}],
-                       "meshes": [{"primitives": [{"attributes": {"POSITION": 1}, "indices": 0}]}], "buffers": [{"byteLength": len(body)}],
-                       "bufferViews": [{"buffer": 0, "byteLength": sides.size * 4}, {"buffer": 0, "byteOffset": sides.size * 4,
+                       "meshes": [{"primitives": [{"attributes": {"POSITION": 1}, "indices": 0}]}],
+                       "buffers": [{"byteLength": len(body)}],
+                       "bufferViews": [{"buffer": 0, "byteLength": sides.size * 4},
+                                       {"buffer": 0, "byteOffset": sides.size * 4,
                                                                                  "byteLength": points.size * 4}],
                        "accessors": [{"bufferView": 0, "componentType": 5125, "count": sides.size, "type": "SCALAR"},
-                                     {"bufferView": 1, "componentType": 5126, "count": len(points), "type": "VEC3"}]}).encode()
+                                     {"bufferView": 1, "componentType": 5126, "count": len(points),
+                                      "type": "VEC3"}]}).encode()
     head += b" " * (-len(head) % 4)
-    return struct.pack("<4sII", b"glTF", 2, 28 + len(head) + len(body)) + struct.pack("<I4s", len(head), b"JSON") + head + struct.pack(
+    return struct.pack("<4sII", b"glTF", 2, 28 + len(head) + len(body)) + struct.pack(
+        "<I4s", len(head), b"JSON") + head + struct.pack(
         "<I4s", len(body), b"BIN\0") + body
 
 
@@ -147,7 +158,8 @@ FORMS = {"stl": raw_stl, "obj": obj, "off": off, "glb": glb}
 
 
 def subject_of_file(path, form, seed):
-    """A mesh of a file: an STL as it is, of any other what OpenSCAD makes of it; written in a form, or by OpenSCAD itself as words or 3MF."""
+    """A mesh of a file: an STL as it is, of any other what OpenSCAD makes of it; written in a form, or by OpenSCAD
+    itself as words or 3MF."""
     def write(folder):
         is_mesh = path.endswith(".stl")
         source = shutil.copy(path, folder) if is_mesh else path
@@ -160,7 +172,8 @@ def subject_of_file(path, form, seed):
         if form == "words" or not len(triangles):
             return words, triangles
         if form == "3mf":
-            return by_openscad(own if is_mesh else path, os.path.dirname(path), os.path.join(folder, "model.3mf")), triangles
+            return by_openscad(own if is_mesh else path, os.path.dirname(path),
+                               os.path.join(folder, "model.3mf")), triangles
         with open(os.path.join(folder, "model." + form), "wb") as file:
             file.write(FORMS[form](triangles))
         return file.name, triangles
@@ -169,11 +182,13 @@ def subject_of_file(path, form, seed):
 
 
 def subjects_of_files(count):
-    """Meshes that OpenSCAD ships or makes of its examples and of those of this repository, in one form after another."""
+    """Meshes that OpenSCAD ships or makes of its examples and of those of this repository, in one form after
+    another."""
     paths = sorted(glob.glob(EXAMPLES + "/*/*.stl")) + sorted(glob.glob(EXAMPLES + "/*/*.scad"))
     paths += sorted(glob.glob(os.path.join(TOP, "gallery", "*.csg"))) + [os.path.join(TOP, "docs/scenes/bracket.scad")]
     forms = ("words", "obj", "stl", "off", "3mf", "glb")
-    return [subject_of_file(os.path.realpath(paths[at % len(paths)]), forms[(at + at // len(paths)) % len(forms)], at) for at in range(count)]
+    return [subject_of_file(os.path.realpath(paths[at % len(paths)]), forms[(at + at // len(paths)) % len(forms)], at)
+            for at in range(count)]
 
 
 # ---- judging ----
@@ -191,7 +206,8 @@ def camera_words(triangles, seed):
     words = ["--size", *map(str, SIZE)]
     if is_deep:
         near, far = (distance - radius) * 0.98, (distance + radius) * 1.02
-        words += ["--eye=" + listed(eye), "--at=" + listed(middle), "--fov", repr(fov), "--near", repr(near), "--far", repr(far)]
+        words += ["--eye=" + listed(eye), "--at=" + listed(middle), "--fov", repr(fov), "--near", repr(near), "--far",
+                  repr(far)]
         return ray_judge.camera_of(eye, middle, SIZE, True, fov), words, (near, far)
     return ray_judge.camera_of(eye, middle, SIZE, False), words + ["--camera=" + listed([*eye, *middle])], None
 
@@ -201,7 +217,8 @@ def listed(numbers):
 
 
 def run(words, folder):
-    done = subprocess.run([sys.executable, "-m", "pxplanes", *words], cwd=folder, capture_output=True, preexec_fn=bounded(3 * SECONDS), env={
+    done = subprocess.run([sys.executable, "-m", "pxplanes", *words], cwd=folder, capture_output=True,
+                          preexec_fn=bounded(3 * SECONDS), env={
         **os.environ, "PYTHONPATH": os.path.join(TOP, "python")})
     return done.returncode, done.stderr.decode("latin-1").strip().replace(folder + "/", "")
 
@@ -222,7 +239,8 @@ class Lens(NamedTuple):
 
 
 def lens_of(camera, ends, cells, depths, away):
-    """How depths count. Without perspective the tool chooses where they begin and end: the straight line that fits most pixels."""
+    """How depths count. Without perspective the tool chooses where they begin and end: the straight line that fits most
+    pixels."""
     if camera.perspective:
         return Lens(cells / (1 / ends[0] - 1 / ends[1]), ends[0], True)
     there = np.isfinite(away).all(1) & (depths < cells)
@@ -250,11 +268,12 @@ def judged(subject, ways=WAYS):
         is_empty = len(triangles) == 0
         camera, words, ends = camera_words(np.zeros((1, 3, 3)) if is_empty else triangles, subject.seed)
         away = ray_judge.nearest(triangles, camera, SIZE) if not is_empty else np.full((SIZE[0] * SIZE[1], 5), np.inf)
-        return [{"name": subject.name, "way": way, "triangles": len(triangles), **word_of(path, way, words, folder, camera, ends, away)}
+        return [{"name": subject.name, "way": way, "triangles": len(triangles),
+                 **word_of(path, way, words, folder, camera, ends, away, triangles)}
                 for way in ways]
 
 
-def word_of(path, way, words, folder, camera, ends, away):
+def word_of(path, way, words, folder, camera, ends, away, triangles):
     maps, before = os.path.join(folder, "maps"), resource.getrusage(resource.RUSAGE_CHILDREN).ru_utime
     more = ["--draw", maps] if way == "--draw" else ["-o", os.path.join(folder, "out.scene")]
     status, said = run(["convert", *words, "--seconds", str(SECONDS), *more, path], folder)
@@ -263,11 +282,14 @@ def word_of(path, way, words, folder, camera, ends, away):
         why = said.split("\n")[-1]
         if "the model has no solid" in why and not np.isfinite(away).any():
             return {**row, "word": "right", "why": "nothing"}
-        return {**row, "word": "timed out" if "more than %d seconds" % SECONDS in why or status < 0 else "refused", "why": why}
+        return {**row, "word": "timed out" if "more than %d seconds" % SECONDS in why or status < 0 else "refused",
+                "why": why}
     if way == "scene":
         with open(os.path.join(folder, "out.scene")) as scene, open(maps, "wb") as file:
-            if subprocess.run([os.environ["PXPLANES_PROGRAM"], "render"], stdin=scene, stdout=file, preexec_fn=bounded(SECONDS)).returncode:
-                return {**row, "word": "timed out", "why": "the program takes more than %d seconds for its scene" % SECONDS}
+            if subprocess.run([os.environ["PXPLANES_PROGRAM"], "render"], stdin=scene, stdout=file,
+                              preexec_fn=bounded(SECONDS)).returncode:
+                return {**row, "word": "timed out",
+                        "why": "the program takes more than %d seconds for its scene" % SECONDS}
             scene.seek(0)
             cells = 2 ** int(re.search(r"^depth (\d+)", scene.read(), re.M).group(1)) - 1
     else:
@@ -275,7 +297,12 @@ def word_of(path, way, words, folder, camera, ends, away):
     told = [float(number) for number in re.findall(r"rounded by (?:at most )?([-+.e\d]+) cells", said)]
     depths = depths_of(maps)
     lens = lens_of(camera, ends, cells, depths, away)
-    bad, there = ray_judge.wrong_pixels(depths, cells, away, lens, (1 if camera.perspective else 1.6) + sum(told))
+    room = (1 if camera.perspective else 1.6) + sum(told)
+    bad, there = ray_judge.wrong_pixels(depths, cells, away, lens, room)
+    # at a steep face behind an edge the rays around a pixel are not near enough: what is wrong is so by nearer ones too
+    if bad:
+        nearer = ray_judge.nearest(triangles, camera, SIZE, NEARER)
+        bad = sorted(set(bad) & set(ray_judge.wrong_pixels(depths, cells, nearer, lens, room)[0]))
     row.update(pixels=there, rounded=sum(told), columns="drawn by columns" in said)
     if bad:
         x, y = bad[0] % SIZE[0], bad[0] // SIZE[0]
@@ -306,5 +333,6 @@ def table(rows):
     out = ["| What | Way | %s | no witness |" % " | ".join(WORDS), "|---" * 7 + "|"]
     for is_program, what in ((True, "random programs"), (False, "meshes")):
         for way in WAYS:
-            out.append("| %s | %s | %s |" % (what, way, " | ".join(str(counts[is_program, way, word]) for word in (*WORDS, "no witness"))))
+            out.append("| %s | %s | %s |" % (
+                what, way, " | ".join(str(counts[is_program, way, word]) for word in (*WORDS, "no witness"))))
     return out

@@ -1,5 +1,6 @@
-"""Judges pictures of models by rays, with nothing of the tool's code: triangles against rays by Moeller and Trumbore, five rays a pixel, in
-its middle and a little beside it. Camera, files and the random programs are written here too, from the words of docs/MODELLING.md."""
+"""Judges pictures of models by rays, with nothing of the tool's code: triangles against rays by Moeller and Trumbore,
+five rays a pixel, in its middle and a little beside it. Camera, files and the random programs are written here too,
+from the words of docs/MODELLING.md."""
 import math
 from typing import NamedTuple
 
@@ -82,7 +83,8 @@ def hits(triangles, origins, ways, ray):
 
 
 def nearest(triangles, lens, size, beside=BESIDE):
-    """Of each pixel and each of its five rays how far along the axis it meets a mesh first, from either side; infinite for nowhere."""
+    """Of each pixel and each of its five rays how far along the axis it meets a mesh first, from either side; infinite
+    for nowhere."""
     ray, t, _ = crossings(triangles, lens, size, beside)
     out = np.full(5 * size[0] * size[1], np.inf)
     np.minimum.at(out, ray[t > 0] if lens.perspective else ray, t[t > 0] if lens.perspective else t)
@@ -108,16 +110,17 @@ def distances(tree, leaves, triangles, lens, size):
         winding = [0] * len(leaves)
         for (t, number, way), after in zip(own, own[1:] + [(np.inf, 0, 0)]):
             winding[number] += way
-            if after[0] - t > THIN and after[0] > (lens.near if lens.perspective else -np.inf) and holds(tree, leaves, winding):
+            if after[0] - t > THIN and after[0] > (lens.near if lens.perspective else -np.inf) and holds(
+                tree, leaves, winding):
                 out[ray] = max(t, lens.near) if lens.perspective else t
                 break
     return out.reshape(-1, 5)
 
 
 def wrong_pixels(depths, cells, away, lens, room=1.0):
-    """The pixels at which all five rays agree on something or nothing and the picture does not, or whose depth is more than `room` cells
-    beyond all five; and how many pixels have something by all rays. A depth is lens.steep * (Z - lens.near), in perspective
-    lens.steep * (1 / lens.near - 1 / Z)."""
+    """The pixels at which all five rays agree on something or nothing and the picture does not, or whose depth is more
+    than `room` cells beyond all five; and how many pixels have something by all rays. A depth is lens.steep * (Z -
+    lens.near), in perspective lens.steep * (1 / lens.near - 1 / Z)."""
     with np.errstate(divide="ignore", invalid="ignore"):
         deep = lens.steep * ((1 / lens.near - 1 / away) if lens.perspective else (away - lens.near))
     hit, own = np.isfinite(away), np.asarray(depths).ravel()
