@@ -10,10 +10,8 @@ import math
 import re
 from typing import Any, Optional, Sequence
 
-from pxplanes.mesh import kinds
-from pxplanes.mesh import facets
-from pxplanes.mesh import turns
 from pxplanes.errors import Trouble
+from pxplanes.mesh import facets, kinds, turns
 
 FORM = "# camera eye %s turn %s fov %s near %s far %s"
 NUMBER = rb"([-+.0-9eE]+)"

@@ -5,8 +5,7 @@ from __future__ import annotations
 import math
 from typing import Any
 
-from pxplanes.mesh import kinds
-from pxplanes.mesh import facets
+from pxplanes.mesh import facets, kinds
 
 WHOLE, FOREVER = 1e-6, 2.0 ** 40
 

@@ -7,13 +7,8 @@ import re
 from typing import Any, Optional, Sequence
 
 from pxplanes import ends
-from pxplanes.mesh import kinds
-from pxplanes.mesh import mesh_files
-from pxplanes.mesh import openscad
-from pxplanes.mesh import primitives
-from pxplanes.mesh import shaping
-from pxplanes.mesh import solids
 from pxplanes.errors import Trouble
+from pxplanes.mesh import kinds, mesh_files, openscad, primitives, shaping, solids
 from pxplanes.mesh.solids import AS_IS, joined
 
 TOKEN = re.compile(r'\s+|//[^\n]*|/\*.*?\*/|([A-Za-z_$][A-Za-z0-9_$]*)|'

@@ -5,8 +5,7 @@ from __future__ import annotations
 import json
 from typing import Any, Optional, Sequence
 
-from pxplanes.mesh import kinds
-from pxplanes.mesh import facets
+from pxplanes.mesh import facets, kinds
 from pxplanes.scene import rays
 
 GROW = 0.1

@@ -7,9 +7,9 @@ import math
 from fractions import Fraction
 from typing import Any, Optional, Sequence
 
-from pxplanes.scene import limits
 from pxplanes.errors import Trouble
 from pxplanes.mesh import kinds
+from pxplanes.scene import limits
 
 SIX_DIGITS = 5e-6
 SINGLE = 6e-8

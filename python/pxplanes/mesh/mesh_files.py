@@ -11,8 +11,7 @@ import zipfile
 from typing import Any, Callable, Optional, Sequence
 
 from pxplanes.errors import Trouble
-from pxplanes.mesh import kinds
-from pxplanes.mesh import gltf
+from pxplanes.mesh import gltf, kinds
 
 LARGEST = 4000000
 

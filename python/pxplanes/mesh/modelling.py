@@ -8,20 +8,10 @@ import os
 from dataclasses import dataclass
 from typing import Any, Optional, Sequence
 
-from pxplanes.mesh import kinds
-from pxplanes.mesh import bounding
-from pxplanes.mesh import csg
-from pxplanes.mesh import facets
 from pxplanes import ends, program
 from pxplanes.errors import Trouble
-from pxplanes.scene import limits
-from pxplanes.mesh import mesh_files
-from pxplanes.mesh import openscad
-from pxplanes.mesh import perspective
-from pxplanes.scene import rays
-from pxplanes.scene import scenes
-from pxplanes.mesh import solids
-from pxplanes.mesh import views
+from pxplanes.mesh import bounding, csg, facets, kinds, mesh_files, openscad, perspective, solids, views
+from pxplanes.scene import limits, rays, scenes
 
 # The bits of a depth and its fraction bits, where the model is not in perspective and no others are asked.
 USUAL_DEPTH = (12, 8)

@@ -8,8 +8,8 @@ import subprocess
 import tempfile
 from typing import Any, Optional
 
-from pxplanes.mesh import mesh_files
 from pxplanes.errors import Trouble
+from pxplanes.mesh import mesh_files
 
 SECONDS = 600
 IMPORTED = re.compile(r'(\bfile\s*=\s*")((?:[^"\\]|\\.)*)"')

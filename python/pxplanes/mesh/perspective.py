@@ -5,13 +5,8 @@ from __future__ import annotations
 import math
 from typing import Any, Optional, Sequence
 
-from pxplanes.mesh import kinds
-from pxplanes.mesh import cameras
-from pxplanes.mesh import facets
-from pxplanes.mesh import solids
-from pxplanes.mesh import turns
-from pxplanes.mesh import views
 from pxplanes.errors import Trouble
+from pxplanes.mesh import cameras, facets, kinds, solids, turns, views
 
 NEAREST = 0.001
 ROOM = 0.02

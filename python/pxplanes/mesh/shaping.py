@@ -5,11 +5,8 @@ from __future__ import annotations
 import math
 from typing import Any
 
-from pxplanes.mesh import kinds
-from pxplanes.mesh import mesh_files
-from pxplanes.mesh import facets
-from pxplanes.mesh import primitives
 from pxplanes.errors import Trouble
+from pxplanes.mesh import facets, kinds, mesh_files, primitives
 
 PACKAGE = "python3-scipy"
 

@@ -8,9 +8,8 @@ import math
 from typing import Any, Optional, Sequence
 
 from pxplanes import ends
-from pxplanes.mesh import kinds
-from pxplanes.mesh import facets
 from pxplanes.errors import Trouble
+from pxplanes.mesh import facets, kinds
 
 AS_IS = [[1, 0, 0, 0], [0, 1, 0, 0], [0, 0, 1, 0]]
 

@@ -7,17 +7,12 @@ import math
 import os
 from typing import Any, Iterator, Sequence, Union
 
-from pxplanes.errors import Trouble
-from pxplanes.mesh import kinds
-from pxplanes.mesh import facets
-from pxplanes.mesh import modelling
-from pxplanes.image import netpbm
 from pxplanes import program
-from pxplanes.scene import scenes
-from pxplanes.mesh import solids
-from pxplanes.scene import texts
-from pxplanes.mesh import views
+from pxplanes.errors import Trouble
+from pxplanes.image import netpbm
+from pxplanes.mesh import facets, kinds, modelling, solids, views
 from pxplanes.mesh.crossings import Crossings, open_edges, outwards
+from pxplanes.scene import scenes, texts
 
 SIZE, BITS, SIDES, CUTS = (64, 48), (12, 6), 6, 3
 GOLDEN = 180 * (3 - math.sqrt(5))

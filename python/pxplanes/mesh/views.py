@@ -4,10 +4,8 @@ from __future__ import annotations
 import math
 from typing import Any, Sequence
 
-from pxplanes.mesh import kinds
-from pxplanes.mesh import solids
-from pxplanes.mesh import turns
 from pxplanes.errors import Trouble
+from pxplanes.mesh import kinds, solids, turns
 
 FILLS = 0.92
 STEEP = 1e-9
