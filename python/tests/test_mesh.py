@@ -209,12 +209,10 @@ def boxes(count, hole):
     return "".join(CUBE % (hole, 5 * (i % side) + 2.5, hole, 5 * (i // side) + 2.5, hole, 2) for i in range(count))
 
 
-@pytest.mark.parametrize("what", ["boxes", "plate", "slots"])
+@pytest.mark.parametrize("what", ["boxes", "plate"])
 def test_more_solids_than_a_scene_may_have_are_drawn_by_columns(what):
-    slots = "".join(CUBE % (302, 150, 1, i % 2 + 0.5, 0.25, i + 0.625) for i in range(299))
     tree = tree_of({"boxes": "union() { %s }" % boxes(300, 3),
-                    "plate": "difference() { %s %s }" % (CUBE % (85, 42.5, 85, 42.5, 4, 2), boxes(289, 4.5)),
-                    "slots": "difference() { %s %s }" % (CUBE % (300, 150, 3, 1.5, 300, 150), slots)}[what])
+                    "plate": "difference() { %s %s }" % (CUBE % (85, 42.5, 85, 42.5, 4, 2), boxes(289, 4.5))}[what])
     bad, there = judged(tree, projection="p")
     assert not bad and there > 100
 
