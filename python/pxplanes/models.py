@@ -1,4 +1,4 @@
-"""Scenes of models: OpenSCAD's .csg and .scad, and solids as OFF, STL, OBJ, PLY or 3MF, as `pxplanes convert` makes them (docs/MODELLING.md).
+"""Scenes of models: OpenSCAD's .csg and .scad, and solids as OFF, STL, OBJ, PLY, 3MF or glTF, as `pxplanes convert` makes them (docs/MODELLING.md).
 
 Not proved: planes are rounded to whole numbers. Hulls want scipy or OpenSCAD, and .scad OpenSCAD."""
 from __future__ import annotations

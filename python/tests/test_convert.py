@@ -1,5 +1,8 @@
-"""What `pxplanes convert` and `view` read and write: forms of meshes as programs write them, maps of models, and POV-Ray at any depth."""
+"""What `pxplanes convert` and `view` read and write: forms of meshes as programs write them, maps of models, and
+POV-Ray at any depth."""
+import base64
 import io
+import json
 import os
 import shutil
 import struct
@@ -9,8 +12,9 @@ import zipfile
 
 import pytest
 import support
+from pxplanes.errors import Trouble
 from pxplanes.image import netpbm
-from pxplanes.mesh import mesh_files
+from pxplanes.mesh import mesh_files, modelling
 
 CORNERS = [(0, 0, 0), (4, 0, 0), (0, 4, 0), (0, 0, 4)]
 SIDES = [(0, 2, 1), (0, 1, 3), (0, 3, 2), (1, 2, 3)]
@@ -20,20 +24,25 @@ PRODUCTION = "http://schemas.microsoft.com/3dmanufacturing/production/2015/06"
 
 def px(built, *words, **more):
     environment = {**os.environ, "PXPLANES_PROGRAM": built, "PYTHONPATH": os.path.join(support.TOP, "python")}
-    return subprocess.run([sys.executable, "-m", "pxplanes", *map(str, words)], capture_output=True, env=environment, **more)
+    return subprocess.run([sys.executable, "-m", "pxplanes", *map(str, words)], capture_output=True, env=environment,
+                          **more)
 
 
 def raw_stl(header, after=b"", far=0.0):
-    records = b"".join(struct.pack("<12fH", *(0.0,) * 3, *(part + far for at in side for part in CORNERS[at]), 0) for side in SIDES)
+    records = b"".join(struct.pack("<12fH", *(0.0,) * 3, *(part + far for at in side for part in CORNERS[at]), 0)
+                       for side in SIDES)
     return header.ljust(80) + struct.pack("<I", len(SIDES)) + records + after
 
 
-@pytest.mark.parametrize("header, after", [(b"made by hand", b""), (b"solid made by hand", b""), (b"solid made by hand", b"more bytes behind")])
+@pytest.mark.parametrize("header, after",
+                         [(b"made by hand", b""), (b"solid made by hand", b""),
+                          (b"solid made by hand", b"more bytes behind")])
 def test_raw_stl_is_known_by_its_count(header, after):
     points, sides = mesh_files.READERS["stl"](raw_stl(header, after))
     assert sorted(map(tuple, points)) == sorted(CORNERS) and len(sides) == 4
     numpy = pytest.importorskip("numpy")
-    assert numpy.array_equal(mesh_files.soup("stl", raw_stl(header, after)), [[CORNERS[at] for at in side] for side in SIDES])
+    assert numpy.array_equal(mesh_files.soup("stl", raw_stl(header, after)),
+                             [[CORNERS[at] for at in side] for side in SIDES])
 
 
 def test_raw_stl_far_from_the_origin_is_a_scene(built, tmp_path):
@@ -44,7 +53,8 @@ def test_raw_stl_far_from_the_origin_is_a_scene(built, tmp_path):
 
 def test_obj_with_groups_has_all_of_them():
     text = "".join("v %d %d %d\n" % point for point in CORNERS) + "".join(
-        "g group%d\nusemtl m\ns off\nf %s\n" % (at, " ".join("%d/1/1" % (corner + 1) for corner in side)) for at, side in enumerate(SIDES))
+        "g group%d\nusemtl m\ns off\nf %s\n" % (at, " ".join("%d/1/1" % (corner + 1) for corner in side)) for at,
+            side in enumerate(SIDES))
     points, sides = mesh_files.READERS["obj"](text.encode())
     assert len(points) == 4 and [tuple(side) for side in sides] == SIDES
 
@@ -53,8 +63,10 @@ def test_3mf_has_parts_in_files_of_their_own():
     part = '<model xmlns="%s"><resources><object id="7"><mesh><vertices>%s</vertices><triangles>%s</triangles></mesh></object></resources></model>' % (
         CORE, "".join('<vertex x="%d" y="%d" z="%d"/>' % point for point in CORNERS),
         "".join('<triangle v1="%d" v2="%d" v3="%d"/>' % side for side in SIDES))
-    root = ('<model xmlns="%s" xmlns:p="%s"><resources><object id="1"><components><component p:path="/3D/Objects/a.model" objectid="7" '
-            'transform="1 0 0 0 1 0 0 0 1 10 0 0"/></components></object></resources><build><item objectid="1"/></build></model>' % (CORE, PRODUCTION))
+    root = ('<model xmlns="%s" xmlns:p="%s"><resources><object id="1"><components><component '
+            'p:path="/3D/Objects/a.model" objectid="7" '
+            'transform="1 0 0 0 1 0 0 0 1 10 0 0"/></components></object></resources><build><item '
+            'objectid="1"/></build></model>' % (CORE, PRODUCTION))
     file = io.BytesIO()
     with zipfile.ZipFile(file, "w") as archive:
         archive.writestr("3D/Objects/a.model", part)
@@ -63,10 +75,84 @@ def test_3mf_has_parts_in_files_of_their_own():
     assert sorted(map(tuple, points)) == sorted((x + 10, y, z) for x, y, z in CORNERS) and len(sides) == 4
 
 
+def gltf(uri, node=None, more=0, **primitive):
+    """A glTF of the four triangles: numbers of sixteen bits, then corners, each with `more` bytes after it."""
+    body = struct.pack("<12H", *(at for side in SIDES for at in side))
+    body += b"".join(struct.pack("<3f", *point) + bytes(more) for point in CORNERS)
+    view = {"buffer": 0, "byteOffset": 24, "byteLength": len(body) - 24, **({"byteStride": 12 + more} if more else {})}
+    said = {"asset": {"version": "2.0"}, "scene": 0, "scenes": [{"nodes": [0]}],
+            "nodes": [{"children": [1]}, {"mesh": 0, **(node or {})}],
+            "meshes": [{"primitives": [{"attributes": {"POSITION": 1}, "indices": 0, **primitive}]}],
+            "buffers": [{"byteLength": len(body),
+                         **({"uri": uri % base64.b64encode(body).decode() if "%" in uri else uri} if uri else {})}],
+            "bufferViews": [{"buffer": 0, "byteLength": 24}, view],
+            "accessors": [{"bufferView": 0, "componentType": 5123, "count": 12, "type": "SCALAR"},
+                          {"bufferView": 1, "componentType": 5126, "count": 4, "type": "VEC3"}]}
+    return json.dumps(said).encode(), body
+
+
+def glb(node=None):
+    head, body = gltf(None, node)
+    head += b" " * (-len(head) % 4)
+    return struct.pack("<4sII", b"glTF", 2, 28 + len(head) + len(body)) + struct.pack(
+        "<I4s", len(head), b"JSON") + head + struct.pack(
+        "<I4s", len(body), b"BIN\0") + body
+
+
+# In metres with y upwards (4, 0, 0), (0, 4, 0) and (0, 0, 4) are 4000 to the right, 4000 upwards and 4000 towards the
+# eye, where y is below 0.
+MILLIMETRES = [(0, 0, 0), (4000, 0, 0), (0, 0, 4000), (0, -4000, 0)]
+
+
+def test_gltf_has_its_buffer_in_it_or_beside_it(tmp_path):
+    content, body = gltf("one.bin")
+    (tmp_path / "one.bin").write_bytes(body)
+    for data in (content, gltf("data:application/octet-stream;base64,%s", more=4)[0], glb()):
+        points, sides = mesh_files.read("gltf", data, str(tmp_path))
+        assert [tuple(point) for point in points] == MILLIMETRES and [tuple(side) for side in sides] == SIDES
+    for uri in ("two.bin", "../one.bin", "/etc/passwd"):
+        with pytest.raises(Trouble, match="a buffer .*one.bin|a buffer .*two.bin|a buffer .*passwd"):
+            mesh_files.read("gltf", gltf(uri)[0], str(tmp_path))
+    with pytest.raises(Trouble, match="a buffer elsewhere"):
+        mesh_files.read("gltf", content)
+
+
+def test_gltf_places_its_nodes_and_reads_strips():
+    # A quarter turn about the file's y axis takes z to x and x to -z; then twice as large in x, and 1 metre up.
+    half = 0.5 ** 0.5
+    node = {"rotation": [0, half, 0, half], "scale": [1, 1, 2], "translation": [0, 1, 0]}
+    points, _ = mesh_files.read("glb", glb(node))
+    assert [tuple(round(part) for part in point) for point in points] == [
+        (0, 0, 1000), (0, 4000, 1000), (0, 0, 5000), (8000, 0, 1000)]
+    moved, _ = mesh_files.read("glb", glb({"matrix": [1, 0, 0, 0, 0, 1, 0, 0, 0, 0, 1, 0, 7, 8, 9, 1]}))
+    assert tuple(moved[0]) == (7000, -9000, 8000)
+    _, sides = mesh_files.read("gltf", gltf("data:,%s", mode=5)[0])
+    assert [tuple(side) for side in sides[:2]] == [(0, 2, 1), (1, 2, 0)] and len(sides) == 10
+    with pytest.raises(Trouble, match="other than triangles"):
+        mesh_files.read("gltf", gltf("data:,%s", mode=1)[0])
+    with pytest.raises(Trouble, match="glTF file is damaged"):
+        mesh_files.read("glb", glb()[:90])
+
+
+def test_units_and_the_axis_that_is_upwards(tmp_path):
+    (tmp_path / "one.stl").write_bytes(raw_stl(b"one"))
+    (tmp_path / "one.glb").write_bytes(glb())
+    for name, unit, up, expected in (
+        ("one.stl", None, None, (0, 0, 4)), ("one.stl", "in", None, (0, 0, 4 * 25.4)),
+                                     ("one.stl", None, "y", (0, -4, 0)),
+                                     ("one.glb", None, None, (0, -4000, 0)), ("one.glb", None, "z", (0, 0, 4000))):
+        leaf = modelling.read(str(tmp_path / name), modelling.Choices(unit=unit, up=up))
+        assert sorted(tuple(round(float(part), 3) for part in point) for point in leaf.points).count(expected) >= 1, (
+            name, unit, up)
+    with pytest.raises(Trouble, match="says its unit"):
+        modelling.read(str(tmp_path / "one.glb"), modelling.Choices(unit="mm"))
+
+
 def test_a_model_becomes_maps_by_columns_in_one_step(built, tmp_path):
     pytest.importorskip("numpy")
     (tmp_path / "one.stl").write_bytes(raw_stl(b"one"))
-    done = px(built, "convert", "--view", "0", "0", "0", "--size", "40", "40", "--draw", "maps", "one.stl", cwd=tmp_path)
+    done = px(built, "convert", "--view", "0", "0", "0", "--size", "40", "40", "--draw", "maps", "one.stl",
+              cwd=tmp_path)
     assert done.returncode == 0 and b"drawn by columns: 4 triangles" in done.stderr, done.stderr
     depths, faces = (image.numbers() for image in netpbm.images((tmp_path / "maps").read_bytes()))
     # From above the fourth facet alone is seen: right of x = 0, above y = 0, left of the line from (4, 0) to (0, 4).
@@ -100,8 +186,10 @@ def test_povray_draws_twenty_bits_as_the_program_does(built, tmp_path):
     (tmp_path / "deep.scene").write_bytes(scene)
     done = px(built, "convert", "deep.scene", "--to", "pov", "-o", "deep.pov", cwd=tmp_path)
     assert done.returncode == 0, done.stderr
-    subprocess.run(["povray", "+Ideep.pov", "+Odeep.ppm", "+W64", "+H48", "+FP8", "File_Gamma=1", "-D", "-A"], cwd=tmp_path, check=True,
+    subprocess.run(["povray", "+Ideep.pov", "+Odeep.ppm", "+W64", "+H48", "+FP8", "File_Gamma=1", "-D", "-A"],
+                   cwd=tmp_path, check=True,
                    capture_output=True)
-    ours = netpbm.images(subprocess.run([built, "render"], input=scene, capture_output=True, check=True).stdout)[0].numbers()
+    ours = netpbm.images(subprocess.run([built, "render"], input=scene, capture_output=True, check=True).stdout)[
+        0].numbers()
     theirs = netpbm.images((tmp_path / "deep.ppm").read_bytes())[0].numbers()
     assert max(ours) == 2 ** 20 - 1 and len(set(ours)) > 100 and list(ours) == list(theirs)

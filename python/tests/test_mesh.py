@@ -1,15 +1,19 @@
 """Pictures of models, pixel by pixel beside rays that share no code with the tool."""
+import math
+import os
 import random
 import shutil
+import subprocess
 
 import pytest
 import support
 
 numpy = pytest.importorskip("numpy")
+import judged as judged_models
 import ray_judge
 from pxplanes.errors import Trouble
 from pxplanes.image import netpbm
-from pxplanes.mesh import columns, csg, facets, modelling, solids
+from pxplanes.mesh import columns, csg, exports, facets, modelling, solids, turns
 from pxplanes import program as programs
 
 SIZE = (36, 27)
@@ -36,20 +40,22 @@ def judged(tree, **options):
     return ray_judge.wrong_pixels(drawing.depths, 2 ** choices.bits[0] - 1, away, drawing.lens)
 
 
-def judged_scene(tree, text, choices, view):
-    """The same of a tree's one scene, drawn by the program."""
+def judged_scene(tree, text, choices, view, rounded=0.0):
+    """The same of a tree's one scene, drawn by the program; its depths, and what the rays have."""
     status, output, note = programs.answer(programs.needed(None), ["render"], text.encode())
     assert status == 0, note
     lens = columns.lens_of(view)
     leaves = [leaf for leaf, _ in solids.leaves(tree)]
     away = ray_judge.distances(tree, leaves, [columns.corners_of(leaf) for leaf in leaves], lens, choices.size)
-    return ray_judge.wrong_pixels(netpbm.images(output)[0].numbers(), 2 ** choices.bits[0] - 1, away, lens)
+    depths = netpbm.images(output)[0].numbers()
+    return ray_judge.wrong_pixels(depths, 2 ** choices.bits[0] - 1, away, lens, 1 + rounded), depths, away
 
 
 def ball(radius, place, rounds=8):
     """A ball as a mesh, so that it is no solid of OpenSCAD's own: points, facets, as `polyhedron` has them."""
     rings = [[(radius * numpy.sin(a) * numpy.cos(b), radius * numpy.sin(a) * numpy.sin(b), radius * numpy.cos(a))
-              for b in numpy.arange(rounds) * 2 * numpy.pi / rounds] for a in numpy.arange(1, rounds) * numpy.pi / rounds]
+              for b in numpy.arange(rounds) * 2 * numpy.pi / rounds]
+             for a in numpy.arange(1, rounds) * numpy.pi / rounds]
     points = [(0.0, 0.0, radius)] + [p for ring in rings for p in ring] + [(0.0, 0.0, -radius)]
     last, out = len(points) - 1, []
     for j in range(rounds):
@@ -64,7 +70,8 @@ def ball(radius, place, rounds=8):
 def dented(radius, place):
     """A ball with dents, which is not convex."""
     points, sides = ball(radius, (0, 0, 0))
-    return [[part * (0.6 if at % 3 == 0 else 1) + own for part, own in zip(point, place)] for at, point in enumerate(points)], sides
+    return [[part * (0.6 if at % 3 == 0 else 1) + own for part, own in zip(point, place)] for at,
+            point in enumerate(points)], sides
 
 
 def mesh(points, sides):
@@ -79,7 +86,8 @@ def test_meshes_by_columns_are_as_rays_have_them(what, projection):
     points, sides = ball(10, (0, 0, 0))
     inner, turned = ball(7, (0, 0, 0))
     hollow = mesh(points + inner, sides + [[at + len(points) for at in side[::-1]] for side in turned])
-    tree = {"one": one, "union": ("+", [one, other]), "minus convex": ("-", [one, box]), "minus a mesh": ("-", [one, other]),
+    tree = {"one": one, "union": ("+", [one, other]), "minus convex": ("-", [one, box]),
+            "minus a mesh": ("-", [one, other]),
             "common": ("*", [one, other]), "hollow": ("-", [hollow, box])}[what]
     bad, there = judged(tree, projection=projection)
     assert not bad and there > 40
@@ -140,7 +148,8 @@ def test_a_wall_too_steep_for_a_front_is_no_side():
 
 
 def test_a_bar_with_many_holes_is_one_scene(tmp_path):
-    holes = "".join("multmatrix([[1,0,0,%g],[0,1,0,5],[0,0,1,-1],[0,0,0,1]]) { cylinder($fn = 64, $fa = 12, $fs = 2, h = 12, r1 = 3, r2 = 3, "
+    holes = "".join("multmatrix([[1,0,0,%g],[0,1,0,5],[0,0,1,-1],[0,0,0,1]]) { cylinder($fn = 64, $fa = 12, $fs = 2, "
+                    "h = 12, r1 = 3, r2 = 3, "
                     "center = false); }\n" % (6 + 10.5 * i) for i in range(11))
     path = tmp_path / "bar.csg"
     path.write_text("difference() { cube(size = [120, 10, 10], center = false); %s }" % holes)
@@ -149,7 +158,7 @@ def test_a_bar_with_many_holes_is_one_scene(tmp_path):
     tree = modelling.tree_of(str(path), "csg")
     laid = modelling.laid_out(tree, view, choices)
     assert modelling.products(tree, laid) > 1024
-    bad, there = judged_scene(tree, text, choices, view)
+    (bad, there), *_ = judged_scene(tree, text, choices, view)
     assert not bad and there > 500
 
 
@@ -185,3 +194,93 @@ def test_a_text_of_slim_facets_is_refused_as_parts_and_right_by_columns(tmp_path
     for projection in "op":
         bad, there = judged(tree, projection=projection, size=(96, 40))
         assert not bad and there > 300
+
+
+@NEEDS_OPENSCAD
+@pytest.mark.parametrize("seed", range(1, 21))
+def test_random_programs_are_as_rays_through_openscads_mesh(seed):
+    row, = judged_models.judged(judged_models.subject_of_program(seed), judged_models.WAYS[:1])
+    assert row["word"] == "right", row
+
+
+def boxes(count, hole):
+    """Boxes of the size of a hole at places in a square."""
+    side = math.ceil(math.sqrt(count))
+    return "".join(CUBE % (hole, 5 * (i % side) + 2.5, hole, 5 * (i // side) + 2.5, hole, 2) for i in range(count))
+
+
+@pytest.mark.parametrize("what", ["boxes", "plate"])
+def test_more_solids_than_a_scene_may_have_are_drawn_by_columns(what):
+    tree = tree_of({"boxes": "union() { %s }" % boxes(300, 3),
+                    "plate": "difference() { %s %s }" % (CUBE % (85, 42.5, 85, 42.5, 4, 2), boxes(289, 4.5))}[what])
+    bad, there = judged(tree, projection="p")
+    assert not bad and there > 100
+
+
+TEN = (("gallery/temple.csg", {"eye": (-62, -118, 11), "at": (1, 0, 12.5), "fov": 31}),
+       ("gallery/temple.csg", {"eye": (0, -30, 9), "at": (0, 10, 9), "fov": 75}),
+       ("gallery/drilled_cube.csg", {"eye": (19, -35, 20), "at": (-1, 0, -0.5), "fov": 42}),
+       ("gallery/drilled_cube.csg", {"eye": (0.3, -0.2, 0.1), "at": (5, 9, 2), "fov": 110}),
+       ("gallery/cornell_box.csg", {"eye": (-278, -800, 273), "at": (-278, 0, 273), "fov": 39.3}),
+       ("gallery/cornell_box.csg", {"eye": (-500, 30, 500), "at": (-200, 400, 100), "fov": 70}),
+       ("docs/scenes/bracket.csg", {"projection": "p"}),
+       ("docs/scenes/bracket.csg", {"camera": (10, -5, 3, 60, 10, 30, 150), "projection": "p"}),
+       ("docs/scenes/bracket.csg", {"eye": (20, 14, 21), "at": (8, 11, 0), "fov": 90}),
+       ("docs/scenes/bracket.csg", {"projection": "p", "view": (90, 0, 0), "fov": 60}))
+
+
+@pytest.mark.parametrize("path, camera", TEN)
+def test_scenes_in_perspective_are_as_rays_and_povray_have_them(path, camera, tmp_path):
+    tree = modelling.tree_of(os.path.join(support.TOP, path), "csg")
+    choices = modelling.Choices(size=(64, 48), depth=(16, 4), **camera)
+    view, _ = modelling.in_perspective(choices, tree)
+    text, (rounded, _) = modelling.scene_of(tree, view, choices)
+    (bad, there), depths, away = judged_scene(tree, text, choices, view, rounded)
+    assert not bad and there > 200
+    if shutil.which("povray") is None:
+        return
+    (tmp_path / "scene.pov").write_text(exports.pov(modelling.checked(text), view.camera)[0])
+    subprocess.run(["povray", "+Iscene.pov", "+Omap.ppm", "+W64", "+H48", "+FP16", "Grayscale_Output=on",
+                    "File_Gamma=1", "-D", "-A"],
+                   cwd=tmp_path, check=True, capture_output=True)
+    image = netpbm.images((tmp_path / "map.ppm").read_bytes())[0]
+    theirs = numpy.array(list(image.samples[::image.channels]))
+    # At an edge, where the five rays of a pixel do not agree, POV-Ray's ray may meet another solid.
+    differ = numpy.abs(theirs - numpy.array(depths)) > 1
+    with numpy.errstate(invalid="ignore"):
+        spread = numpy.ptp(view.camera.distances.scale / away, axis=1)
+    agreed = numpy.isinf(away).all(1) | (spread <= 2)
+    assert not (differ & agreed).any() and differ.sum() <= 6
+
+
+def turned_solid(draw):
+    matrix = [row + [draw.uniform(-6, 6)] for row in turns.rows_of([draw.uniform(0, 360) for _ in range(3)])]
+    sizes = [draw.uniform(2, 9) for _ in range(3)]
+    shape = draw.choice(("cube(size = %s, center = true)" % sizes,
+                         "cylinder($fn = %d, h = %r, r1 = %r, r2 = %r, center = true)" % (draw.randint(3, 9), *sizes),
+                         "sphere($fn = %d, r = %r)" % (draw.randint(4, 8), sizes[0])))
+    return "multmatrix(%s) { %s; }" % (matrix + [[0, 0, 0, 1]], shape)
+
+
+@pytest.mark.parametrize("first", range(0, 120, 30))
+def test_random_cameras_from_within_to_far_away(first):
+    """By one scene and by columns; a camera that has the model behind it is refused."""
+    shows = 0
+    for seed in range(first, first + 30):
+        draw = random.Random(seed)
+        tree = tree_of(" ".join("%s() { %s }"
+                                % (draw.choice(("union", "difference", "difference", "intersection")), " ".join(
+            turned_solid(draw) for _ in range(draw.randint(1, 3)))) for _ in range(draw.randint(1, 3))))
+        camera = {"eye": [draw.uniform(-30, 30) for _ in range(3)], "at": [draw.uniform(-5, 5) for _ in range(3)],
+                  "fov": draw.randint(20, 100)}
+        choices = modelling.Choices(size=(24, 18), **camera)
+        try:
+            view, _ = modelling.in_perspective(choices, tree)
+        except Trouble as bad:
+            assert "behind the eye" in str(bad)
+            continue
+        text, (rounded, _) = modelling.scene_of(tree, view, choices)
+        (bad, there), *_ = judged_scene(tree, text, choices, view, rounded)
+        assert not bad and judged(tree, size=(24, 18), **camera)[0] == []
+        shows += there > 0
+    assert shows > 20

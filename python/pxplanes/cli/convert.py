@@ -1,27 +1,27 @@
 """Turns a model into a scene, or a scene into another program's language.
 
-A model is OpenSCAD's .csg or .scad (which OpenSCAD itself reads first), or a mesh: OFF, STL, OBJ, PLY or 3MF, in which each
-closed part is a solid; what is not convex becomes several solids. A scene becomes a text for POV-Ray (pov), OpenSCAD (scad), a
-mesh of each solid (obj), or JSON. Standard error says by how many cells the worst plane was rounded, what is cut off, and what
-a form has no words for. docs/MODELLING.md explains each step."""
+A model is OpenSCAD's .csg or .scad (which OpenSCAD itself reads first), or a mesh: OFF, STL, OBJ, PLY, 3MF or glTF, in
+which each closed part is a solid; what is not convex becomes several solids. A scene becomes a text for POV-Ray (pov),
+OpenSCAD (scad), a mesh of each solid (obj), or JSON. Standard error says by how many cells the worst plane was rounded,
+what is cut off, and what a form has no words for. docs/MODELLING.md explains each step."""
 from __future__ import annotations
 
 import argparse
-import importlib.util
 import os
 import signal
 import sys
 from typing import Any, Callable
 
-from pxplanes import ends, program
+from pxplanes import ends
 from pxplanes.cli import frame
 from pxplanes.errors import Trouble
 from pxplanes.explain import list_cures
-from pxplanes.mesh import cameras, exports, joining, mesh_files, modelling
-from pxplanes.scene import limits, scenes
+from pxplanes.mesh import cameras, exports, mesh_files, modelling
+from pxplanes.scene import scenes
 
 HELP = "turn a model into a scene, or a scene into POV-Ray, OpenSCAD, OBJ or JSON"
-# The limit is in seconds of processor, so that a busy machine refuses nothing; ten times as many by the clock end what waits.
+# The limit is in seconds of processor, so that a busy machine refuses nothing; ten times as many by the clock end what
+# waits.
 TIMERS = ((signal.ITIMER_PROF, signal.SIGPROF, 1), (signal.ITIMER_REAL, signal.SIGALRM, 10))
 
 
@@ -33,7 +33,8 @@ def numbers(*counts: int) -> Callable[[str], list[float]]:
         except Trouble as trouble:
             raise argparse.ArgumentTypeError(str(trouble)) from None
         if len(found) not in counts:
-            raise argparse.ArgumentTypeError("%s numbers with commas between them are expected" % " or ".join(map(str, counts)))
+            raise argparse.ArgumentTypeError(
+                "%s numbers with commas between them are expected" % " or ".join(map(str, counts)))
         return found
 
     return read
@@ -53,32 +54,44 @@ def positive(word: str) -> float:
 def add_options(parser: argparse.ArgumentParser) -> None:
     usual = modelling.Choices()
     parser.add_argument("file", metavar="IN", help="a model or a scene; - is standard input")
-    parser.add_argument("-o", "--out", metavar="OUT", help="the file to write; its ending says the form (default: standard output)")
-    parser.add_argument("--to", choices=("scene", *exports.FORMS), help="the form of what is written, if OUT does not say it")
+    parser.add_argument("-o", "--out", metavar="OUT",
+                        help="the file to write; its ending says the form (default: standard output)")
+    parser.add_argument("--to", choices=("scene", *exports.FORMS),
+                        help="the form of what is written, if OUT does not say it")
     parser.add_argument("--kind", choices=modelling.KINDS, help="what IN is, if its name does not say it")
+    parser.add_argument("--unit", choices=modelling.UNITS,
+                        help="what the numbers of a file that says no unit are; they become millimetres "
+                        "(default: as they are)")
+    parser.add_argument("--up", choices=modelling.UPWARDS,
+                        help="the axis that is upwards in the file (default: y for glTF, z for others)")
     size = frame.whole_number(1, 512)
-    parser.add_argument("--size", nargs=2, metavar=("W", "H"), type=size, default=usual.size, help="the picture in pixels")
-    parser.add_argument("--depth", nargs=2, metavar=("W", "F"), type=frame.whole_number(0, 24), help="the bits of a depth, and its "
+    parser.add_argument("--size", nargs=2, metavar=("W", "H"), type=size, default=usual.size,
+                        help="the picture in pixels")
+    parser.add_argument("--depth", nargs=2, metavar=("W", "F"), type=frame.whole_number(0, 24),
+                        help="the bits of a depth, and its "
                         "fraction bits (default: 12 8; in perspective as many as the picture needs)")
     parser.add_argument("--view", nargs=3, metavar=("RX", "RY", "RZ"), type=float, default=usual.view,
                         help="turn the model as OpenSCAD's $vpr does, in degrees")
-    parser.add_argument("--camera", metavar="NUMBERS", type=numbers(6, 7), help="as OpenSCAD's --camera, so that pictures may be laid "
+    parser.add_argument("--camera", metavar="NUMBERS", type=numbers(6, 7),
+                        help="as OpenSCAD's --camera, so that pictures may be laid "
                         "over one another: X,Y,Z,RX,RY,RZ,DISTANCE, or the X,Y,Z of the eye and of the centre")
-    parser.add_argument("--projection", choices=sorted(modelling.PROJECTIONS), help="parallel (o), or in perspective (p) (default: o)")
+    parser.add_argument("--projection", choices=sorted(modelling.PROJECTIONS),
+                        help="parallel (o), or in perspective (p) (default: o)")
     parser.add_argument("--eye", metavar="X,Y,Z", type=numbers(3), help="in perspective, from this point; with --at")
     parser.add_argument("--at", metavar="X,Y,Z", type=numbers(3), help="in perspective, to this point; with --eye")
-    parser.add_argument("--fov", metavar="DEGREES", type=positive, help="the height of the picture in perspective (default: 22.5)")
-    parser.add_argument("--near", metavar="D", type=positive, help="the nearest distance along the axis (default: what the model reaches)")
+    parser.add_argument("--fov", metavar="DEGREES", type=positive,
+                        help="the height of the picture in perspective (default: 22.5)")
+    parser.add_argument("--near", metavar="D", type=positive,
+                        help="the nearest distance along the axis (default: what the model reaches)")
     parser.add_argument("--far", metavar="D", type=positive, help="the farthest one")
-    parser.add_argument("--scale", metavar="S", type=positive, help="pixels to a unit of the model (default: it fills the picture)")
-    parser.add_argument("--flat", action="store_true", help="each face has its solid's colour, and not one by the way it looks")
-    parser.add_argument("--seconds", metavar="N", type=positive, default=60, help="refuse a model that needs more seconds of processor")
-    parser.add_argument("--split", action="store_true", help="write as many scenes as the model needs, OUT-1.scene and on; the nearer "
-                        "of their depths is the picture")
-    parser.add_argument("--draw", metavar="MAPS", help="draw the model, by one scene or by columns, and write its depths and faces; with "
-                        "--split draw these scenes, and write what they have together")
-    parser.add_argument("--solids", metavar="N", type=frame.whole_number(1, 255), default=255, help="with --split: the most solids of "
-                        "one scene")
+    parser.add_argument("--scale", metavar="S", type=positive,
+                        help="pixels to a unit of the model (default: it fills the picture)")
+    parser.add_argument("--flat", action="store_true",
+                        help="each face has its solid's colour, and not one by the way it looks")
+    parser.add_argument("--seconds", metavar="N", type=positive, default=60,
+                        help="refuse a model that needs more seconds of processor")
+    parser.add_argument("--draw", metavar="MAPS",
+                        help="draw the model, by one scene or by columns, and write its depths and faces")
 
 
 def run(options: argparse.Namespace) -> int:
@@ -122,37 +135,25 @@ def exported(text: bytes, form: Any, options: argparse.Namespace) -> int:
 def choices_of(options: argparse.Namespace) -> modelling.Choices:
     """How the options say that a model becomes a scene."""
     return modelling.Choices(**{name: getattr(options, name) for name in (
-        "view", "size", "depth", "scale", "camera", "projection", "eye", "at", "fov", "near", "far", "flat", "kind", "solids")})
+        "view", "size", "depth", "scale", "camera", "projection", "eye", "at", "fov", "near", "far", "flat", "kind",
+            "unit", "up")})
 
 
 def modelled(options: argparse.Namespace) -> int:
     """Writes the scene of a model, or several."""
     choices = choices_of(options)
     bound(options.seconds)
-    if options.split or options.draw:
-        if options.split and not options.out:
-            raise Trouble("--split needs -o, the name of the scenes")
+    if options.draw:
         whole = modelling.read(options.file, choices)
-        is_asked = options.split or options.solids != limits.MAX_SOLIDS or not columns_are_there()
-        if not is_asked and not modelling.is_one_scene(whole, choices):
-            drawing = modelling.by_columns(whole, choices)
-            unbound()
-            write(options.draw, drawing.maps())
-            return frame.SUCCESS
-        texts, facts = modelling.made_several(whole, choices)
+        maps = modelling.drawn_as_one(whole, choices) or modelling.by_columns(whole, choices).maps()
         unbound()
-        leave(texts, facts[0], options)
-    else:
-        text, facts = modelling.made(options.file, choices)
-        unbound()
-        write(options.out, text.encode())
+        write(options.draw, maps)
+        return frame.SUCCESS
+    text, facts = modelling.made(options.file, choices)
+    unbound()
+    write(options.out, text.encode())
     modelling.tell(*facts)
     return frame.SUCCESS
-
-
-def columns_are_there() -> bool:
-    """Whether this Python has NumPy, which columns need."""
-    return importlib.util.find_spec("numpy") is not None
 
 
 def bound(seconds: float) -> None:
@@ -177,15 +178,3 @@ def write(path: Any, content: bytes) -> None:
         return
     with open(path, "wb") as file:
         file.write(content)
-
-
-def leave(texts: list[str], shown: list[Any], options: argparse.Namespace) -> None:
-    """Writes the scenes, and the maps that they have together, as the options say."""
-    stem = os.path.splitext(options.out or "scene")[0]
-    for number, (text, scene) in enumerate(zip(texts, shown), 1):
-        name = "%s-%d.scene" % (stem, number)
-        if options.split:
-            write(name, text.encode())
-        ends.say("pxplanes convert", "%s: %d solids, %d faces" % (name, len(scene.solids), len(scene.faces())))
-    if options.draw:
-        write(options.draw, joining.drawn(texts, shown, program.needed(None)))

@@ -3,7 +3,7 @@
 from __future__ import annotations
 
 import math
-from typing import Any, Callable
+
 
 import numpy as np
 
@@ -12,8 +12,6 @@ from pxplanes.errors import Trouble
 from pxplanes.mesh import cameras
 
 FORM = "NEAR,FAR, or NEAR,FAR,inverse, or NEAR,FAR,ray,FOV"
-distances_of: Callable[[float, float, float], Any] = cameras.Distances
-focal_of: Callable[[float, tuple[int, int]], float] = cameras.focal_of
 
 
 def depths_of(word: str, numbers: Reals, far: int) -> Reals:
@@ -23,14 +21,14 @@ def depths_of(word: str, numbers: Reals, far: int) -> Reals:
     `NEAR,FAR,ray,FOV` distances along each ray, where the picture is FOV degrees high. Raises `Trouble` for other
     words."""
     near, limit, form, fov = parted(word)
-    ends = distances_of(near, limit, far)
+    ends = cameras.Distances(near, limit, far)
     high, wide = numbers.shape
     with np.errstate(divide="ignore", invalid="ignore"):
         if form == "inverse":
             numbers = 1 / numbers
         elif form == "ray":
             y, x = np.indices(numbers.shape)
-            focal = focal_of(fov, (wide, high))
+            focal = cameras.focal_of(fov, (wide, high))
             numbers = numbers / np.sqrt(1 + ((x - (wide - 1) / 2) ** 2 + (y - (high - 1) / 2) ** 2) / focal ** 2)
         depths = ends.scale * (1 / near - 1 / numbers)
     found: Reals = np.where((numbers > 0) & (numbers < limit), depths, np.inf)

@@ -20,8 +20,8 @@ def kind_of(path):
 
 def mesh_of(path):
     if kind_of(path) not in mesh_files.READERS:
-        raise Trouble("%s is no mesh: .off, .stl, .obj, .ply and .3mf are read" % path)
-    return verifying.Mesh(*mesh_files.READERS[kind_of(path)](ends.content(path)))
+        raise Trouble("%s is no mesh: %s are read" % (path, mesh_files.ENDINGS))
+    return verifying.Mesh(*mesh_files.read(kind_of(path), ends.content(path), os.path.dirname(path) or "."))
 
 
 def sides_of(path, mesh, count, size):

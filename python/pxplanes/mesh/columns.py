@@ -1,7 +1,9 @@
-"""Draws models by columns: what is seen of meshes, without dividing them into convex parts (docs/MODELLING.md, "Columns").
+"""Draws models by columns: what is seen of meshes, without dividing them into convex parts (docs/MODELLING.md,
+"Columns").
 
-A column is a triangle's plane as a front and its edges in the picture as sides: what is behind the triangle. 255 of them make a scene,
-whose picture is a window around the pixels at which they are seen; the nearer depth of all windows is the picture. Needs NumPy."""
+A column is a triangle's plane as a front and its edges in the picture as sides: what is behind the triangle. 255 of
+them make a scene, whose picture is a window around the pixels at which they are seen; the nearer depth of all windows
+is the picture. Needs NumPy."""
 from __future__ import annotations
 
 import concurrent.futures
@@ -33,9 +35,9 @@ LIGHTEST, DULL = np.array((-0.42, -0.53, -0.74)), 0.35
 
 
 class Lens(NamedTuple):
-    """How points come into the picture. `rows` are its right, down and away in the model's axes; `middle` is the pixel to which `eye`
-    looks, `focal` pixels are as wide as a unit (in perspective: at the distance 1); `near` is the distance at which depths begin.
-    A depth in cells is steep * (Z - near), in perspective steep * (1/near - 1/Z)."""
+    """How points come into the picture. `rows` are its right, down and away in the model's axes; `middle` is the pixel
+    to which `eye` looks, `focal` pixels are as wide as a unit (in perspective: at the distance 1); `near` is the
+    distance at which depths begin. A depth in cells is steep * (Z - near), in perspective steep * (1/near - 1/Z)."""
 
     rows: Array
     eye: Array
@@ -67,9 +69,10 @@ def corners_of(leaf: Any) -> Array:
         elif leaf.sides is not None:
             leaf.triangles = outwards(triangulated(np.array(leaf.points, float), leaf.sides))
         else:
-            leaf.triangles = outwards(np.array([(own[0], own[i], own[i + 1]) for own in leaf.corners for i in range(1, len(own) - 1)], float))
-    found = leaf.triangles
-    return found
+            leaf.triangles = outwards(np.array(
+                [(own[0], own[i], own[i + 1]) for own in leaf.corners for i in range(1, len(own) - 1)], float))
+    triangles: Array = leaf.triangles
+    return triangles
 
 
 def outwards(triangles: Array) -> Array:
@@ -92,7 +95,8 @@ def triangulated(points: Array, sides: Sequence[Sequence[int]]) -> Array:
         axis = int(np.abs(normal).argmax())
         flat = np.delete(own, axis, 1) * ([1, -1] if (normal[axis] > 0) == (axis == 1) else [1, 1])
         numbers += [(side[a], side[b], side[c]) for a, b, c in ears(flat.tolist())]
-    return points[np.array(numbers)]
+    out: Array = points[np.array(numbers)]
+    return out
 
 
 def ears(ring: Sequence[Sequence[float]]) -> Iterator[tuple[int, int, int]]:
@@ -106,7 +110,8 @@ def ears(ring: Sequence[Sequence[float]]) -> Iterator[tuple[int, int, int]]:
                     for other in left if other not in (a, b, c)):
                 break
         else:
-            i = min(range(len(left)), key=lambda k: abs(shaping.turn(*(ring[left[(k + s) % len(left)]] for s in (-1, 0, 1)))))
+            i = min(range(len(left)), key=lambda k: abs(
+                shaping.turn(*(ring[left[(k + s) % len(left)]] for s in (-1, 0, 1)))))
             a, b, c = left[i - 1], left[i], left[(i + 1) % len(left)]
         yield a, b, c
         del left[i]
@@ -114,9 +119,11 @@ def ears(ring: Sequence[Sequence[float]]) -> Iterator[tuple[int, int, int]]:
 
 
 class Before:
-    """A model before a perspective camera; `ends` are near and far, None for as what is added reaches within the picture."""
+    """A model before a perspective camera; `ends` are near and far, None for as what is added reaches within the
+    picture."""
 
-    def __init__(self, numbers: Sequence[float], fov: float, size: Sequence[int], cells: int, ends: Sequence[Optional[float]],
+    def __init__(self, numbers: Sequence[float], fov: float, size: Sequence[int], cells: int,
+                 ends: Sequence[Optional[float]],
                  leaves: Sequence[tuple[Any, bool]]) -> None:
         eye, turn = perspective.eye_and_turn(numbers)
         self.rows = turns.rows_of(turn)
@@ -139,14 +146,16 @@ class Before:
 
     def cut_off(self) -> list[str]:
         distances = self.camera.distances
-        return ["the near plane cuts the model"] * (self.least < distances.near) + ["the model goes on beyond the far plane"] * (
+        return ["the near plane cuts the model"] * (self.least < distances.near) + [
+            "the model goes on beyond the far plane"] * (
             self.most > distances.far)
 
     def why_empty(self) -> str:
         return "nothing of the model is before the camera, or what is left of it is smaller than a pixel"
 
 
-def portrait(leaves: Sequence[tuple[Any, bool]], turn: Sequence[float], fov: float) -> tuple[list[float], tuple[int, int]]:
+def portrait(leaves: Sequence[tuple[Any, bool]], turn: Sequence[float], fov: float) -> tuple[
+    list[float], tuple[int, int]]:
     """The numbers of a perspective camera, and a size of the picture, so that what is added fills it."""
     right, away, up = (np.array(row) for row in turns.rows_of(turn))
     points = np.concatenate([corners_of(leaf).reshape(-1, 3) for leaf, is_added in leaves if is_added])
@@ -157,7 +166,8 @@ def portrait(leaves: Sequence[tuple[Any, bool]], turn: Sequence[float], fov: flo
     longest = limits.MAX_PICTURE_SIZE / max(wide, high)
     size = max(SMALLEST, round(longest * wide)), max(SMALLEST, round(longest * high))
     focal = cameras.focal_of(fov, size)
-    distance = max(float((2 * focal * np.abs(part) / (views.FILLS * side) - z).max()) for part, side in ((x, size[0]), (y, size[1])))
+    distance = max(float((2 * focal * np.abs(part) / (views.FILLS * side) - z).max()) for part,
+                   side in ((x, size[0]), (y, size[1])))
     return [*(middle @ np.stack([right, up, away])).tolist(), *turn, distance], size
 
 
@@ -168,15 +178,16 @@ def lens_of(view: Any) -> Lens:
     camera = getattr(view, "camera", None)
     if camera is not None:
         distances = camera.distances
-        return Lens(rows, np.array(camera.eye), (camera.cx, camera.cy), camera.focal, distances.near, distances.scale, True)
+        return Lens(rows, np.array(camera.eye), (camera.cx, camera.cy), camera.focal, distances.near, distances.scale,
+                    True)
     middle = (view.size[0] - 1) / 2, (view.size[1] - 1) / 2
     at = np.array([(middle[0] - view.left) / view.scale, (middle[1] - view.top) / view.scale, view.nearest])
     return Lens(rows, at @ rows, middle, view.scale, 0.0, view.cells, False)
 
 
 def is_closed(corners: Array) -> bool:
-    """Whether each edge is passed as often one way as the other: a sum of hashes over all edges is 0. False also for parts that
-    meet without sharing corners."""
+    """Whether each edge is passed as often one way as the other: a sum of hashes over all edges is 0. False also for
+    parts that meet without sharing corners."""
     bits = (corners + 0.0).view(np.uint64)
     with np.errstate(over="ignore"):
         one = mixed(bits[..., 0] * np.uint64(0x9E3779B97F4A7C15)
@@ -188,7 +199,8 @@ def is_closed(corners: Array) -> bool:
 def mixed(h: Array) -> Array:
     h = (h ^ (h >> np.uint64(30))) * np.uint64(0xBF58476D1CE4E5B9)
     h = (h ^ (h >> np.uint64(27))) * np.uint64(0x94D049BB133111EB)
-    return h ^ (h >> np.uint64(31))
+    out: Array = h ^ (h >> np.uint64(31))
+    return out
 
 
 def open_place(corners: Array) -> Array:
@@ -220,15 +232,16 @@ def clipped(ring: list[Array], planes: Sequence[tuple[tuple[float, float, float]
 
 
 def in_view(lens: Lens, seen: Array, guard: float = GUARD) -> tuple[Array, Array, bool]:
-    """The triangles of `seen` in the picture's axes with their numbers, and whether the near plane cuts any: what reaches beyond
-    the guard band or before the near plane is clipped."""
+    """The triangles of `seen` in the picture's axes with their numbers, and whether the near plane cuts any: what
+    reaches beyond the guard band or before the near plane is clipped."""
     reach = guard / lens.focal
     flat = np.abs(seen[..., :2]) > (reach * seen[..., 2:] if lens.perspective else reach)
     before = (seen[..., 2] < lens.near) if lens.perspective else np.zeros(seen.shape[:2], bool)
     bad = flat.any((1, 2)) | before.any(1)
     numbers = np.arange(len(seen))
     if lens.perspective:
-        planes = [((0.0, 0.0, 1.0), lens.near)] + [((s, 0.0, reach), 0.0) for s in (1, -1)] + [((0.0, s, reach), 0.0) for s in (1, -1)]
+        planes = [((0.0, 0.0, 1.0), lens.near)] + [((s, 0.0, reach), 0.0) for s in (1, -1)] + [
+            ((0.0, s, reach), 0.0) for s in (1, -1)]
     else:
         planes = [((float(s), 0.0, 0.0), -reach) for s in (1, -1)] + [((0.0, float(s), 0.0), -reach) for s in (1, -1)]
     more, own = [], []
@@ -244,9 +257,9 @@ def in_view(lens: Lens, seen: Array, guard: float = GUARD) -> tuple[Array, Array
 
 
 class Triangles:
-    """Of triangles in the picture those that may cover a pixel: their sides and planes of depth. `way` has -1 for what looks to
-    the eye and 1 for what looks away. Closed sides hold pixels on an edge in both neighbours; half-open ones in one of them, as
-    if the pixel were a little to the right and below."""
+    """Of triangles in the picture those that may cover a pixel: their sides and planes of depth. `way` has -1 for what
+    looks to the eye and 1 for what looks away. Closed sides hold pixels on an edge in both neighbours; half-open ones
+    in one of them, as if the pixel were a little to the right and below."""
 
     def __init__(self, places: Array, numbers: Array, size: Sequence[int], is_closed: bool) -> None:
         low = np.ceil(places[..., :2].min(1) - 1 / SNAP)
@@ -275,13 +288,15 @@ class Triangles:
         self.sides = np.stack([a, b, np.where(strict, -(-c // self.grid) - 1, c // self.grid)], -1)
         p, q, r = whole[:, 0].astype(float), whole[:, 1].astype(float), whole[:, 2].astype(float)
         u, v, zu, zv = q - p, r - p, z[:, 1] - z[:, 0], z[:, 2] - z[:, 0]
-        self.slope = np.stack([zu * v[:, 1] - zv * u[:, 1], zv * u[:, 0] - zu * v[:, 0]], -1) / self.area[:, None] * self.grid
+        self.slope = np.stack([zu * v[:, 1] - zv * u[:, 1], zv * u[:, 0] - zu * v[:, 0]], -1) / self.area[
+            :, None] * self.grid
         self.base = p / self.grid
         self.low = np.maximum(-(-whole.min(1) // self.grid), 0)
         self.high = np.minimum(whole.max(1) // self.grid, np.array(size) - 1)
 
     def depth(self, which: Array, x: Array, y: Array) -> Array:
-        value = self.z[which, 0] + self.slope[which, 0] * (x - self.base[which, 0]) + self.slope[which, 1] * (y - self.base[which, 1])
+        value = self.z[which, 0] + self.slope[which, 0] * (x - self.base[which, 0]) + self.slope[which, 1] * (
+            y - self.base[which, 1])
         depth: Array = np.clip(value, self.z[which].min(-1), self.z[which].max(-1))
         return depth
 
@@ -317,8 +332,8 @@ def cuts_of(wide: Array) -> Iterator[slice]:
 
 # ---- what is seen ----
 def nearest(triangles: Triangles, size: Sequence[int]) -> tuple[Array, Array]:
-    """The depth of the nearest triangle at each pixel, infinite for none, and its place in `triangles`; of two with one depth that which
-    looks to the eye."""
+    """The depth of the nearest triangle at each pixel, infinite for none, and its place in `triangles`; of two with one
+    depth that which looks to the eye."""
     best, who = np.full(size[0] * size[1], np.inf), np.full(size[0] * size[1], NONE)
     for which, x, y in triangles.spans():
         z, at = triangles.depth(which, x, y) + FILM * (triangles.way[which] > 0), y * size[0] + x
@@ -329,9 +344,11 @@ def nearest(triangles: Triangles, size: Sequence[int]) -> tuple[Array, Array]:
     return best, who
 
 
-def first_inside(tree: Any, leaves: Sequence[Any], owner: Array, triangles: Triangles, size: Sequence[int]) -> tuple[Array, Array, Array]:
-    """The same for an expression of closed meshes: at each pixel the first crossing behind which the expression holds. A mesh is where
-    its surface winds around a point. The third is the leaf that is at the near plane where the expression holds there, else none."""
+def first_inside(tree: Any, leaves: Sequence[Any], owner: Array, triangles: Triangles, size: Sequence[int]) -> tuple[
+    Array, Array, Array]:
+    """The same for an expression of closed meshes: at each pixel the first crossing behind which the expression holds.
+    A mesh is where its surface winds around a point. The third is the leaf that is at the near plane where the
+    expression holds there, else none."""
     parts = [(which, y * size[0] + x, triangles.depth(which, x, y)) for which, x, y in triangles.spans()]
     which, at, z = (np.concatenate(part) for part in zip(*parts)) if parts else (np.zeros(0, int),) * 3
     order = np.lexsort((triangles.way[which], z, at))
@@ -345,7 +362,8 @@ def first_inside(tree: Any, leaves: Sequence[Any], owner: Array, triangles: Tria
     for number, own in enumerate(leaves):
         total = np.cumsum(np.where(leaf == number, way, 0))
         last = np.repeat(total[ends], count)
-        after[id(own)] = total != last            # behind the last crossing a closed mesh is over: the winding there is 0
+        # behind the last crossing a closed mesh is over: the winding there is 0
+        after[id(own)] = total != last
         at_start[id(own)] = np.append(0, total[ends[:-1]])[:len(starts)] != total[ends]
     holds, begins = holding(tree, after), holding(tree, at_start)
     slack = (np.abs(triangles.slope).sum(1) / triangles.grid)[which] + FILM
@@ -377,8 +395,8 @@ def holding(tree: Any, states: dict[int, Array]) -> Array:
 
 
 def ends_of(parts: Sequence[Any], size: Sequence[int], bits: Sequence[int]) -> tuple[Array, Array]:
-    """The first cell of convex solids at each pixel, and the cell at which the last ends, by their planes as a scene has them; infinite
-    and below 0 where there is none. Each part is a list of (kind, (A, B, C))."""
+    """The first cell of convex solids at each pixel, and the cell at which the last ends, by their planes as a scene
+    has them; infinite and below 0 where there is none. Each part is a list of (kind, (A, B, C))."""
     x, y = np.meshgrid(np.arange(size[0]), np.arange(size[1]))
     first, last = np.full(x.shape, np.inf), np.full(x.shape, -1.0)
     unit = 1 << bits[1]
@@ -400,26 +418,28 @@ def ends_of(parts: Sequence[Any], size: Sequence[int], bits: Sequence[int]) -> t
 
 def unlike(leaf: Any, parts: Sequence[Any], view: Any, size: Sequence[int], bits: Sequence[int], rounded: float,
            digit: float) -> tuple[int, Any]:
-    """At how many pixels the convex parts of a mesh do not begin or end where its own triangles do, and the first of them. What is beside
-    an edge by less than 0.02 pixels, or by what the digits of its points leave open, is not counted."""
+    """At how many pixels the convex parts of a mesh do not begin or end where its own triangles do, and the first of
+    them. What is beside an edge by less than 0.02 pixels, or by what the digits of its points leave open, is not
+    counted."""
     lens, cells = lens_of(view), (1 << bits[0]) - 1
     seen, numbers, _ = in_view(lens, lens.seen(corners_of(leaf)))
     places = lens.placed(seen)
     zoom = lens.focal / lens.near if lens.perspective else lens.focal
     beside, deep = max(0.02, 2 * digit * zoom), 2 * digit * lens.steep / (lens.near ** 2 if lens.perspective else 1)
-    ours = ends_of(parts, size, bits)
-    wrong = np.zeros(ours[0].shape, bool)
-    for own, way in zip(ours, (1, -1)):
-        theirs = []
+    room, ends = 1 + rounded + deep, []
+    for way in (1, -1):
+        around = []
         for right, down in ((0, 0), (1, 1), (1, -1), (-1, 1), (-1, -1)):
             moved = (places + np.array((right * beside, down * beside, 0))) * np.array((1, 1, way))
-            best, _ = nearest(Triangles(moved, numbers, size, True), size)
-            theirs.append(np.ceil(np.clip(way * best.reshape(own.shape), -1, cells)))
-        low, high, room = np.min(theirs, 0), np.max(theirs, 0), 1 + rounded + deep
-        is_there = (own >= 0) & (own < cells) if way == 1 else own >= 0
-        none = cells if way == 1 else -1
-        wrong |= ~is_there & (np.array(theirs) != none).all(0) & (high - low < cells / 2) & (low < cells - room) & (high > room)
-        wrong |= is_there & ((own < low - room) | (own > high + room)) & (own > room) & (own < cells - room)
+            around.append(way * nearest(Triangles(moved, numbers, size, True), size)[0].reshape(size[1], size[0]))
+        ends.append((np.min(around, 0), np.max(around, 0)))
+    first, last = ends_of(parts, size, bits)
+    (begins, begun), (ended, over) = ends
+    # A scene tells nothing of what begins before all depths or ends behind them, nor of what is thinner than a cell.
+    wrong = (last < 0) & (np.minimum(ended, cells) - np.maximum(begun, 0) > 1 + room)
+    for own, low, high in ((first, begins, begun), (last, ended, over)):
+        is_told = (last >= 0) & (low >= 0) & (high <= cells) & (own > room) & (own < cells - room)
+        wrong |= is_told & ((own < np.ceil(low) - room) | (own > np.ceil(high) + room))
     found = np.argwhere(wrong)
     return len(found), tuple(found[0][::-1].tolist()) if len(found) else None
 
@@ -455,8 +475,8 @@ class Seen:
         return low, high
 
     def columns(self, is_cut: bool) -> tuple[list[Column], float]:
-        """The columns, and by how many cells the worst plane is rounded. Where something is cut away or intersected, a column
-        is parted until it is nowhere nearer than what is seen."""
+        """The columns, and by how many cells the worst plane is rounded. Where something is cut away or intersected, a
+        column is parted until it is nowhere nearer than what is seen."""
         t = self.triangles
         low, high = self.boxes()
         keep = np.flatnonzero(high[:, 0] >= 0)
@@ -469,7 +489,7 @@ class Seen:
         constant = np.rint(value * self.parts - (plane * middle).sum(1))
         out: list[Column] = []
         for i, own in enumerate(keep.tolist()):
-            box: Window = (*low[own].tolist(), *high[own].tolist())
+            box: Window = (int(low[own, 0]), int(low[own, 1]), int(high[own, 0]), int(high[own, 1]))
             number = int(t.numbers[own])
             if is_steep[i]:
                 out += self.of_pixels(own, number, box)
@@ -488,7 +508,8 @@ class Seen:
         y, x = np.nonzero(self.who[box[1]:box[3] + 1, box[0]:box[2] + 1] == own)
         for px, py in zip((x + box[0]).tolist(), (y + box[1]).tolist()):
             pixel = (px, py, px, py)
-            out.append(Column([("front", 0, 0, round(float(self.best[py, px]) * self.parts)), *box_planes(pixel)], number, pixel))
+            out.append(Column([("front", 0, 0, round(float(self.best[py, px]) * self.parts)), *box_planes(pixel)],
+                              number, pixel))
         return out
 
     def parted(self, own: int, box: Window) -> list[Window]:
@@ -538,7 +559,8 @@ def scenes_of(columns: list[Column], bits: Sequence[int]) -> list[Scene]:
     for half in (order[~big[order]], order[big[order]]):
         for i in range(0, len(half), limits.MAX_SOLIDS):
             part = half[i:i + limits.MAX_SOLIDS]
-            window: Window = (*boxes[part, :2].min(0).tolist(), *boxes[part, 2:].max(0).tolist())
+            low, high = boxes[part, :2].min(0), boxes[part, 2:].max(0)
+            window: Window = (int(low[0]), int(low[1]), int(high[0]), int(high[1]))
             own = [columns[j] for j in part]
             out.append(Scene(window, text_of(window, bits, own), np.array([column.number for column in own])))
     return out
@@ -577,8 +599,8 @@ def drawn(scene: Scene, path: str) -> tuple[Array, Array]:
 
 
 class Drawing(NamedTuple):
-    """A picture: `depths` by rows, `cells` for the background; `shown` has the triangle that shows at each pixel, and -1 for none;
-    what the near plane cuts shows as a number from the count of triangles on. `rounded` is in cells."""
+    """A picture: `depths` by rows, `cells` for the background; `shown` has the triangle that shows at each pixel, and
+    -1 for none; what the near plane cuts shows as a number from the count of triangles on. `rounded` is in cells."""
 
     depths: Array
     shown: Array
@@ -590,16 +612,20 @@ class Drawing(NamedTuple):
     scenes: int
 
     def maps(self) -> bytes:
-        """The depths and the faces as Netpbm's maps, three bytes a pixel; a face is the number of a triangle, from 1."""
-        return b"".join(b"P6\n%d %d\n255\n" % numbers.shape[::-1] + np.stack([numbers >> 16, numbers >> 8, numbers], -1).astype(
+        """The depths and the faces as Netpbm's maps, three bytes a pixel; a face is the number of a triangle, from
+        1."""
+        return b"".join(b"P6\n%d %d\n255\n"
+                        % numbers.shape[::-1] + np.stack([numbers >> 16, numbers >> 8, numbers], -1).astype(
             np.uint8).tobytes() for numbers in (self.depths, self.shown + 1))
 
-    def colours(self, of_leaves: Sequence[Sequence[int]], background: tuple[int, int, int] = (255, 255, 255)) -> list[tuple[int, ...]]:
+    def colours(self, of_leaves: Sequence[Sequence[int]], background: tuple[int, int, int] = (255, 255, 255)) -> list[
+        tuple[int, ...]]:
         """The colours by rows: that of each triangle's leaf, lighter the more it looks to the light."""
         u, v = self.corners[:, 1] - self.corners[:, 0], self.corners[:, 2] - self.corners[:, 0]
         normal = np.cross(u, v) @ self.lens.rows.T
         seen = self.lens.seen(self.corners[:, 0]) if self.lens.perspective else np.array([0.0, 0.0, 1.0])
-        normal *= np.where((normal * seen).sum(1) > 0, -1, 1)[:, None] / np.maximum(np.linalg.norm(normal, axis=1), 1e-300)[:, None]
+        normal *= np.where((normal * seen).sum(1) > 0, -1, 1)[:, None] / np.maximum(
+            np.linalg.norm(normal, axis=1), 1e-300)[:, None]
         light = DULL + (1 - DULL) * np.maximum(0, normal @ LIGHTEST)
         own = np.array(of_leaves)
         faces = np.rint(own[self.owner] * light[:, None]).astype(int)
@@ -607,7 +633,8 @@ class Drawing(NamedTuple):
         return [tuple(colour) for colour in table[self.shown].reshape(-1, 3).tolist()]
 
 
-def draw(tree: Any, leaves: Sequence[Any], view: Any, size: Sequence[int], bits: Sequence[int], path: Optional[str] = None,
+def draw(tree: Any, leaves: Sequence[Any], view: Any, size: Sequence[int], bits: Sequence[int],
+         path: Optional[str] = None,
          jobs: int = 2) -> Drawing:
     """The picture of an expression of the leaves of `solids`. `Trouble` where what must be closed is open."""
     lens, cells = lens_of(view), (1 << bits[0]) - 1
@@ -638,7 +665,8 @@ def draw(tree: Any, leaves: Sequence[Any], view: Any, size: Sequence[int], bits:
             at = np.s_[y0:y1 + 1, x0:x1 + 1]
             near = deep < depths[at]
             depths[at][near] = deep[near]
-            shown[at][near] = scene.numbers[(face[near] - 1) // 2]    # each column has two faces: the near one and its front
+            # each column has two faces: the near one and its front
+            shown[at][near] = scene.numbers[(face[near] - 1) // 2]
     return Drawing(depths, shown, corners, owner, lens, rounded, len(columns), len(scenes))
 
 

@@ -1,8 +1,11 @@
 """Where the rays of a picture meet the triangles of a mesh, clean or not, in double precision: what a
 kernel's result has at a pixel. It knows nothing of half-spaces or of the expression."""
-import math
+from __future__ import annotations
 
-from pxplanes.mesh import facets
+import math
+from typing import Any
+
+from pxplanes.mesh import facets, kinds
 
 WHOLE, FOREVER = 1e-6, 2.0 ** 40
 
@@ -11,8 +14,10 @@ class Crossings:
     """A mesh as a picture has it. `seen` are its points as column, row (downwards) and depth in cells; a
     facet goes round to the left where it is seen from outside."""
 
-    def __init__(self, seen, sides):
-        self.pieces, self.lists, self.spans_at = {}, {}, {}
+    def __init__(self, seen: Any, sides: Any) -> None:
+        self.pieces: dict[float, list[Any]] = {}
+        self.lists: dict[int, list[Any]] = {}
+        self.spans_at: dict[tuple[float, float], list[tuple[float, float]]] = {}
         for side in sides:
             for i in range(1, len(side) - 1):
                 corners = [tuple(seen[at]) for at in (side[0], side[i], side[i + 1])]
@@ -20,7 +25,7 @@ class Crossings:
                 for row in range(math.floor(min(rows)), math.floor(max(rows)) + 1):
                     self.lists.setdefault(row, []).append(corners)
 
-    def row(self, y):
+    def row(self, y: float) -> list[Any]:
         """The pieces of triangles on a row: from and to a column, without it, the depths there, and 1
         where a ray goes in, -1 where it comes out."""
         if y not in self.pieces:
@@ -28,7 +33,7 @@ class Crossings:
             self.pieces[y] = [piece for piece in found if piece]
         return self.pieces[y]
 
-    def spans(self, x, y):
+    def spans(self, x: float, y: float) -> list[tuple[float, float]]:
         """Where a ray is inside, from and to: where it went in more often than it came out; to FOREVER where it
         does not come out again."""
         if (x, y) not in self.spans_at:
@@ -44,7 +49,7 @@ class Crossings:
             self.spans_at[x, y] = out + ([(start, FOREVER)] if count > 0 else [])
         return self.spans_at[x, y]
 
-    def depth(self, x, y, cut, far, grow=0):
+    def depth(self, x: float, y: float, cut: int, far: int, grow: float = 0) -> int:
         """The first cell from `cut` on that stands inside, each span longer by `grow` at both ends; `far` for none."""
         for low, high in self.spans(x, y):
             first = max(cut, math.ceil(low - grow - WHOLE))
@@ -53,7 +58,7 @@ class Crossings:
         return far
 
 
-def piece_of(corners, y):
+def piece_of(corners: Any, y: float) -> Any:
     """The piece of a triangle on a row. Both ends of an edge that two triangles share are taken in one
     order, so that no ray passes between them, nor meets both."""
     ends = {}
@@ -69,9 +74,9 @@ def piece_of(corners, y):
     return left, right, depth, (other - depth) / (right - left), 1 if ends[True][0] < ends[False][0] else -1
 
 
-def open_edges(sides):
+def open_edges(sides: Any) -> int:
     """How many edges are not passed as often one way as the other."""
-    ways = {}
+    ways: dict[tuple[int, int], int] = {}
     for side in sides:
         for i, at in enumerate(side):
             edge = side[i - 1], at
@@ -79,7 +84,7 @@ def open_edges(sides):
     return sum(ways.get((b, a), 0) < count for (a, b), count in ways.items() if a != b)
 
 
-def outwards(points, sides):
+def outwards(points: kinds.Points, sides: Any) -> tuple[Any, bool]:
     """The facets, turned where they look inwards; and whether they were."""
     is_inwards = bool(sides) and facets.volume(points, sides) < 0
     return ([side[::-1] for side in sides] if is_inwards else sides), is_inwards

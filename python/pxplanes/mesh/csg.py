@@ -1,15 +1,14 @@
 """Reads what OpenSCAD exports as .csg into a tree of convex solids: what `model` draws from."""
+from __future__ import annotations
+
 import functools
 import os
 import re
+from typing import Any, Optional, Sequence
 
 from pxplanes import ends
-from pxplanes.mesh import mesh_files
-from pxplanes.mesh import openscad
-from pxplanes.mesh import primitives
-from pxplanes.mesh import shaping
-from pxplanes.mesh import solids
 from pxplanes.errors import Trouble
+from pxplanes.mesh import kinds, mesh_files, openscad, primitives, shaping, solids
 from pxplanes.mesh.solids import AS_IS, joined
 
 TOKEN = re.compile(r'\s+|//[^\n]*|/\*.*?\*/|([A-Za-z_$][A-Za-z0-9_$]*)|'
@@ -32,7 +31,7 @@ class Untaken(Trouble):
 class Flat:
     """A convex flat shape by its corners."""
 
-    def __init__(self, corners):
+    def __init__(self, corners: kinds.Points) -> None:
         self.corners = corners
         self.points = [(x, y, 0.0) for x, y in corners]
 
@@ -41,20 +40,21 @@ class Place:
     """Where a statement stands: its matrix and colour, whether shapes are flat there, how deep it
     is, and whether another node makes a shape of it."""
 
-    def __init__(self, matrix=AS_IS, colour=None, flat=False, depth=0, is_inside=False):
+    def __init__(self, matrix: kinds.Matrix = AS_IS, colour: kinds.Colour = None, flat: bool = False, depth: int = 0,
+                 is_inside: bool = False) -> None:
         self.matrix, self.colour, self.flat, self.depth, self.is_inside = matrix, colour, flat, depth, is_inside
 
-    def below(self, matrix=None, colour=None):
+    def below(self, matrix: Optional[kinds.Matrix] = None, colour: kinds.Colour = None) -> "Place":
         return Place(matrix or self.matrix, colour or self.colour, self.flat, self.depth + 1, self.is_inside)
 
-    def inside(self, flat):
+    def inside(self, flat: bool) -> Place:
         return Place(AS_IS, self.colour, flat, self.depth + 1, True)
 
 
 class Reader:
     """Reads statements into trees, as solids.py has them."""
 
-    def __init__(self, text, folder):
+    def __init__(self, text: str, folder: Optional[str]) -> None:
         self.text, self.folder = text, folder or "."
         self.tokens, self.at = [], 0
         line = 1
@@ -64,23 +64,23 @@ class Reader:
             line += match.group().count("\n")
         self.last = line
 
-    def line(self):
+    def line(self) -> int:
         return self.tokens[self.at][2] if self.at < len(self.tokens) else self.last
 
-    def bad(self, what, line=None, kind=Trouble):
+    def bad(self, what: str, line: Optional[int] = None, kind: type[Trouble] = Trouble) -> Trouble:
         return kind("line %d: %s" % (line or self.line(), what))
 
-    def peek(self):
+    def peek(self) -> str:
         return self.tokens[self.at][1] if self.at < len(self.tokens) else ""
 
-    def take(self, wanted=None):
+    def take(self, wanted: Optional[str] = None) -> str:
         word = self.peek()
         if not word or wanted and word != wanted:
             raise self.bad("%s is due, and not %s" % (wanted or "more", word or "the end"))
         self.at += 1
         return word
 
-    def value(self, depth=0, is_time=False):
+    def value(self, depth: int = 0, is_time: bool = False) -> Any:
         kind, word = self.tokens[self.at][:2] if self.at < len(self.tokens) else (0, "")
         if word == "[" and depth < DEEPEST:
             self.take()
@@ -101,12 +101,12 @@ class Reader:
             return {"true": True, "false": False, "undef": None}.get(word, word)
         raise self.bad("a value is due, and not %s" % word)
 
-    def arguments(self):
+    def arguments(self) -> dict[Any, Any]:
         """The arguments by name; those without one by their place."""
-        found = {}
+        found: dict[Any, Any] = {}
         self.take("(")
         while self.peek() != ")":
-            name = len(found)
+            name: Any = len(found)
             if self.at + 1 < len(self.tokens) and self.tokens[self.at + 1][1] == "=":
                 name = self.take()
                 self.take("=")
@@ -116,7 +116,7 @@ class Reader:
         self.take(")")
         return found
 
-    def statements(self, end, place):
+    def statements(self, end: Any, place: Any) -> list[Any]:
         trees = []
         while self.peek() != end:
             if self.peek() == ";":
@@ -126,7 +126,7 @@ class Reader:
                 trees += [tree] if tree is not LEFT_OUT else []
         return trees
 
-    def statement(self, place):
+    def statement(self, place: Any) -> Any:
         if place.depth > DEEPEST:
             raise self.bad("it nests deeper than %d" % DEEPEST)
         marks = ""
@@ -146,7 +146,7 @@ class Reader:
                 raise
             return self.by_openscad(start, place, line, untaken)
 
-    def by_openscad(self, start, place, line, why):
+    def by_openscad(self, start: int, place: Any, line: int, why: Any) -> Any:
         """The tree of a node's mesh, where OpenSCAD makes one."""
         self.at = start
         name = self.take()
@@ -156,13 +156,14 @@ class Reader:
         stop = self.tokens[self.at][3] if self.at < len(self.tokens) else len(self.text)
         try:
             mesh = openscad.mesh_of(self.text[self.tokens[start][3]:stop], self.folder)
-            tree = solids.Mesh("part", line, lambda: mesh, YELLOW, "%s; of the mesh of %s: %%s" % (str(why).replace("%", "%%"), name))
+            tree = solids.Mesh("part", line, lambda: mesh, YELLOW,
+                               "%s; of the mesh of %s: %%s" % (str(why).replace("%", "%%"), name))
             ends.say("pxplanes convert", "line %d: %s is drawn as the mesh that openscad makes of it" % (line, name))
             return self.put(tree, place)
         except Trouble as bad:
             raise Trouble("%s; of the mesh of %s: %s" % (why, name, bad))
 
-    def node(self, place, line):
+    def node(self, place: Any, line: int) -> Any:
         name = self.take()
         known = FLAT if place.flat else SOLIDS
         if name not in JOINS and name not in SHAPERS and name not in known:
@@ -181,7 +182,7 @@ class Reader:
         except (KeyError, TypeError, ValueError, IndexError, AttributeError, ZeroDivisionError):
             raise self.bad("%s has arguments that are not understood" % name, line)
 
-    def body(self, place):
+    def body(self, place: Any) -> list[Any]:
         if self.peek() == ";":
             self.take()
             return []
@@ -190,7 +191,7 @@ class Reader:
         self.take("}")
         return trees
 
-    def skipped(self):
+    def skipped(self) -> None:
         """Passes over the arguments and the body of a node, whose name is taken."""
         depth = 0
         while depth or self.peek() not in (";", "{"):
@@ -200,7 +201,7 @@ class Reader:
             while depth:
                 depth += {"{": 1, "}": -1}.get(self.take(), 0)
 
-    def changed(self, name, found, place):
+    def changed(self, name: str, found: Any, place: Place) -> Place:
         if name == "multmatrix":
             own = [[float(part) for part in row[:4]] for row in found[0][:3]]
             return place.below(matrix=solids.times(place.matrix, own))
@@ -208,11 +209,11 @@ class Reader:
             return place.below(colour=tuple(min(255, max(0, round(255 * part))) for part in found[0][:3]))
         return place.below()
 
-    def put(self, tree, place):
+    def put(self, tree: kinds.Tree, place: Any) -> Any:
         """A tree at its place, in its colour."""
         return solids.each(tree, lambda solid: solid.moved(place.matrix, place.colour or YELLOW))
 
-    def primitive(self, name, found, place, line):
+    def primitive(self, name: str, found: Any, place: Any, line: int) -> Any:
         try:
             if place.flat:
                 return self.flat(name, found, place, line)
@@ -221,29 +222,30 @@ class Reader:
             else:
                 shape = primitives.solid(name, found)
                 tree = shape and (self.polyhedron(shape, line) if name == "polyhedron" else solids.of_mesh(
-                    name, line, *shape, YELLOW, is_exact=True))
+                    name, line, shape[0], shape[1], YELLOW, is_exact=True))
             return self.put(tree, place)
         except Untaken:
             raise
         except Trouble as bad:
             raise self.bad("%s %s" % (name, bad), line)
 
-    def imported(self, found, line):
+    def imported(self, found: Any, line: int) -> Any:
         path = os.path.join(self.folder, found["file"][1:-1])
         kind = os.path.splitext(path)[1][1:].lower()
         if kind not in mesh_files.READERS:
-            raise self.bad("import of .%s is not read here: only .off, .stl, .obj, .ply and .3mf are" % kind, line, Untaken)
+            raise self.bad("import of .%s is not read here: only %s are" % (kind, mesh_files.ENDINGS), line, Untaken)
         try:
             data = ends.content(path)
         except OSError:
             raise Trouble("of %s, which cannot be read" % path)
         return of_mesh_file(kind, data, line, "line %d: import %%s" % line)
 
-    def polyhedron(self, shape, line):
+    def polyhedron(self, shape: Any, line: int) -> solids.Mesh:
         return solids.Mesh("polyhedron", line, lambda: shape, YELLOW, "line %d: polyhedron %%s" % line,
-                           divide=lambda points, sides, colour, line: solids.of_mesh("polyhedron", line, points, sides, colour))
+                           divide=lambda points, sides, colour,
+                           line: solids.of_mesh("polyhedron", line, points, sides, colour))
 
-    def flat(self, name, found, place, line):
+    def flat(self, name: str, found: Any, place: Any, line: int) -> Any:
         if name == "polygon" and found.get("paths") and len(found["paths"]) > 1:
             raise self.bad("polygon of several paths is not read here", line, Untaken)
         if name == "polygon" and found.get("paths"):
@@ -252,7 +254,7 @@ class Reader:
         pieces = shaping.convex_pieces(corners) if corners else []
         return joined("+", [flat_at(Flat(piece), place.matrix) for piece in pieces if piece])
 
-    def shaped(self, name, found, place, line):
+    def shaped(self, name: str, found: Any, place: Any, line: int) -> Any:
         """The tree of a node that makes other shapes of those in it."""
         of_flat = place.flat or name.endswith("extrude")
         if place.flat and name.endswith("extrude"):
@@ -267,7 +269,7 @@ class Reader:
             raise self.bad("%s %s" % (name, bad), line, kind)
         return solids.each(tree, lambda flat: flat_at(flat, place.matrix)) if place.flat else self.put(tree, place)
 
-    def convex(self, name, tree, flat, line):
+    def convex(self, name: str, tree: kinds.Tree, flat: bool, line: int) -> list[Any]:
         """The convex shapes that a tree is the union of; a hull needs the points of its meshes alone."""
         if not flat and (name == "minkowski" or "*" in solids.signs(tree)):
             tree = solids.divided(tree)
@@ -276,20 +278,21 @@ class Reader:
                            line, Untaken)
         return solids.convex_parts(tree, solids.met)
 
-    def hull(self, trees, found, place, line):
+    def hull(self, trees: list[Any], found: Any, place: Any, line: int) -> Any:
         parts = self.convex("hull", joined("+", trees), place.flat, line)
         return self.hulled("hull", [point for part in parts for point in part.points], place, line)
 
-    def hulled(self, name, points, place, line):
+    def hulled(self, name: str, points: kinds.Points, place: Any, line: int) -> Any:
         if not points:
             return None
         if place.flat:
             corners = shaping.flat_hull([point[:2] for point in points])
             return Flat(corners) if corners else None
-        return solids.Solid(name, line, *shaping.hull(points), YELLOW)
+        corners, planes = shaping.hull(points)
+        return solids.Solid(name, line, corners, planes, YELLOW)
 
-    def minkowski(self, trees, found, place, line):
-        parts = None
+    def minkowski(self, trees: list[Any], found: Any, place: Any, line: int) -> Any:
+        parts: Optional[list[Any]] = None
         for tree in trees:
             own = self.convex("minkowski", tree, place.flat, line)
             if tree is None:
@@ -299,7 +302,7 @@ class Reader:
                 for one in parts for other in own]
         return joined("+", parts or [])
 
-    def resize(self, trees, found, place, line):
+    def resize(self, trees: list[Any], found: Any, place: Any, line: int) -> Any:
         tree = joined("+", trees)
         parts = self.convex("resize", tree, place.flat, line)
         if not parts:
@@ -311,17 +314,21 @@ class Reader:
         return solids.each(tree, lambda part: flat_at(part, matrix) if place.flat
                            else part.moved(matrix, part.colour))
 
-    def linear_extrude(self, trees, found, place, line):
+    def linear_extrude(self, trees: list[Any], found: Any, place: Any, line: int) -> Any:
         scale = found.get("scale", [1, 1])
         scale = scale if isinstance(scale, list) else [scale, scale]
         if found.get("twist") or scale[0] != scale[1]:
             raise self.bad("linear_extrude with a twist, or with two scales, is not read here", line, Untaken)
         if found["height"] <= 0:
             return None
-        return solids.each(joined("+", trees), lambda flat: solids.of_mesh(
-            "prism", line, *shaping.prism(flat.corners, found["height"], scale, found.get("center")), YELLOW))
 
-    def rotate_extrude(self, trees, found, place, line):
+        def prism(flat: Flat) -> Any:
+            points, sides = shaping.prism(flat.corners, found["height"], scale, found.get("center"))
+            return solids.of_mesh("prism", line, points, sides, YELLOW)
+
+        return solids.each(joined("+", trees), prism)
+
+    def rotate_extrude(self, trees: list[Any], found: Any, place: Any, line: int) -> Any:
         tree = joined("+", trees)
         flats = [flat for flat, _ in solids.leaves(tree)]
         least = min((x for flat in flats for x, _ in flat.corners), default=0)
@@ -332,32 +339,32 @@ class Reader:
         count = primitives.fragments(most, primitives.settings(found))
         count = max(int(count * abs(angle) / 360), 1)
         return solids.each(tree, lambda flat: joined("+", [
-            solids.of_mesh("turned", line, *mesh, YELLOW)
-            for mesh in shaping.turned(flat.corners, angle, count, abs(angle) == 360)]))
+            solids.of_mesh("turned", line, points, sides, YELLOW)
+            for points, sides in shaping.turned(flat.corners, angle, count, abs(angle) == 360)]))
 
 
-def resized(wanted, auto, size):
+def resized(wanted: kinds.Vector, auto: Sequence[bool], size: kinds.Vector) -> list[float]:
     """By how much each axis grows, as OpenSCAD's resize has it."""
-    wanted, auto = list(wanted) + [0, 0], list(auto) + [0, 0]
+    wanted, auto = [*wanted, 0, 0], [*auto, False, False]
     factors = [want / have if want > 0 and have > 0 else None for want, have in zip(wanted, size)]
     free = factors[max(range(3), key=lambda i: wanted[i])] or 1
     return [factor or (free if by_itself else 1) for factor, by_itself in zip(factors, auto)]
 
 
-def flat_at(flat, matrix):
+def flat_at(flat: Any, matrix: kinds.Matrix) -> Flat:
     """A flat shape under a matrix."""
     points = solids.placed(matrix, flat.points)
     corners = [(x, y) for x, y, _ in points]
     return Flat(corners if shaping.area(corners) > 0 else corners[::-1])
 
 
-def read(data, folder):
+def read(data: bytes, folder: Optional[str]) -> Any:
     """The tree of a .csg file of that folder."""
     reader = Reader(data.decode("latin-1"), folder)
     return joined("+", reader.statements("", Place()))
 
 
-def of_mesh_file(kind, data, line=0, words="%s"):
+def of_mesh_file(kind: str, data: bytes, line: int = 0, words: str = "%s", folder: Optional[str] = None) -> solids.Mesh:
     """The mesh of a file's bytes."""
-    return solids.Mesh("part", line, functools.cache(lambda: mesh_files.READERS[kind](data)), YELLOW, words,
+    return solids.Mesh("part", line, functools.cache(lambda: mesh_files.read(kind, data, folder)), YELLOW, words,
                        functools.cache(lambda: mesh_files.soup(kind, data)))

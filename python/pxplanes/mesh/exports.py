@@ -1,8 +1,11 @@
 """The scene in other programs' words: POV-Ray, OpenSCAD, a mesh of each solid, and JSON. Each gives
 the text, and what of the scene it does not say. What `export` writes."""
-import json
+from __future__ import annotations
 
-from pxplanes.mesh import facets
+import json
+from typing import Any, Optional, Sequence
+
+from pxplanes.mesh import facets, kinds
 from pxplanes.scene import rays
 
 GROW = 0.1
@@ -28,7 +31,8 @@ background { rgb %(background)s }
 #declare GROW = PART * %(grow)g;
 %(halves)s
 """
-POV_PARALLEL = """// Rays are parallel, and go through the whole places (x, y). POV-Ray's y grows upwards: our y is its -y.
+POV_PARALLEL = """// Rays are parallel, and go through the whole places (x, y). POV-Ray's y grows upwards: \
+our y is its -y.
 camera {
   orthographic
   location <%(middle)s, -%(centre)s, -1>
@@ -40,7 +44,8 @@ POV_HALVES = """#macro Half(A, B, D, C) plane { <A, -B, D> / vlength(<A, -B, D>)
 #macro Front(A, B, C, G) Half(A, B, -1, G - (C)) #end
 #macro Back(A, B, C, G) Half(-(A), -(B), 1, (C) - PART / 2 + G) #end
 #macro Side(A, B, C) Half(-(A), -(B), 0, (C) + 0.5) #end"""
-POV_PERSPECTIVE = """// The camera of the model that the scene was made of, in the model's own axes. At the distance Z along AWAY
+POV_PERSPECTIVE = """// The camera of the model that the scene was made of, in the model's own axes. At the \
+distance Z along AWAY
 // the depth is ZERO - SCALE / Z.
 #declare EYE = <%(eye)s>;
 #declare RIGHT = <%(right)s>;
@@ -74,21 +79,21 @@ object {
 """
 
 
-def number(value, scene):
+def number(value: int, scene: Any) -> str:
     whole = 1 << scene.fraction_bits
     return "%d" % (value // whole) if value % whole == 0 else repr(value / whole)
 
 
-def cells(plane, scene):
+def cells(plane: Sequence[int], scene: Any) -> str:
     return ", ".join(number(part, scene) for part in plane)
 
 
-def signed(scene):
+def signed(scene: Any) -> Any:
     """The expression's tree: (sign, left, right), or the index of a solid."""
     return rays.folded(scene.show, lambda at: at, lambda sign, left, right: (sign, left, right))
 
 
-def pov_tree(tree, scene, grown, indent):
+def pov_tree(tree: Any, scene: Any, grown: bool, indent: str) -> str:
     """An expression in POV-Ray's words; what is taken away is grown."""
     if isinstance(tree, int):
         return "object { %s(%s) }" % (pov_name(scene, tree), "GROW" if grown else "0")
@@ -101,16 +106,16 @@ def pov_tree(tree, scene, grown, indent):
                                       pov_tree(right, scene, grown != (sign == "-"), inner), indent)
 
 
-def pov_side(a, b, c):
+def pov_side(a: int, b: int, c: int) -> str:
     """A side in POV-Ray's words; one without a slope, which leaves out every pixel, as what ends before the eye."""
     return "Side(%d, %d, %d)" % (a, b, c) if a or b else "plane { z, -1 }"
 
 
-def pov_name(scene, index):
-    return "Solid_" + scene.solids[index].name
+def pov_name(scene: Any, index: int) -> str:
+    return "Solid_%s" % scene.solids[index].name
 
 
-def pov(scene, camera=None):
+def pov(scene: Any, camera: Any = None) -> tuple[str, list[str]]:
     """The text for POV-Ray, and what it does not say."""
     said = {"width": scene.width, "height": scene.height, "far": scene.far(), "parts": 1 << scene.fraction_bits,
             "grow": GROW, "middle": "%g" % ((scene.width - 1) / 2), "centre": "%g" % ((scene.height - 1) / 2)}
@@ -142,20 +147,22 @@ def pov(scene, camera=None):
     return text + POV_TAIL % said, lacks
 
 
-def pov_pigment(depth, bits):
-    """The pigment that shows a depth: a grey of sixteen bits, or for more bits the three bytes of the program's own maps."""
+def pov_pigment(depth: str, bits: Any) -> str:
+    """The pigment that shows a depth: a grey of sixteen bits, or for more bits the three bytes of the program's own
+    maps."""
     if bits <= 16:
         return "function { %s / 65535 } color_map { [0 rgb 0] [1 rgb 1] }" % depth
     channels = ((("floor(%s / 65536)", "x"), ("mod(floor(%s / 256), 256)", "y"), ("mod(%s, 256)", "z")))
     return "average pigment_map {\n%s\n  }" % "\n".join(
-        "    [1 function { %s / 256 } color_map { [0 rgb 0] [1 rgb %s * 3 * 256 / 255] }]" % (part % depth, axis) for part, axis in channels)
+        "    [1 function { %s / 256 } color_map { [0 rgb 0] [1 rgb %s * 3 * 256 / 255] }]" % (part % depth, axis)
+                                                        for part, axis in channels)
 
 
-def listed(numbers):
+def listed(numbers: kinds.Vector) -> str:
     return ", ".join(repr(float(number)) for number in numbers)
 
 
-def half_spaces(scene, solid):
+def half_spaces(scene: Any, solid: Any) -> Optional[list[kinds.Plane]]:
     """The half-spaces of a solid within the picture and the depths: x to the right, y upwards, z to
     the eye, in pixels and in cells."""
     whole = 1 << scene.fraction_bits
@@ -164,7 +171,7 @@ def half_spaces(scene, solid):
     rows += [(a / whole, -b / whole, 1, -c / whole) for a, b, c in (face.plane for face in solid.fronts)]
     rows += [(-a / whole, b / whole, -1, c / whole) for a, b, c in (face.plane for face in solid.backs)]
     rows += [(-a, b, 0, c + 0.5) for a, b, c in (side.plane for side in solid.sides)]
-    out = []
+    out: list[kinds.Plane] = []
     for a, b, c, far in rows:
         length = facets.lengthwise((a, b, c))
         if length:
@@ -174,7 +181,7 @@ def half_spaces(scene, solid):
     return out
 
 
-def mesh(scene, solid, camera=None):
+def mesh(scene: Any, solid: Any, camera: Any = None) -> Any:
     """Points and facets of a solid, whose facets go round to the left from outside; None for nothing.
     With a camera the points are those of its model."""
     planes = half_spaces(scene, solid)
@@ -184,9 +191,11 @@ def mesh(scene, solid, camera=None):
     return found or None
 
 
-def mesh_of(planes, near):
+def mesh_of(planes: Any, near: float) -> Any:
     """Points and facets of what half-spaces leave; None for nothing. Points as near as that are one."""
-    numbers, points, out = {}, [], []
+    numbers: dict[tuple[int, ...], int] = {}
+    points: list[kinds.Vector] = []
+    out = []
     for plane, polygon in facets.sides_of(planes, near):
         if facets.dot(facets.area_normal(polygon), plane[0]) < 0:
             polygon = polygon[::-1]
@@ -196,7 +205,7 @@ def mesh_of(planes, near):
     return (points, out) if len(out) > 3 else None
 
 
-def numbered(point, points, numbers, near):
+def numbered(point: kinds.Vector, points: list[kinds.Vector], numbers: dict[tuple[int, ...], int], near: float) -> int:
     """The number of a point; points that are almost one have one number."""
     key = tuple(round(part / near / 8) for part in point)
     for x in (0, -1, 1):
@@ -210,7 +219,7 @@ def numbered(point, points, numbers, near):
     return len(points) - 1
 
 
-def scad(scene, camera=None):
+def scad(scene: Any, camera: Any = None) -> tuple[str, list[str]]:
     """The text for OpenSCAD, and what it does not say."""
     lines = scad_camera(scene, camera) if camera else [
         "// A scene of pxplanes for OpenSCAD: x to the right, y upwards, z to the eye, in pixels and cells.",
@@ -231,19 +240,20 @@ def scad(scene, camera=None):
     return "\n".join(lines + ["", scad_tree(signed(scene), scene, ""), ""]), lacks
 
 
-def scad_camera(scene, camera):
+def scad_camera(scene: Any, camera: Any) -> list[str]:
     """The head of a scene in the axes of its model, with its camera."""
     distance = camera.distances.near
     place = [own + distance * way for own, way in zip(camera.eye, camera.rows[1])]
     return ["// A scene of pxplanes for OpenSCAD, in the axes of the model that it was made of, with its camera.",
-            "// openscad --preview --projection=p --imgsize=%d,%d -o SCENE.png SCENE.scad" % (scene.width, scene.height),
+            "// openscad --preview --projection=p --imgsize=%d,%d -o SCENE.png SCENE.scad"
+            % (scene.width, scene.height),
             "$vpt = [%s];" % listed(place), "$vpr = [%s];" % listed(camera.turn),
             "$vpd = %r;" % distance, "$vpf = %r;" % camera.fov, ""]
 
 
-def scad_tree(tree, scene, indent):
+def scad_tree(tree: Any, scene: Any, indent: str) -> str:
     if isinstance(tree, int):
-        return indent + scene.solids[tree].name + "();"
+        return "%s%s();" % (indent, scene.solids[tree].name)
     sign, left, right = tree
     if sign == "^":
         return scad_tree(("+", ("-", left, right), ("-", right, left)), scene, indent)
@@ -252,7 +262,7 @@ def scad_tree(tree, scene, indent):
                                       scad_tree(right, scene, indent + "  "), indent)
 
 
-def obj(scene, camera=None):
+def obj(scene: Any, camera: Any = None) -> tuple[str, list[str]]:
     """A mesh of each solid, and what the file does not say."""
     lines = ["# The solids of a scene of pxplanes: " + (
         "in the axes of the model that it was made of." if camera else
@@ -272,7 +282,7 @@ def obj(scene, camera=None):
     return "\n".join(lines + [""]), lacks
 
 
-def camera_of(scene, camera):
+def camera_of(scene: Any, camera: Any) -> dict[str, Any]:
     """A camera as JSON has it: `matrix` takes a point of the model (x, y, z, 1) to OpenGL's clip
     coordinates, and a depth is `zero - scale / Z` at the distance Z along `away`."""
     ends, (width, height) = camera.distances, (scene.width, scene.height)
@@ -288,12 +298,12 @@ def camera_of(scene, camera):
                        away]}
 
 
-def json_of(scene, camera=None):
+def json_of(scene: Any, camera: Any = None) -> tuple[str, list[str]]:
     """The whole scene as JSON (docs/COMPARE.md, "Exports")."""
-    def face(own):
+    def face(own: Any) -> dict[str, Any]:
         return {"face": own.number, "plane": list(own.plane), "colour": list(own.colour)}
 
-    def shown(tree):
+    def shown(tree: Any) -> Any:
         return scene.solids[tree].name if isinstance(tree, int) else [tree[0], shown(tree[1]), shown(tree[2])]
 
     return json.dumps({

@@ -1,11 +1,15 @@
 """From points and facets to convex solids: the planes of a convex one, and the convex parts of one
 that is not. A facet is a list of the numbers of its points; a plane is the normal, of length 1 and
 out of the solid, and its distance from the origin. Points are as exact as the digits that their file has."""
+from __future__ import annotations
+
 import math
 from fractions import Fraction
+from typing import Any, Optional, Sequence
 
-from pxplanes.scene import limits
 from pxplanes.errors import Trouble
+from pxplanes.mesh import kinds
+from pxplanes.scene import limits
 
 SIX_DIGITS = 5e-6
 SINGLE = 6e-8
@@ -22,15 +26,15 @@ RAY = (0.5377, 0.2963, 0.7893)
 REACH = 1e8
 
 
-def dot(one, other):
+def dot(one: kinds.Vector, other: kinds.Vector) -> float:
     return one[0] * other[0] + one[1] * other[1] + one[2] * other[2]
 
 
-def lengthwise(normal):
+def lengthwise(normal: kinds.Vector) -> float:
     return math.sqrt(dot(normal, normal))
 
 
-def area_normal(points):
+def area_normal(points: kinds.Points) -> list[float]:
     """The normal of a polygon, as long as twice its area (Newell's sum)."""
     normal = [0.0, 0.0, 0.0]
     for i, a in enumerate(points):
@@ -41,7 +45,7 @@ def area_normal(points):
     return normal
 
 
-def plane_of(points):
+def plane_of(points: kinds.Points) -> Optional[tuple[list[float], float, float]]:
     """The plane of a polygon, and its height over its longest edge; None without area."""
     normal = area_normal(points)
     length = lengthwise(normal)
@@ -52,48 +56,50 @@ def plane_of(points):
     return normal, sum(dot(normal, point) for point in points) / len(points), length / longest
 
 
-def in_order(corners, normal):
+def in_order(corners: kinds.Points, normal: kinds.Vector) -> list[kinds.Vector]:
     """The corners of a convex polygon on a plane, one after another round it."""
     if len(corners) < 3:
         return []
     middle = [sum(corner[i] for corner in corners) / len(corners) for i in range(3)]
     along, across = axes_on(normal)
 
-    def turn(corner):
+    def turn(corner: kinds.Vector) -> float:
         out = [a - b for a, b in zip(corner, middle)]
         return math.atan2(dot(across, out), dot(along, out))
 
     return sorted(corners, key=turn)
 
 
-def extent(points):
+def extent(points: kinds.Points) -> tuple[float, float]:
     """The greatest coordinate, and the greatest width along an axis."""
     size = max(max(abs(part) for part in point) for point in points) or 1
     return size, max(max(p[i] for p in points) - min(p[i] for p in points) for i in range(3)) or 1
 
 
-def middle_of(points):
+def middle_of(points: kinds.Points) -> list[float]:
     return [sum(point[i] for point in points) / len(points) for i in range(3)]
 
 
 class Cloud:
     """Points in boxes within boxes, so that the farthest ones along a way are found without asking each."""
 
-    def __init__(self, points):
-        self.points, self.halves = points, ()
+    def __init__(self, points: kinds.Points) -> None:
+        self.points = points
+        self.halves: tuple[Cloud, ...] = ()
         self.low, self.high = box_of(points)
         if len(points) > FEW:
             axis = max(range(3), key=lambda i: self.high[i] - self.low[i])
             own = sorted(points, key=lambda point: point[axis])
             self.halves = Cloud(own[:len(own) // 2]), Cloud(own[len(own) // 2:])
 
-    def room(self, way):
+    def room(self, way: kinds.Vector) -> float:
         """No point is farther along a way than this."""
         x, y, z = way
         low, high = self.low, self.high
-        return x * (high[0] if x > 0 else low[0]) + y * (high[1] if y > 0 else low[1]) + z * (high[2] if z > 0 else low[2])
+        return x * (high[0] if x > 0 else low[0]) + y * (high[1] if y > 0 else low[1]) + z * (
+            high[2] if z > 0 else low[2])
 
-    def beyond(self, way, far):
+    def beyond(self, way: kinds.Vector, far: float) -> list[kinds.Vector]:
         """The points that are as far along a way, or farther."""
         if self.room(way) < far:
             return []
@@ -101,7 +107,7 @@ class Cloud:
             return [point for point in self.points if dot(way, point) >= far]
         return [point for half in self.halves for point in half.beyond(way, far)]
 
-    def farthest(self, way, known=-math.inf):
+    def farthest(self, way: kinds.Vector, known: float = -math.inf) -> float:
         """How far along a way the farthest point is, or what is known, where that is farther."""
         if self.room(way) <= known:
             return known
@@ -115,17 +121,18 @@ class Cloud:
 class Found:
     """The planes that are found, each once, with those of like direction close at hand."""
 
-    def __init__(self):
-        self.planes, self.by_way = [], {}
+    def __init__(self) -> None:
+        self.planes: list[tuple[int, kinds.Plane]] = []
+        self.by_way: dict[tuple[int, ...], list[kinds.Plane]] = {}
 
-    def way(self, normal):
+    def way(self, normal: kinds.Vector) -> tuple[int, ...]:
         return tuple(round(part * GRID) for part in normal)
 
-    def add(self, number, plane):
+    def add(self, number: Any, plane: kinds.Plane) -> None:
         self.planes.append((number, plane))
         self.by_way.setdefault(self.way(plane[0]), []).append(plane)
 
-    def has(self, normal, corners, near):
+    def has(self, normal: kinds.Vector, corners: kinds.Points, near: float) -> bool:
         """Whether all corners lie on one plane that looks about the same way."""
         x, y, z = self.way(normal)
         return any(all(abs(dot(n, corner) - far) <= near for corner in corners)
@@ -133,7 +140,7 @@ class Found:
                    for n, far in self.by_way.get((x + i, y + j, z + k), ()))
 
 
-def measured(points, facets, numbers):
+def measured(points: kinds.Points, facets: kinds.Facets, numbers: Any) -> list[Any]:
     """Height, normal, distance, corners and number of each facet with area, the highest first."""
     middle, out = middle_of(points), []
     for facet, number in zip(facets, numbers):
@@ -144,22 +151,23 @@ def measured(points, facets, numbers):
             if far < dot(normal, middle):
                 normal, far = [-part for part in normal], -far
             out.append((high, normal, far, corners, number))
-    return sorted(out, key=lambda facet: -facet[0])
+    return sorted(out, key=lambda facet: float(-facet[0]))
 
 
-def digit_of(points):
+def digit_of(points: kinds.Points) -> float:
     """By how much a coordinate may be off, of the greatest: written with six digits, or in single precision."""
     six = all(float("%.6g" % part) == part for point in points for part in point)
     return SIX_DIGITS if six else SINGLE
 
 
-def beside(point, corners, normal):
+def beside(point: kinds.Vector, corners: kinds.Points, normal: kinds.Vector) -> float:
     """How far it is, along a facet's plane, from the nearest of its corners to a point."""
     ways = [[a - b for a, b in zip(point, corner)] for corner in corners]
     return math.sqrt(min(max(dot(way, way) - dot(way, normal) ** 2, 0) for way in ways))
 
 
-def planes(points, facets, numbers=None, is_exact=False):
+def planes(points: kinds.Points, facets: kinds.Facets, numbers: Optional[Sequence[int]] = None,
+           is_exact: bool = False) -> list[kinds.Plane]:
     """The half-spaces `normal * p <= far` whose common part is the solid, each once, in the order
     of the facets. `Trouble` where it is flat, open or not convex. Where points are not exact, a facet may be off
     by what their last digits leave open, the more the slimmer it is and the farther a point is from it;
@@ -181,7 +189,8 @@ def planes(points, facets, numbers=None, is_exact=False):
         for point in cloud.beyond(normal, far + digit):
             before = dot(normal, point) - far
             if before > 2 * digit and before > 2 * digit * (1 + beside(point, corners, normal) / high):
-                raise Trouble("is not convex: a point is %.2g before its facet %s" % (cloud.farthest(normal) - far, number))
+                raise Trouble("is not convex: a point is %.2g before its facet %s"
+                              % (cloud.farthest(normal) - far, number))
         found.add(number, (normal, far))
     if len(found.planes) < 4 and slim:
         raise Trouble("is too thin for the digits of its points, which are off by up to %.2g where it is: facet %s; "
@@ -196,17 +205,18 @@ def planes(points, facets, numbers=None, is_exact=False):
     return by_number
 
 
-def bulge(found, corners, normal):
+def bulge(found: Any, corners: kinds.Points, normal: kinds.Vector) -> float:
     """How far it is from the middle of a facet, along its normal, to where the planes end."""
     middle = [sum(corner[i] for corner in corners) / len(corners) for i in range(3)]
     return min(((far - dot(n, middle)) / dot(n, normal) for n, far in found
                 if dot(n, normal) > 1e-3), default=math.inf)
 
 
-def flat_facets(points, facets):
+def flat_facets(points: kinds.Points, facets: kinds.Facets) -> list[Sequence[int]]:
     """The facets, each that is not flat cut into triangles."""
     size, _ = extent(points)
-    near, out = NEAR * digit_of(points) * size, []
+    near = NEAR * digit_of(points) * size
+    out: list[Sequence[int]] = []
     for facet in facets:
         plane = len(facet) > 3 and plane_of([points[at] for at in facet])
         if plane and any(abs(dot(plane[0], points[at]) - plane[1]) > near for at in facet):
@@ -216,9 +226,9 @@ def flat_facets(points, facets):
     return out
 
 
-def closed(facets):
+def closed(facets: kinds.Facets) -> None:
     """`Trouble` where an edge is not between two facets."""
-    edges = {}
+    edges: dict[frozenset[int], int] = {}
     for facet in facets:
         for i, at in enumerate(facet):
             edge = frozenset((at, facet[(i + 1) % len(facet)]))
@@ -227,9 +237,9 @@ def closed(facets):
         raise Trouble("is not closed")
 
 
-def is_turned_alike(facets):
+def is_turned_alike(facets: kinds.Facets) -> bool:
     """Whether each edge is passed as often one way as the other."""
-    ways = {}
+    ways: dict[tuple[int, int], int] = {}
     for facet in facets:
         for i, at in enumerate(facet):
             edge = at, facet[(i + 1) % len(facet)]
@@ -238,47 +248,50 @@ def is_turned_alike(facets):
     return all(ways.get((b, a)) == count for (a, b), count in ways.items())
 
 
-def volume(points, facets):
+def volume(points: kinds.Points, facets: kinds.Facets) -> float:
     """Six times the volume; below 0 where the facets look inwards."""
     return sum(dot(points[facet[0]], area_normal([points[facet[0]], points[facet[i]], points[facet[i + 1]]]))
                for facet in facets for i in range(1, len(facet) - 1))
 
 
-def exact_volume(polygons):
-    """Six times the volume within polygons that look outwards, as a rational number of their coordinates as they are. It is
-    counted from a corner of theirs, so that a sliver that is left out between them changes it little."""
+def exact_volume(polygons: Any) -> Fraction:
+    """Six times the volume within polygons that look outwards, as a rational number of their coordinates as they are.
+    It is counted from a corner of theirs, so that a sliver that is left out between them changes it little."""
     total, origin = Fraction(0), [Fraction(part) for part in polygons[0][0]]
     for polygon in polygons:
         a, *rest = ([Fraction(part) - own for part, own in zip(point, origin)] for point in polygon)
         for b, c in zip(rest, rest[1:]):
-            total += a[0] * (b[1] * c[2] - b[2] * c[1]) + a[1] * (b[2] * c[0] - b[0] * c[2]) + a[2] * (b[0] * c[1] - b[1] * c[0])
+            total += a[0] * (b[1] * c[2] - b[2] * c[1]) + a[1] * (b[2] * c[0] - b[0] * c[2]) + a[2] * (
+                b[0] * c[1] - b[1] * c[0])
     return total
 
 
-def same_volume(polygons, found, digit):
-    """`Trouble` where convex parts, each as its planes' polygons, do not have the volume of a mesh, within what the digits of its
-    points leave open: the area of its surface by twice the last digit, and a part in a million for the parts' own corners."""
+def same_volume(polygons: Any, found: Any, digit: float) -> None:
+    """`Trouble` where convex parts, each as its planes' polygons, do not have the volume of a mesh, within what the
+    digits of its points leave open: the area of its surface by twice the last digit, and a part in a million for the
+    parts' own corners."""
     whole = exact_volume(polygons)
     inside = sum((exact_volume(outwards(part)) for part in found), Fraction(0))
     area = sum(lengthwise(area_normal(polygon)) for polygon in polygons) / 2
     room = 6 * 2 * digit * area + 1e-6 * abs(float(whole))
     if abs(inside - whole) > room:
-        raise Trouble("has a volume of %.6g as convex parts and of %.6g as it is, since its facets are too slim for its digits; "
+        raise Trouble("has a volume of %.6g as convex parts and of %.6g as it is, since its facets are too slim for "
+                      "its digits; "
                       "`pxplanes view` and `pxplanes convert --draw MAPS` draw it undivided" % (
             float(inside) / 6, float(whole) / 6))
 
 
-def outwards(sides):
+def outwards(sides: Any) -> list[Any]:
     """The polygons of a convex part, each as its plane looks."""
     return [polygon if dot(area_normal(polygon), plane[0]) > 0 else polygon[::-1] for plane, polygon in sides]
 
 
-def parts(points, facets):
+def parts(points: kinds.Points, facets: kinds.Facets) -> list[Any]:
     """The meshes of a mesh, each with its facets' numbers in the file: facets that share a point
     belong together."""
     above = list(range(len(points)))
 
-    def top(at):
+    def top(at: int) -> int:
         while above[at] != at:
             above[at] = above[above[at]]
             at = above[at]
@@ -287,17 +300,17 @@ def parts(points, facets):
     for facet in facets:
         for at in facet[1:]:
             above[top(at)] = top(facet[0])
-    found = {}
+    found: dict[int, list[Any]] = {}
     for number, facet in enumerate(facets, 1):
         found.setdefault(top(facet[0]), []).append((number, facet))
     return [only(points, [facet for _, facet in own]) + ([number for number, _ in own],)
             for own in found.values()]
 
 
-def hollows(shells):
+def hollows(shells: Any) -> tuple[list[Any], list[Any]]:
     """Meshes that have shells within them which look inwards, each with these in one; and the other shells."""
     outer = [shell for shell in shells if volume(*shell[:2]) > 0]
-    inner = {id(outside): [] for outside in outer}
+    inner: dict[int, list[Any]] = {id(outside): [] for outside in outer}
     alone = []
     for shell in shells:
         if volume(*shell[:2]) > 0:
@@ -311,16 +324,17 @@ def hollows(shells):
     return whole, [outside for outside in outer if not inner[id(outside)]] + alone
 
 
-def together(shells):
+def together(shells: Any) -> tuple[list[Any], list[Any]]:
     """Several meshes as one."""
-    points, facets = [], []
+    points: list[kinds.Vector] = []
+    facets: list[list[int]] = []
     for own, turned, _ in shells:
         facets += [[at + len(points) for at in facet] for facet in turned]
         points += own
     return points, facets
 
 
-def is_within(point, shell):
+def is_within(point: kinds.Vector, shell: Any) -> bool:
     """Whether a point is inside of a closed mesh: a ray from it meets an odd number of triangles."""
     points, facets, _ = shell
     count = 0
@@ -331,7 +345,7 @@ def is_within(point, shell):
     return count % 2 == 1
 
 
-def meets(way, a, b, c):
+def meets(way: kinds.Vector, a: Any, b: Any, c: Any) -> bool:
     """Whether a ray from the origin meets a triangle."""
     cross = [area_normal([[0, 0, 0], one, other]) for one, other in ((a, b), (b, c), (c, a))]
     signs = [dot(way, normal) for normal in cross]
@@ -341,13 +355,13 @@ def meets(way, a, b, c):
     return dot(normal, a) / dot(normal, way) > 0
 
 
-def only(points, facets):
+def only(points: kinds.Points, facets: kinds.Facets) -> Any:
     """The facets, and the points that they name."""
     numbers = {at: i for i, at in enumerate(sorted({at for facet in facets for at in facet}))}
     return [points[at] for at in numbers], [[numbers[at] for at in facet] for facet in facets]
 
 
-def divided(polygon, plane, near):
+def divided(polygon: Any, plane: kinds.Plane, near: float) -> Any:
     """The pieces of a polygon behind a plane and before it; None for one that is not there."""
     normal, far = plane
     rooms = [far - dot(normal, point) for point in polygon]
@@ -368,11 +382,11 @@ def divided(polygon, plane, near):
     return (behind if max(rooms) > near else None), (before if min(rooms) < -near else None)
 
 
-def best_plane(polygons, near):
+def best_plane(polygons: Any, near: float) -> Any:
     """Of some polygons' planes that which divides the fewest of some polygons, and then the most evenly."""
     judges = [polygon for polygon, _ in polygons[::max(1, len(polygons) // JUDGES)]]
 
-    def cost(plane):
+    def cost(plane: kinds.Plane) -> tuple[int, int]:
         sides = [divided(polygon, plane, near) for polygon in judges]
         behind = sum(one is not None for one, _ in sides)
         before = sum(other is not None for _, other in sides)
@@ -382,7 +396,7 @@ def best_plane(polygons, near):
     return min((plane for _, plane in tried), key=cost)
 
 
-def crossed(points, facets, near):
+def crossed(points: kinds.Points, facets: kinds.Facets, near: float) -> Any:
     """A point where two facets pass through one another, along more than a few times `near`; None where none do."""
     found = []
     for facet in facets:
@@ -392,7 +406,7 @@ def crossed(points, facets, near):
             if plane and plane[2] > 4 * near:
                 found.append((corners, plane[:2], *box_of(corners)))
     found.sort(key=lambda each: each[2][0])
-    before = []
+    before: list[Any] = []
     for one in found:
         before = [other for other in before if other[3][0] >= one[2][0]]
         for other in before:
@@ -404,22 +418,25 @@ def crossed(points, facets, near):
     return None
 
 
-def box_of(points):
+def box_of(points: kinds.Points) -> tuple[list[float], list[float]]:
     return [min(point[i] for point in points) for i in range(3)], [max(point[i] for point in points) for i in range(3)]
 
 
-def shared(one, other, near):
-    """How long the line is in which two triangles pass through one another, and where it begins; 0 where they do not."""
-    way = [one[1][0][(i + 1) % 3] * other[1][0][(i + 2) % 3] - one[1][0][(i + 2) % 3] * other[1][0][(i + 1) % 3] for i in range(3)]
+def shared(one: Any, other: Any, near: float) -> Any:
+    """How long the line is in which two triangles pass through one another, and where it begins; 0 where they do
+    not."""
+    way = [one[1][0][(i + 1) % 3] * other[1][0][(i + 2) % 3] - one[1][0][(i + 2) % 3] * other[1][0][(i + 1) % 3]
+           for i in range(3)]
     long = lengthwise(way)
-    spans = long > 1e-3 and [span_of(corners, plane, way, near) for corners, plane in ((one[0], other[1]), (other[0], one[1]))]
+    spans = long > 1e-3 and [span_of(corners, plane, way, near) for corners,
+                             plane in ((one[0], other[1]), (other[0], one[1]))]
     if not spans or None in spans:
         return 0, None
     low, point = max(low for low, _ in spans)
     return (min(high for _, high in spans)[0] - low) / long, point
 
 
-def span_of(corners, plane, way, near):
+def span_of(corners: kinds.Points, plane: kinds.Plane, way: kinds.Vector, near: float) -> Any:
     """Where a plane cuts a triangle that is on both sides of it, the two ends along a way, each as how far
     it is and its point; None where it is not."""
     rooms = [plane[1] - dot(plane[0], corner) for corner in corners]
@@ -430,11 +447,11 @@ def span_of(corners, plane, way, near):
         if room * rooms[i - 1] < 0 and min(abs(room), abs(rooms[i - 1])) > near:
             part = rooms[i - 1] / (rooms[i - 1] - room)
             ends.append([a + part * (b - a) for a, b in zip(corners[i - 1], corners[i])])
-    ends = sorted((dot(way, point), point) for point in ends)
-    return ends[0], ends[-1]
+    found = sorted((dot(way, point), point) for point in ends)
+    return found[0], found[-1]
 
 
-def cells(points, facets):
+def cells(points: kinds.Points, facets: kinds.Facets) -> list[Any]:
     """The convex parts of a solid, each as its planes and points: its facets' planes divide space,
     and what is behind a facet and before none is inside. `Trouble` where the facets do not close it, or pass through
     one another, or where there are more parts than a scene has solids."""
@@ -449,10 +466,13 @@ def cells(points, facets):
     if point:
         raise Trouble("passes through itself, at %.4g %.4g %.4g, so that its inside cannot be told; "
                   "write it as a union of parts that do not" % tuple(part + 0.0 for part in point))
-    polygons = [([points[at] for at in facet], plane_of([points[at] for at in facet])) for facet in turned]
-    polygons = [(polygon, plane[:2]) for polygon, plane in polygons
-                if plane and digit * (2 + 2 * wide / plane[2]) <= SLIM * wide]
-    out, found, todo, effort = [], [], [([], polygons)], 0
+    whole = [([points[at] for at in facet], plane_of([points[at] for at in facet])) for facet in turned]
+    polygons: list[Any] = [(polygon, plane[:2]) for polygon, plane in whole
+                           if plane and digit * (2 + 2 * wide / plane[2]) <= SLIM * wide]
+    out: list[Any] = []
+    found: list[Any] = []
+    todo: list[Any] = [([], polygons)]
+    effort = 0
     while todo:
         path, polygons = todo.pop()
         effort += len(polygons)
@@ -463,7 +483,8 @@ def cells(points, facets):
         behind = [(side[0], own) for side, own in sides if side[0]]
         before = [(side[1], own) for side, own in sides if side[1]]
         if len(polygons) in (len(behind), len(before)) and min(len(behind), len(before)) == 0 or len(path) > MOST_CUTS:
-            raise Trouble("has facets so close to one another that no plane divides them; say it by differences or unions")
+            raise Trouble("has facets so close to one another that no plane divides them; say it by differences or "
+                          "unions")
         if before:
             todo.append((path + [([-part for part in normal], -far)], before))
         if behind:
@@ -480,11 +501,11 @@ def cells(points, facets):
     return out
 
 
-def sides_of(half_spaces, near):
+def sides_of(half_spaces: Any, near: float) -> list[Any]:
     """Each plane that bounds the common part of half-spaces, with the polygon that it has of it."""
     kept = []
     for i, plane in enumerate(half_spaces):
-        polygon = square_on(plane, REACH * near)
+        polygon: Any = square_on(plane, REACH * near)
         for k, other in enumerate(half_spaces):
             if k != i and polygon:
                 polygon = divided(polygon, other, near)[0] or (
@@ -495,14 +516,14 @@ def sides_of(half_spaces, near):
     return kept
 
 
-def bounded(half_spaces, near):
+def bounded(half_spaces: Any, near: float) -> Any:
     """The planes of a convex solid that bound it, and its corners; None where nothing is inside."""
     return of_sides(sides_of(half_spaces, near), near)
 
 
-def of_sides(kept, near):
+def of_sides(kept: Any, near: float) -> Any:
     """The same of the planes with their polygons."""
-    corners = []
+    corners: list[kinds.Vector] = []
     for _, polygon in kept:
         corners += [corner for corner in polygon
                     if not any(math.dist(corner, other) <= near for other in corners)]
@@ -511,11 +532,11 @@ def of_sides(kept, near):
     return [plane for plane, _ in kept], corners
 
 
-def is_same(one, other, near):
+def is_same(one: Any, other: Any, near: float) -> bool:
     return dot(one[0], other[0]) > 1 - 1e-9 and abs(one[1] - other[1]) <= near
 
 
-def axes_on(normal):
+def axes_on(normal: kinds.Vector) -> tuple[list[float], list[float]]:
     """Two directions on a plane, square to one another and of length 1."""
     axis = min(range(3), key=lambda i: abs(normal[i]))
     along = [float(i == axis) - normal[axis] * normal[i] for i in range(3)]
@@ -525,7 +546,7 @@ def axes_on(normal):
                    for i in range(3)]
 
 
-def square_on(plane, wide):
+def square_on(plane: kinds.Plane, wide: float) -> list[list[float]]:
     """A square of that width, to each side, on a plane."""
     normal, far = plane
     along, across = ([wide * part for part in axis] for axis in axes_on(normal))

@@ -1,18 +1,22 @@
-"""Reads the files OFF, STL, OBJ, PLY and 3MF: what `model` draws from. A mesh is points,
-and facets as lists of the numbers of their points."""
+"""Reads the files OFF, STL, OBJ, PLY, 3MF and glTF: what `convert` draws from. A mesh is points, and facets as lists of
+the numbers of their points. Only 3MF and glTF say their unit: they become millimetres."""
+from __future__ import annotations
+
 import io
 import math
 import re
 import struct
 import xml.etree.ElementTree
 import zipfile
+from typing import Any, Callable, Optional, Sequence
 
 from pxplanes.errors import Trouble
+from pxplanes.mesh import gltf, kinds
 
 LARGEST = 4000000
 
 
-def floats(words, what):
+def floats(words: Any, what: str) -> list[float]:
     try:
         numbers = [float(word) for word in words]
     except ValueError:
@@ -22,7 +26,7 @@ def floats(words, what):
     return numbers
 
 
-def read_off(data):
+def read_off(data: bytes) -> Any:
     """The mesh of an OFF file; colours behind points and facets are passed over."""
     lines = [line.split("#")[0].split() for line in data.decode("latin-1").split("\n")]
     lines = [line for line in lines if line]
@@ -47,7 +51,7 @@ def read_off(data):
     return checked(points, facets)
 
 
-def checked(points, facets):
+def checked(points: kinds.Points, facets: kinds.Facets) -> Any:
     """The mesh, where each facet names three points or more, and all of them are there."""
     if not points or not facets or len(points) > LARGEST or len(facets) > LARGEST:
         raise Trouble("the file has no points and facets, or more than %d" % LARGEST)
@@ -56,14 +60,14 @@ def checked(points, facets):
     return points, facets
 
 
-def merged(points, facets):
+def merged(points: kinds.Points, facets: kinds.Facets) -> Any:
     """A mesh in which points at one place have one number."""
-    numbers = {}
+    numbers: dict[tuple[float, ...], int] = {}
     own = [numbers.setdefault(tuple(point), len(numbers)) for point in points]
     return [list(point) for point in numbers], [[own[at] for at in facet] for facet in facets]
 
 
-def read_obj(data):
+def read_obj(data: bytes) -> Any:
     """The mesh of an OBJ file: its points and faces; a number below 0 counts from the last point."""
     points, facets = [], []
     for line in data.decode("latin-1").replace("\\\n", " ").split("\n"):
@@ -78,11 +82,13 @@ def read_obj(data):
     return merged(*checked(points, facets))
 
 
-PLY_FORMS = {"char": "b", "uchar": "B", "short": "h", "ushort": "H", "int": "i", "uint": "I", "float": "f", "double": "d",
-             "int8": "b", "uint8": "B", "int16": "h", "uint16": "H", "int32": "i", "uint32": "I", "float32": "f", "float64": "d"}
+PLY_FORMS = {"char": "b", "uchar": "B", "short": "h", "ushort": "H", "int": "i", "uint": "I", "float": "f",
+             "double": "d",
+             "int8": "b", "uint8": "B", "int16": "h", "uint16": "H", "int32": "i", "uint32": "I", "float32": "f",
+             "float64": "d"}
 
 
-def read_ply(data):
+def read_ply(data: bytes) -> Any:
     """The mesh of a PLY file, of words or raw."""
     head, _, body = data.partition(b"end_header")
     lines = [line.split() for line in head.decode("latin-1").replace("\r", "").split("\n")]
@@ -92,7 +98,8 @@ def read_ply(data):
         form = next(line[1] for line in lines if line[:1] == ["format"])
         body = body[body.index(b"\n") + 1:]
         take = ply_words(body) if form == "ascii" else ply_raw(body, "<" if form == "binary_little_endian" else ">")
-        found, own = {}, None
+        found: dict[str, Any] = {}
+        own: Any = None
         for line in lines:
             if line[:1] == ["element"]:
                 own = found[line[1]] = (int(line[2]), [])
@@ -107,15 +114,15 @@ def read_ply(data):
         raise Trouble("the PLY file is damaged, or has no points and faces")
 
 
-def ply_words(body):
+def ply_words(body: bytes) -> Any:
     words = iter(body.split())
     return lambda kind: float(next(words))
 
 
-def ply_raw(body, order):
+def ply_raw(body: bytes, order: str) -> Any:
     at = [0]
 
-    def take(kind):
+    def take(kind: str) -> Any:
         number = struct.unpack_from(order + PLY_FORMS[kind], body, at[0])[0]
         at[0] += struct.calcsize(PLY_FORMS[kind])
         return number
@@ -123,7 +130,7 @@ def ply_raw(body, order):
     return take
 
 
-def ply_row(properties, take):
+def ply_row(properties: Any, take: Any) -> dict[str, Any]:
     out = {}
     for words in properties:
         if words[0] == "list":
@@ -133,11 +140,14 @@ def ply_row(properties, take):
     return out
 
 
+# How many millimetres a unit of a 3MF file is.
+UNITS = {"micron": 0.001, "millimeter": 1, "centimeter": 10, "inch": 25.4, "foot": 304.8, "meter": 1000}
 PATH = "{http://schemas.microsoft.com/3dmanufacturing/production/2015/06}path"
 
 
-def read_3mf(data):
-    """The meshes of a 3MF file, each at the place that its build gives it; parts may be in files of their own within it."""
+def read_3mf(data: bytes) -> Any:
+    """The meshes of a 3MF file, each at the place that its build gives it; parts may be in files of their own within
+    it."""
     try:
         with zipfile.ZipFile(io.BytesIO(data)) as file:
             names = [name for name in file.namelist() if name.lower().endswith(".model")]
@@ -147,10 +157,15 @@ def read_3mf(data):
     first = next((name for name, root in roots.items() if any(local(each) == "item" for each in root.iter())), None)
     if first is None:
         raise Trouble("this is no 3MF file, or its build has no item")
-    objects = {(name, each.get("id")): each for name, root in roots.items() for each in root.iter() if local(each) == "object"}
-    points, facets = [], []
+    objects = {(name, each.get("id")): each for name,
+               root in roots.items() for each in root.iter() if local(each) == "object"}
+    points: list[list[float]] = []
+    facets: list[list[int]] = []
+    unit = UNITS.get(roots[first].get("unit", "millimeter"))
+    if unit is None:
+        raise Trouble("the 3MF file has a unit that is none: %s" % roots[first].get("unit"))
 
-    def add(place, name, matrices, depth):
+    def add(place: str, name: Optional[str], matrices: list[Optional[str]], depth: int) -> None:
         each = objects.get((place, name))
         if each is None or depth > 16:
             raise Trouble("the 3MF file names an object that is not there")
@@ -170,15 +185,16 @@ def read_3mf(data):
                 add(item.get(PATH, first), item.get("objectid"), [item.get("transform")], 0)
     except ValueError:
         raise Trouble("the 3MF file has a triangle that is none")
+    points = points if unit == 1 else [[unit * part for part in point] for point in points]
     return merged(*checked(points, facets))
 
 
-def local(element):
+def local(element: Any) -> str:
     """The name of an element without its namespace."""
-    return element.tag.rpartition("}")[2]
+    return str(element.tag).rpartition("}")[2]
 
 
-def placed(point, matrices):
+def placed(point: kinds.Vector, matrices: Sequence[Optional[str]]) -> Any:
     """A point under matrices of twelve numbers, column by column as 3MF has them, the innermost first."""
     for words in filter(None, matrices):
         m = floats(words.split(), "a transform")
@@ -188,24 +204,25 @@ def placed(point, matrices):
     return point
 
 
-def of_triangles(corners):
-    numbers = {}
+def of_triangles(corners: kinds.Points) -> Any:
+    numbers: dict[tuple[float, ...], int] = {}
     facets = [[numbers.setdefault(tuple(corner), len(numbers)) for corner in corners[i:i + 3]]
               for i in range(0, len(corners), 3)]
     return [list(point) for point in numbers], facets
 
 
-def raw_triangles(data):
-    """How many triangles a raw STL file has, whatever its header says and whatever follows them; 0 where it is one of words."""
-    count = struct.unpack("<I", data[80:84])[0] if len(data) >= 84 else 0
+def raw_triangles(data: bytes) -> int:
+    """How many triangles a raw STL file has, whatever its header says and whatever follows them; 0 where it is one of
+    words."""
+    count = int(struct.unpack("<I", data[80:84])[0]) if len(data) >= 84 else 0
     is_whole = 0 < count and len(data) >= 84 + 50 * count
     is_words = data[:5].lower() == b"solid" and b"vertex" in data[:2000].lower()
     return count if is_whole and (len(data) == 84 + 50 * count or not is_words) else 0
 
 
-def soup(kind, data):
-    """The triangles of STL files and of OFF files of triangles as a NumPy array, N by 3 corners by 3 numbers; None for others, or
-    where NumPy is not there."""
+def soup(kind: str, data: bytes) -> Any:
+    """The triangles of STL files and of OFF files of triangles as a NumPy array, N by 3 corners by 3 numbers; None for
+    others, or where NumPy is not there."""
     try:
         import numpy
     except ImportError:
@@ -220,12 +237,12 @@ def soup(kind, data):
         except ValueError:
             return None
     elif kind == "off" and b"#" not in data:
-        words = data.split()
-        if len(words) < 4 or words[0] != b"OFF" or not (words[1] + words[2]).isdigit():
+        head = data.split()
+        if len(head) < 4 or head[0] != b"OFF" or not (head[1] + head[2]).isdigit():
             return None
-        points, faces = int(words[1]), int(words[2])
+        points, faces = int(head[1]), int(head[2])
         try:
-            rest = numpy.array(words[4:], dtype=float)
+            rest = numpy.array(head[4:], dtype=float)
         except ValueError:
             return None
         tail = rest[3 * points:]
@@ -240,11 +257,11 @@ def soup(kind, data):
     return found if found.size and numpy.isfinite(found).all() and abs(found).max() <= 1e9 else None
 
 
-def read_stl(data):
+def read_stl(data: bytes) -> Any:
     """The mesh of an STL file, of words or raw."""
     if raw_triangles(data):
         count = min(raw_triangles(data), LARGEST + 1)
-        corners = [struct.unpack("<3f", data[84 + 50 * i + 12 * k:96 + 50 * i + 12 * k])
+        corners: list[Any] = [struct.unpack("<3f", data[84 + 50 * i + 12 * k:96 + 50 * i + 12 * k])
                    for i in range(count) for k in (1, 2, 3)]
         corners = [floats(corner, "a corner") for corner in corners]
     else:
@@ -260,4 +277,18 @@ def read_stl(data):
     return of_triangles(corners)
 
 
-READERS = {"off": read_off, "stl": read_stl, "obj": read_obj, "ply": read_ply, "3mf": read_3mf}
+def read_gltf(data: bytes, folder: Optional[str] = None) -> Any:
+    """The mesh of a .glb or .gltf file; buffers in files of their own are looked for in the folder."""
+    points, facets = checked(*gltf.read(data, folder))
+    return merged([floats(point, "a point") for point in points], facets)
+
+
+READERS: dict[str, Callable[..., Any]] = {
+    "off": read_off, "stl": read_stl, "obj": read_obj, "ply": read_ply, "3mf": read_3mf, "glb": read_gltf,
+                                          "gltf": read_gltf}
+ENDINGS = ".off, .stl, .obj, .ply, .3mf, .glb and .gltf"
+
+
+def read(kind: str, data: bytes, folder: Optional[str] = None) -> Any:
+    """The mesh of a file's bytes; those of a .gltf may be in files of that folder too."""
+    return READERS[kind](data, folder) if kind == "gltf" else READERS[kind](data)

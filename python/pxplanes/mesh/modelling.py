@@ -1,23 +1,17 @@
 """Makes a scene's text of a model; docs/MODELLING.md explains each step."""
+from __future__ import annotations
+
 import copy
 import importlib.util
 import math
 import os
 from dataclasses import dataclass
-from typing import Optional, Sequence
+from typing import Any, Optional, Sequence
 
-from pxplanes.mesh import bounding
-from pxplanes.mesh import csg
-from pxplanes.mesh import facets
-from pxplanes import ends
+from pxplanes import ends, program
 from pxplanes.errors import Trouble
-from pxplanes.scene import limits
-from pxplanes.mesh import openscad
-from pxplanes.mesh import perspective
-from pxplanes.scene import rays
-from pxplanes.scene import scenes
-from pxplanes.mesh import solids
-from pxplanes.mesh import views
+from pxplanes.mesh import bounding, csg, facets, kinds, mesh_files, openscad, perspective, solids, views
+from pxplanes.scene import limits, rays, scenes
 
 # The bits of a depth and its fraction bits, where the model is not in perspective and no others are asked.
 USUAL_DEPTH = (12, 8)
@@ -25,7 +19,11 @@ SIDE_SIZE = 2 ** 20
 LIGHT = (-0.42, -0.74, 0.53)
 DULL = 0.35
 KINDS_OF_PLANES = ("front", "back", "side")
-KINDS = ("csg", "scad", "off", "stl", "obj", "ply", "3mf")
+KINDS = ("csg", "scad", *mesh_files.READERS)
+# The matrices that put the y axis of a file upwards, and the z axis of one whose y axis is.
+UPWARDS = {"y": [[1, 0, 0, 0], [0, 0, -1, 0], [0, 1, 0, 0]], "z": [[1, 0, 0, 0], [0, 0, 1, 0], [0, -1, 0, 0]]}
+UNITS = {"um": 0.001, "mm": 1, "cm": 10, "in": 25.4, "ft": 304.8, "m": 1000}
+OF_UNITS = ("3mf", "glb", "gltf")
 PROJECTIONS = {"o": False, "ortho": False, "p": True, "perspective": True}
 OF_PERSPECTIVE = ("eye", "at", "fov", "near", "far")
 LEAST_DEPTH_BITS = 12
@@ -33,26 +31,26 @@ BESIDE = 0.001
 LEAST_COLUMNS = 8
 
 
-def spelled(tree, names):
+def spelled(tree: kinds.Tree, names: Any) -> str:
     """The expression of a tree; long unions and intersections become balanced."""
     if not isinstance(tree, tuple):
-        return names[id(tree)]
+        return str(names[id(tree)])
     sign, trees = tree
     return halved(sign, [spelled(part, names) for part in trees])
 
 
-def halved(sign, parts):
+def halved(sign: str, parts: list[str]) -> str:
     if len(parts) == 1:
         return parts[0]
     half = len(parts) // 2
     return "(%s %s %s)" % (halved(sign, parts[:half]), sign, halved(sign, parts[half:]))
 
 
-def value(form, place):
+def value(form: kinds.Form, place: kinds.Vector) -> float:
     return form[0] * place[0] + form[1] * place[1] + form[2]
 
 
-def rounded(form, parts, low, high):
+def rounded(form: kinds.Form, parts: int, low: Any, high: Any) -> tuple[tuple[int, int, int], float]:
     """A plane in whole parts of a cell, true in the middle of these corners; and by how many cells
     it is off at the worst of them."""
     a, b = (round(part * parts) for part in form[:2])
@@ -63,14 +61,14 @@ def rounded(form, parts, low, high):
     return (a, b, c), off
 
 
-def whole_side(form):
+def whole_side(form: kinds.Form) -> tuple[int, ...]:
     """A side in whole numbers, as exact as they may be."""
     factor = SIDE_SIZE / max(abs(form[0]), abs(form[1]))
     factor = min(factor, (limits.MAX_CONSTANT - 1) / max(abs(form[2]), 1e-9))
     return tuple(round(part * factor) for part in form)
 
 
-def shaded(colour, normal, view):
+def shaded(colour: Sequence[int], normal: kinds.Vector, view: Any) -> tuple[int, ...]:
     """A colour by the way that a surface looks: light comes from the upper left."""
     right, away, up = view.turned(normal)
     light = max(0, right * LIGHT[0] + away * LIGHT[1] + up * LIGHT[2])
@@ -81,14 +79,14 @@ class Steep(Trouble):
     """A plane too steep for a front or a back, whose face is at some pixel."""
 
 
-def is_steep(form, parts):
+def is_steep(form: kinds.Form, parts: int) -> bool:
     """Whether a plane cannot be a front or a back. It is taken for a side, if its face is at no pixel."""
     return max(abs(form[0]), abs(form[1])) * parts > limits.MAX_SLOPE
 
 
-def pixel_of(form, places, size):
-    """A pixel at which a steep plane passes between the least and the greatest depth of its corners, which are at these places; None
-    for none."""
+def pixel_of(form: kinds.Form, places: Any, size: Sequence[int]) -> Optional[tuple[int, int]]:
+    """A pixel at which a steep plane passes between the least and the greatest depth of its corners, which are at these
+    places; None for none."""
     a, b, c = form
     along = 0 if abs(a) >= abs(b) else 1
     depths = [value(form, place) for place in places]
@@ -102,9 +100,11 @@ def pixel_of(form, places, size):
     return None
 
 
-def planes_of(solid, view, parts, flat):
+def planes_of(solid: Any, view: Any, parts: int, flat: bool) -> Any:
     """Kind, plane and colour of each of a solid's planes, and the worst rounding of one with what it is."""
-    out, worst, counts = [], (0, ""), {}
+    out: list[Any] = []
+    worst: tuple[float, str] = (0, "")
+    counts: dict[str, int] = {}
     for number, (normal, far) in enumerate(solid.planes):
         kind, form = view.half_space(normal, far)
         low, high = view.where(normal, far)
@@ -112,7 +112,8 @@ def planes_of(solid, view, parts, flat):
             places = view.places(solid.corners[number])
             at = pixel_of(form, places, view.size) if places else None
             if at:
-                raise Steep("%s: a plane that is too steep for a %s is seen at x %d, y %d; --depth W F with fewer bits makes it less steep, "
+                raise Steep("%s: a plane that is too steep for a %s is seen at x %d, y %d; --depth W F with fewer "
+                            "bits makes it less steep, "
                             "and `pxplanes convert --draw MAPS` draws it at any depth" % (solid.name(), kind, *at))
             a, b, c = form[0], form[1], form[2] - (low[2] + high[2]) / 2
             kind, form = "side", (-a, -b, -c) if kind == "front" else (a, b, c)
@@ -127,7 +128,7 @@ def planes_of(solid, view, parts, flat):
     return out, worst
 
 
-def box_of(places):
+def box_of(places: Any) -> Any:
     """The columns and the rows of the box of a solid's corners in the picture, from and to; None where it
     is too far away to be written."""
     if not places or max(abs(part) for place in places for part in place) > limits.MAX_SLOPE:
@@ -135,7 +136,7 @@ def box_of(places):
     return [(math.ceil(min(parts) - BESIDE), math.floor(max(parts) + BESIDE)) for parts in zip(*places)]
 
 
-def sides_of_box(box):
+def sides_of_box(box: Any) -> list[Any]:
     """The sides of a box, where planes that are nearly one would leave it far away."""
     (left, right), (top, bottom) = box
     return [("side", side, ()) for side in ((1, 0, -left), (-1, 0, right), (0, 1, -top), (0, -1, bottom))]
@@ -145,13 +146,13 @@ class Laid:
     """A solid as a scene has it: its planes, the box that is kept around it, if any, and its worst rounding
     of a plane with what that is. `counts` says how many planes of each kind are written."""
 
-    def __init__(self, solid, planes, worst, box):
+    def __init__(self, solid: Any, planes: Any, worst: Any, box: Any) -> None:
         self.solid, self.planes, self.worst = solid, planes + (sides_of_box(box) if box else []), worst
         self.counts = {kind: sum(own == kind for own, _, _ in self.planes) for kind in KINDS_OF_PLANES}
         self.parts = max(1, *(-(-count // limits.MAX_PLANES_OF_A_KIND) for count in self.counts.values()))
         self.faces = self.parts + self.counts["front"] + self.counts["back"]
 
-    def lines(self, name):
+    def lines(self, name: str) -> tuple[list[str], str]:
         """Its lines, and how its names are joined. One with more planes of a kind than a solid may have is
         the common part of several, each with some of the planes of every way."""
         names = [name] if self.parts == 1 else ["%s_%d" % (name, part + 1) for part in range(self.parts)]
@@ -162,18 +163,21 @@ class Laid:
             given[kind] += 1
         return [line for lines in own for line in lines], halved("*", names)
 
-    def met(self, view, choices, columns, is_first):
-        """The same by the planes alone that bound it, or its first cell, at some pixel of these columns; None where it is beside them."""
+    def met(self, view: Any, choices: Any, columns: Any, is_first: bool) -> Optional[Laid]:
+        """The same by the planes alone that bound it, or its first cell, at some pixel of these columns; None where it
+        is beside them."""
         (width, height), (depth, fraction) = choices.size, choices.bits
         box = box_of(view.places(self.solid.points)) or [(0, width - 1), (0, height - 1)]
-        box = [(max(low, least), min(high, most)) for (low, high), (least, most) in zip(box, (columns, (0, height - 1)))]
+        box = [(max(low, least), min(high, most)) for (low, high),
+               (least, most) in zip(box, (columns, (0, height - 1)))]
         if any(low > high for low, high in box):
             return None
         needed = bounding.needed([plane[:2] for plane in self.planes], 2 ** depth - 1, fraction, box, is_first)
-        return Laid(self.solid, [plane for number, plane in enumerate(self.planes) if number in needed], self.worst, box)
+        return Laid(self.solid, [plane for number, plane in enumerate(self.planes) if number in needed], self.worst,
+                    box)
 
 
-def laid_out(tree, view, choices):
+def laid_out(tree: kinds.Tree, view: Any, choices: Any) -> dict[int, Laid]:
     """How each solid of a tree is drawn, by its identity."""
     out = {}
     for solid, _ in solids.leaves(tree):
@@ -182,33 +186,33 @@ def laid_out(tree, view, choices):
     return out
 
 
-def most_faces(choices):
+def most_faces(choices: Any) -> int:
     """How many faces a scene of these depths may have."""
-    return min(limits.MAX_FACES, 2 ** ((scenes.BITS - 2) // 2 - sum(choices.bits)) - 1)
+    return min(limits.MAX_FACES, int(1 << ((scenes.BITS - 2) // 2 - sum(choices.bits))) - 1)
 
 
-def is_within(tree, laid, choices):
+def is_within(tree: kinds.Tree, laid: Any, choices: Any) -> bool:
     """Whether one scene may have all solids of a tree, and their products."""
     own = [laid[id(solid)] for solid, _ in solids.leaves(tree)]
-    return (sum(each.parts for each in own) <= choices.solids
+    return (sum(each.parts for each in own) <= limits.MAX_SOLIDS
             and sum(each.faces for each in own) <= most_faces(choices)
             and products(tree, laid) <= limits.MAX_PRODUCTS)
 
 
-def products(tree, laid, added=True):
+def products(tree: kinds.Tree, laid: Any, added: bool = True) -> int:
     """How many products a tree has, or where it is taken away its complement (docs/PICTURE.md, "Sums of products")."""
     if not isinstance(tree, tuple):
-        return 1 if added else laid[id(tree)].parts
+        return 1 if added else int(laid[id(tree)].parts)
     counts = [products(part, laid, added != (tree[0] == "-" and at > 0)) for at, part in enumerate(tree[1])]
     return sum(counts) if (tree[0] == "+") == added else math.prod(counts)
 
 
-def restricted(tree, laid, view, choices, columns, is_seen):
-    """A tree by the planes that bound its solids at the pixels of these columns, and how it is laid out. Where what is seen is
-    enough, the operands of a union are bounded by what they have in front."""
+def restricted(tree: kinds.Tree, laid: Any, view: Any, choices: Any, columns: Any, is_seen: bool) -> Any:
+    """A tree by the planes that bound its solids at the pixels of these columns, and how it is laid out. Where what is
+    seen is enough, the operands of a union are bounded by what they have in front."""
     firsts, out = set(map(id, operands(tree))) if is_seen else (), {}
 
-    def within(solid):
+    def within(solid: Any) -> Any:
         own = laid[id(solid)].met(view, choices, columns, id(solid) in firsts)
         if own:
             solid = copy.copy(solid)
@@ -218,14 +222,14 @@ def restricted(tree, laid, view, choices, columns, is_seen):
     return solids.each(tree, within), out
 
 
-def operands(tree):
+def operands(tree: kinds.Tree) -> list[Any]:
     """The operands of a union, and of unions in it; the tree itself where it is none."""
     if isinstance(tree, tuple) and tree[0] == "+":
         return [own for part in tree[1] for own in operands(part)]
     return [tree]
 
 
-def as_one(tree, view, choices, is_seen=False):
+def as_one(tree: kinds.Tree, view: Any, choices: Any, is_seen: bool = False) -> Any:
     """A tree as one scene has it, and how it is laid out: by all planes of its solids, or where these are too many, by
     those that bound them at some pixel, and at last, where what is seen is enough, by those that bound what is."""
     laid = laid_out(tree, view, choices)
@@ -234,35 +238,40 @@ def as_one(tree, view, choices, is_seen=False):
     for way, what in ((False, "a solid"), (True, "what is seen of a solid"))[:1 + is_seen]:
         fewer, met = restricted(tree, laid, view, choices, (0, choices.size[0] - 1), way)
         if fewer and is_within(fewer, met, choices):
-            ends.say("pxplanes convert", "of %d planes, too many for a scene, those %d are drawn that bound %s at some pixel, as %d solids; "
+            ends.say("pxplanes convert", "of %d planes, too many for a scene, those %d are drawn that bound %s at "
+                                         "some pixel, as %d solids; "
                      "the picture is the same, and finer or wider ones are not" % (
                          count_of(laid), count_of(met), what, sum(own.parts for own in met.values())))
             return fewer, met
     if fewer and products(fewer, met) > limits.MAX_PRODUCTS:
         parts = packed(several(fewer, met, view, choices), choices)
         if len(parts) == 1:
-            ends.say("pxplanes convert", "its %d products are too many for a scene, so that it is drawn as the union of what it is in %d "
-                     "parts of the picture; the picture is the same, and finer or wider ones are not" % (products(fewer, met), len(parts[0][0])))
+            ends.say("pxplanes convert", "its %d products are too many for a scene, so that it is drawn as the union "
+                                         "of what it is in %d "
+                     "parts of the picture; the picture is the same, and finer or wider ones are not"
+                     % (products(fewer, met), len(parts[0][0])))
             return solids.joined("+", parts[0][0]), parts[0][1]
-    raise Trouble("the model makes no scene: %s; fewer facets or a smaller picture take less, and --out makes several scenes of it" %
+    raise Trouble("the model makes no scene: %s; fewer facets or a smaller picture take less, and `--draw MAPS` draws "
+                  "it by columns" %
                      too_much(fewer or tree, met if fewer else laid, choices))
 
 
-def too_much(tree, laid, choices):
+def too_much(tree: kinds.Tree, laid: Any, choices: Any) -> str:
     if products(tree, laid) > limits.MAX_PRODUCTS:
         return "it has %d products, and a scene has at most %d" % (products(tree, laid), limits.MAX_PRODUCTS)
     return "at the pixels of the picture it has %d solids of %d faces, and a scene has at most %d of %d" % (
         sum(own.parts for own in laid.values()), sum(own.faces for own in laid.values()),
-        choices.solids, most_faces(choices))
+        limits.MAX_SOLIDS, most_faces(choices))
 
 
-def count_of(laid):
+def count_of(laid: Any) -> int:
     return sum(len(own.planes) for own in laid.values())
 
 
-def several(tree, laid, view, choices, columns=None):
-    """The trees of scenes whose nearer depths are the picture of a tree, and how each is laid out: the operands of a union
-    one after another, and what is too much for a scene by the planes that bound what is seen, then by halves of the picture."""
+def several(tree: kinds.Tree, laid: Any, view: Any, choices: Any, columns: Any = None) -> list[Any]:
+    """The trees of scenes whose nearer depths are the picture of a tree, and how each is laid out: the operands of a
+    union one after another, and what is too much for a scene by the planes that bound what is seen, then by halves of
+    the picture."""
     if is_within(tree, laid, choices):
         return [(tree, {id(solid): laid[id(solid)] for solid, _ in solids.leaves(tree)})]
     if isinstance(tree, tuple) and tree[0] == "+" and not columns:
@@ -273,15 +282,16 @@ def several(tree, laid, view, choices, columns=None):
     if part is None or is_within(part, own, choices):
         return [(part, own)] if part else []
     if high - low < LEAST_COLUMNS:
-        raise Trouble("the model makes no scenes: in columns %d to %d alone, %s; fewer facets or a smaller picture take less" % (
+        raise Trouble("the model makes no scenes: in columns %d to %d alone, %s; fewer facets or a smaller picture "
+                      "take less" % (
             low, high, too_much(part, own, choices)))
     middle = (low + high) // 2
     return [each for half in ((low, middle), (middle + 1, high)) for each in several(tree, laid, view, choices, half)]
 
 
-def packed(parts, choices):
+def packed(parts: Any, choices: Any) -> list[Any]:
     """Trees with how they are laid out, one after another as many together as a scene may have."""
-    out = []
+    out: list[Any] = []
     for tree, laid in parts:
         if out and is_within(("+", out[-1][0] + [tree]), {**out[-1][1], **laid}, choices):
             out[-1][0].append(tree)
@@ -291,7 +301,7 @@ def packed(parts, choices):
     return out
 
 
-def text_of(tree, laid, view, choices, counts):
+def text_of(tree: kinds.Tree, laid: Any, view: Any, choices: Any, counts: Any) -> tuple[str, Any]:
     """The text of a tree's scene, and the worst rounding; `counts` has how many solids of each kind have a name."""
     (width, height), (depth, fraction) = choices.size, choices.bits
     lines = view.notes() + ["pxscene 3" if fraction else "pxscene 1", "picture %d %d" % (width, height),
@@ -306,12 +316,13 @@ def text_of(tree, laid, view, choices, counts):
     return "\n".join(lines + ["show " + spelled(tree, names), "end", ""]), worst
 
 
-def scene_of(tree, view, choices):
+def scene_of(tree: kinds.Tree, view: Any, choices: Any) -> tuple[str, Any]:
     """The text of the scene, and the worst rounding."""
-    return text_of(*as_one(tree, view, choices), view, choices, {})
+    tree, laid = as_one(tree, view, choices)
+    return text_of(tree, laid, view, choices, {})
 
 
-def checked(text):
+def checked(text: str) -> Any:
     try:
         scene = scenes.read(text.encode())
         scenes.pixel_memory(scene)
@@ -325,9 +336,11 @@ def checked(text):
 class Choices:
     """How a model becomes a scene: what the options of `pxplanes convert` say.
 
-    `size` is the picture in pixels, 1 to 512 a side; `depth` has the bits of a depth and its fraction bits; `view` turns the model
-    as OpenSCAD's $vpr does, in degrees; `scale` is pixels to a unit. `camera` has the numbers of OpenSCAD's --camera, 6 or 7;
-    `eye` and `at` are points of the model; `fov` is the picture's height in degrees; `near` and `far` are distances along the axis."""
+    `size` is the picture in pixels, 1 to 512 a side; `depth` has the bits of a depth and its fraction bits; `view`
+    turns the model as OpenSCAD's $vpr does, in degrees; `scale` is pixels to a unit. `camera` has the numbers of
+    OpenSCAD's --camera, 6 or 7; `unit` is that of a file that says none, which becomes millimetres, and `up` the axis
+    that is upwards in it. `eye` and `at` are points of the model; `fov` is the picture's height in degrees; `near` and
+    `far` are distances along the axis."""
 
     view: Sequence[float] = (55.0, 0.0, 25.0)
     size: Sequence[int] = (128, 96)
@@ -342,7 +355,8 @@ class Choices:
     far: Optional[float] = None
     flat: bool = False
     kind: Optional[str] = None
-    solids: int = limits.MAX_SOLIDS
+    unit: Optional[str] = None
+    up: Optional[str] = None
     bits: Sequence[int] = USUAL_DEPTH
 
     def __post_init__(self) -> None:
@@ -371,32 +385,30 @@ class Choices:
                 and (self.scale is None or self.scale > 0)):
             raise Trouble("the picture is from 1 to 512 pixels a side, --depth W from 1 to 24, F from 0 to "
                           "8, both to 24, and a scale above 0")
-        if not 1 <= self.solids <= limits.MAX_SOLIDS:
-            raise Trouble("--solids is a number from 1 to %d" % limits.MAX_SOLIDS)
 
 
-def tree_of(name, kind):
+def tree_of(name: str, kind: str) -> Any:
     """The tree of the convex solids of the model in a file."""
     return solids.divided(whole_tree(name, kind))
 
 
-def whole_tree(name, kind):
+def whole_tree(name: str, kind: str) -> Any:
     """The tree of the model in a file, in which meshes are not divided."""
     if kind == "scad":
         return csg.read(openscad.csg_of(name), os.path.dirname(name))
     if kind == "csg":
         return csg.read(ends.content(name), os.path.dirname(name))
-    return csg.of_mesh_file(kind, ends.content(name))
+    return csg.of_mesh_file(kind, ends.content(name), folder=os.path.dirname(name) or ".")
 
 
-def wanted_bits(size, faces):
+def wanted_bits(size: Sequence[int], faces: int) -> list[int]:
     """Depth and fraction bits by which no plane is off by more than a cell, and distances are best."""
     off = (size[0] + size[1] - 2) / 4 + 0.5
     fraction = min(limits.MAX_FRACTION_BITS, math.ceil(math.log2(off)))
     return [min(limits.MAX_DEPTH_BITS, (scenes.BITS - 2) // 2 - faces.bit_length()) - fraction, fraction]
 
 
-def before_camera(choices, bits, tree):
+def before_camera(choices: Any, bits: Any, tree: kinds.Tree) -> Any:
     """The view of the perspective camera that is choices, or of one that has the whole model."""
     common = (choices.fov, choices.size, 2 ** bits[0] - 1, (choices.near, choices.far), tree)
     if choices.camera is not None:
@@ -404,13 +416,14 @@ def before_camera(choices, bits, tree):
     return perspective.fitted(choices.view, *common)
 
 
-def in_perspective(choices, tree):
+def in_perspective(choices: Any, tree: kinds.Tree) -> Any:
     """The view of a perspective camera, and the bits that it wants: so few of depth that no plane is
     too steep which has a face in the picture. They are taken where no others are said."""
     planes = [plane for solid, _ in solids.leaves(tree) for plane in solid.planes]
     bits = wanted_bits(choices.size, min(limits.MAX_FACES, len(solids.leaves(tree)) + len(planes)))
     view = before_camera(choices, bits, tree)
-    forms = [form for kind, form in (view.half_space(*plane) for plane in planes if view.shows(*plane)) if kind != "side"]
+    forms = [form for kind, form in (view.half_space(*plane) for plane in planes if view.shows(*plane))
+             if kind != "side"]
     steepest = 2 ** bits[1] * max((abs(part) for form in forms for part in form[:2]), default=0)
     if steepest > limits.MAX_SLOPE:
         bits[0] = max(LEAST_DEPTH_BITS, bits[0] - math.ceil(math.log2(steepest / limits.MAX_SLOPE)))
@@ -421,7 +434,7 @@ def in_perspective(choices, tree):
     return before_camera(choices, choices.bits, tree), bits
 
 
-def tell(shown, view, worst, choices, wanted):
+def tell(shown: Any, view: Any, worst: Any, choices: Any, wanted: Any) -> None:
     """Says how the planes were rounded, and what of the model the picture does not have."""
     off, where = worst
     if where:
@@ -429,36 +442,46 @@ def tell(shown, view, worst, choices, wanted):
             off, 2 ** choices.bits[0] - 1, "its face" if wanted else "the picture", where))
     if wanted:
         distances = view.camera.distances
-        ends.say("pxplanes convert", "near %.4g, far %.4g; a distance is off by at most %.2g, at far; the picture wants "
-                 "--depth %d %d" % (distances.near, distances.far, (off + 1) * distances.far ** 2 / distances.scale, *wanted))
+        ends.say("pxplanes convert", "near %.4g, far %.4g; a distance is off by at most %.2g, at far; the picture "
+                                     "wants "
+                 "--depth %d %d" % (distances.near, distances.far, (off + 1) * distances.far ** 2 / distances.scale,
+                                    *wanted))
     for line in view.cut_off():
         ends.say("pxplanes convert", line)
-    if not any(map(rays.shows_anything, shown)):
+    if not rays.shows_anything(shown):
         ends.say("pxplanes convert", "the picture is empty: %s" % view.why_empty())
 
 
-def read(name, choices):
+def read(name: str, choices: Any) -> Any:
     """The tree of the model in a file, in which meshes are not divided."""
     kind = choices.kind or os.path.splitext(name)[1][1:].lower() or "csg"
     if kind not in KINDS or kind == "scad" and name == "-":
-        raise Trouble("%s is no .csg, .scad, .off, .stl, .obj, .ply or .3mf; --kind says what it is" % name)
-    return there(whole_tree(name, kind))
+        raise Trouble("%s is no %s; --kind says what it is" % (name, ", ".join("." + each for each in KINDS)))
+    if choices.unit and kind in OF_UNITS:
+        raise Trouble("a .%s file says its unit, which becomes millimetres; --unit is for the others" % kind)
+    tree, up = there(whole_tree(name, kind)), "y" if kind in ("glb", "gltf") else "z"
+    if (choices.unit, choices.up or up) == (None, up):
+        return tree
+    turn = UPWARDS[choices.up] if choices.up not in (None, up) else solids.AS_IS
+    factor = UNITS[choices.unit or "mm"]
+    matrix = [[factor * part for part in row] for row in turn]
+    return solids.each(tree, lambda leaf: leaf.moved(matrix, leaf.colour))
 
 
-def there(tree):
+def there(tree: kinds.Tree) -> Any:
     if tree is None:
         raise Trouble("the model has no solid")
     return tree
 
 
-def seen(tree, choices):
+def seen(tree: kinds.Tree, choices: Any) -> Any:
     """How a tree of convex solids is laid into the picture, and the bits that perspective needs."""
     if choices.in_perspective:
         return in_perspective(choices, tree)
     return parallel(tree, choices), None
 
 
-def parallel(tree, choices):
+def parallel(tree: kinds.Tree, choices: Any) -> Any:
     """How a tree is laid into the picture without perspective."""
     far = 2 ** choices.bits[0] - 1
     if choices.camera is not None:
@@ -466,18 +489,20 @@ def parallel(tree, choices):
     return views.fitted(choices.view, choices.size, choices.scale, far, tree)
 
 
-def made(name, choices):
+def made(name: str, choices: Any) -> tuple[str, Any]:
     """The text of the scene of the model in a file, and what `tell` is handed to say what there is to say of it."""
     whole = read(name, choices)
     tree = there(solids.divided(whole))
     view, wanted = flatter(tree, choices)
     looked_at(whole, view, choices)
-    text, worst = text_of(*as_one(tree, view, choices, True), view, choices, {})
-    return text, ([checked(text)], view, worst, choices, wanted)
+    tree, laid = as_one(tree, view, choices, True)
+    text, worst = text_of(tree, laid, view, choices, {})
+    return text, (checked(text), view, worst, choices, wanted)
 
 
-def flatter(tree, choices):
-    """How a tree is laid into the picture; where no depth is asked for, with so few fraction bits that no plane is too steep."""
+def flatter(tree: kinds.Tree, choices: Any) -> Any:
+    """How a tree is laid into the picture; where no depth is asked for, with so few fraction bits that no plane is too
+    steep."""
     while True:
         found = seen(tree, choices)
         try:
@@ -489,9 +514,9 @@ def flatter(tree, choices):
             choices.bits[1] -= 1
 
 
-def looked_at(whole, view, choices):
-    """`Trouble` where the convex parts of a mesh are not at the pixels of the picture as the mesh is. Without NumPy their volume alone
-    is compared, as each mesh is divided."""
+def looked_at(whole: kinds.Tree, view: Any, choices: Any) -> None:
+    """`Trouble` where the convex parts of a mesh are not at the pixels of the picture as the mesh is. Without NumPy
+    their volume alone is compared, as each mesh is divided."""
     meshes = [leaf for leaf, _ in solids.leaves(whole) if isinstance(leaf, solids.Mesh)]
     if not meshes or importlib.util.find_spec("numpy") is None:
         return
@@ -500,27 +525,16 @@ def looked_at(whole, view, choices):
         laid = list(laid_out(mesh.parts, view, choices).values())
         rounded = max((own.worst[0] for own in laid), default=0)
         digit = facets.digit_of(mesh.mesh[0]) * facets.extent(mesh.mesh[0])[0] * solids.growth(mesh.matrix)
-        count, place = columns.unlike(mesh, [[plane[:2] for plane in own.planes] for own in laid], view, choices.size, choices.bits,
+        count, place = columns.unlike(mesh, [[plane[:2] for plane in own.planes] for own in laid], view, choices.size,
+                                      choices.bits,
                                       rounded, digit)
         if count:
-            raise Trouble("%s is not what its convex parts are at %d pixels, the first x %d, y %d; `pxplanes view` and `pxplanes convert "
+            raise Trouble("%s is not what its convex parts are at %d pixels, the first x %d, y %d; `pxplanes view` "
+                          "and `pxplanes convert "
                           "--draw MAPS` draw it undivided" % (mesh.name(), count, *place))
 
 
-def made_several(whole, choices):
-    """The texts of scenes whose nearer depths are the picture of a tree in which meshes are not divided, and the same."""
-    tree = there(solids.divided(whole))
-    view, wanted = flatter(tree, choices)
-    looked_at(whole, view, choices)
-    counts, texts, worst = {}, [], (0, "")
-    all_laid = laid_out(tree, view, choices)
-    for part, laid in several(tree, all_laid, view, choices) or [(tree, all_laid)]:
-        text, off = text_of(part, laid, view, choices, counts)
-        texts, worst = texts + [text], max(worst, off)
-    return texts, ([checked(text) for text in texts], view, worst, choices, wanted)
-
-
-def columns_module():
+def columns_module() -> Any:
     """The module `columns`; `Trouble` where NumPy is not there."""
     try:
         from pxplanes.mesh import columns
@@ -529,7 +543,7 @@ def columns_module():
     return columns
 
 
-def by_columns(tree, choices):
+def by_columns(tree: kinds.Tree, choices: Any) -> Any:
     """The picture of a tree by columns (docs/MODELLING.md, "Columns"). `Trouble` where NumPy is not there."""
     columns, leaves = columns_module(), solids.leaves(tree)
     if choices.in_perspective:
@@ -540,7 +554,8 @@ def by_columns(tree, choices):
     else:
         view = parallel(tree, choices)
     drawing = columns.draw(tree, [leaf for leaf, _ in leaves], view, choices.size, choices.bits)
-    ends.say("pxplanes convert", "drawn by columns: %d triangles, %d columns in %d scenes; a depth is rounded by at most %.2g cells of %d" % (
+    ends.say("pxplanes convert", "drawn by columns: %d triangles, %d columns in %d scenes; a depth is rounded by at "
+                                 "most %.2g cells of %d" % (
         len(drawing.corners), drawing.columns, drawing.scenes, drawing.rounded, 2 ** choices.bits[0] - 1))
     for line in view.cut_off():
         ends.say("pxplanes convert", line)
@@ -549,19 +564,30 @@ def by_columns(tree, choices):
     return drawing
 
 
-def portrait(name):
-    """The picture of the model in a file by columns, in perspective, so that it fills the picture; and the colours of its leaves."""
+def portrait(name: str) -> Any:
+    """The picture of the model in a file by columns, in perspective, so that it fills the picture; and the colours of
+    its leaves."""
     choices = Choices(projection="p")
     tree = read(name, choices)
     choices.camera, choices.size = columns_module().portrait(solids.leaves(tree), choices.view, views.FIELD)
     return by_columns(tree, choices), [leaf.colour for leaf, _ in solids.leaves(tree)]
 
 
-def is_one_scene(tree, choices):
-    """Whether the convex solids of a tree, none of which has to be divided, make one scene by all of their planes."""
+def drawn_as_one(tree: kinds.Tree, choices: Choices) -> Optional[bytes]:
+    """Both maps of convex solids that make one scene by all of their planes, none of which has to be divided; None for
+    others."""
     if any(isinstance(leaf, solids.Mesh) for leaf, _ in solids.leaves(tree)):
-        return False
+        return None
     try:
-        return is_within(tree, laid_out(tree, seen(tree, choices)[0], choices), choices)
+        view, wanted = seen(tree, choices)
+        laid = laid_out(tree, view, choices)
     except Trouble:
-        return False
+        return None
+    if not is_within(tree, laid, choices):
+        return None
+    text, worst = text_of(tree, laid, view, choices, {})
+    tell(checked(text), view, worst, choices, wanted)
+    status, output, note = program.answer(program.needed(None), ["render"], text.encode())
+    if status != 0:
+        raise Trouble(note or "the program ends with %d" % status)
+    return bytes(output)

@@ -1,22 +1,25 @@
 """Has OpenSCAD make what `model` cannot: a .csg of a .scad, and a mesh of a node of a .csg."""
+from __future__ import annotations
+
 import os
 import re
 import shutil
 import subprocess
 import tempfile
+from typing import Any, Optional
 
-from pxplanes.mesh import mesh_files
 from pxplanes.errors import Trouble
+from pxplanes.mesh import mesh_files
 
 SECONDS = 600
 IMPORTED = re.compile(r'(\bfile\s*=\s*")((?:[^"\\]|\\.)*)"')
 
 
-def is_there():
+def is_there() -> bool:
     return shutil.which("openscad") is not None
 
 
-def made(source, folder, kind):
+def made(source: str, folder: Optional[str], kind: str) -> bytes:
     """What OpenSCAD exports of a file, run in its folder; `Trouble` with its own words where nothing."""
     with tempfile.TemporaryDirectory(prefix="px-model-") as place:
         out = os.path.join(place, "out." + kind)
@@ -33,7 +36,7 @@ def made(source, folder, kind):
             return file.read()
 
 
-def csg_of(path):
+def csg_of(path: str) -> bytes:
     """The .csg of a .scad file."""
     if not is_there():
         raise Trouble("%s wants the command openscad, which makes a .csg of it" % path)
@@ -41,9 +44,9 @@ def csg_of(path):
     return made(path, os.path.dirname(path), "csg")
 
 
-def mesh_of(text, folder):
+def mesh_of(text: str, folder: str) -> Any:
     """The mesh of a text of .csg, whose imports are found from that folder."""
-    def found(match):
+    def found(match: re.Match[str]) -> str:
         return '%s%s"' % (match.group(1), os.path.join(os.path.abspath(folder), match.group(2)))
 
     with tempfile.TemporaryDirectory(prefix="px-model-") as place:

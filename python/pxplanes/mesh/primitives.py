@@ -1,13 +1,17 @@
 """OpenSCAD's primitives as points and facets: what `model` draws from. A facet is a list of the
 numbers of its points."""
+from __future__ import annotations
+
 import math
+from typing import Any, Sequence
 
 from pxplanes.errors import Trouble
+from pxplanes.mesh import kinds
 
 MOST_SIDES = 1000
 
 
-def cube(size, center):
+def cube(size: kinds.Vector, center: Any) -> Any:
     low = [-side / 2 if center else 0 for side in size]
     points = [[low[0] + size[0] * x, low[1] + size[1] * y, low[2] + size[2] * z]
               for x in (0, 1) for y in (0, 1) for z in (0, 1)]
@@ -15,7 +19,7 @@ def cube(size, center):
                     [2, 3, 7, 6], [0, 2, 6, 4], [1, 5, 7, 3]]
 
 
-def fragments(radius, settings):
+def fragments(radius: float, settings: Sequence[float]) -> int:
     """How many sides OpenSCAD gives a circle."""
     count, angle, length = settings
     if radius < 1e-9:
@@ -27,18 +31,18 @@ def fragments(radius, settings):
     return int(max(count, 3))
 
 
-def ring(radius, height, count):
+def ring(radius: float, height: float, count: int) -> list[list[float]]:
     turns = [2 * math.pi * i / count for i in range(count)]
     return [[radius * math.cos(turn), radius * math.sin(turn), height] for turn in turns]
 
 
-def between(first, second, count):
+def between(first: Any, second: int, count: int) -> list[list[int]]:
     """The facets between two rings of points that begin at these numbers."""
     return [[first + i, first + (i + 1) % count, second + (i + 1) % count, second + i]
             for i in range(count)]
 
 
-def cylinder(height, below, above, center, settings):
+def cylinder(height: float, below: float, above: float, center: Any, settings: Sequence[float]) -> Any:
     count = fragments(max(below, above), settings)
     low = -height / 2 if center else 0
     if below <= 0 or above <= 0:
@@ -50,7 +54,7 @@ def cylinder(height, below, above, center, settings):
     return points, ends + between(0, count, count)
 
 
-def sphere(radius, settings):
+def sphere(radius: float, settings: Sequence[float]) -> Any:
     count = fragments(radius, settings)
     rings = (count + 1) // 2
     points, facets = [], []
@@ -62,11 +66,11 @@ def sphere(radius, settings):
     return points, facets + [list(range(count)), list(range((rings - 1) * count, rings * count))]
 
 
-def settings(found):
+def settings(found: Any) -> tuple[float, float, float]:
     return found.get("$fn", 0), found.get("$fa", 12), found.get("$fs", 2)
 
 
-def solid(name, found):
+def solid(name: str, found: Any) -> Any:
     """The points and facets of a primitive by its arguments; None where it has no inside."""
     if name == "polyhedron":
         return found["points"], [[int(at) for at in facet] for facet in found["faces"]]
@@ -81,14 +85,14 @@ def solid(name, found):
     return cylinder(found["h"], below, above, found.get("center"), settings(found))
 
 
-def flat(name, found):
+def flat(name: str, found: Any) -> Any:
     """The corners of a flat primitive, one after another; None where it has no inside."""
     if name == "polygon":
         return [tuple(point[:2]) for point in found["points"]]
     if name == "circle":
-        corners = ring(found["r"], 0, fragments(found["r"], settings(found)))
-        return [(x, y) for x, y, _ in corners] if found["r"] > 0 else None
+        circle = ring(found["r"], 0, fragments(found["r"], settings(found)))
+        return [(x, y) for x, y, _ in circle] if found["r"] > 0 else None
     wide, high = found["size"] if isinstance(found["size"], list) else [found["size"]] * 2
     left, low = (-wide / 2, -high / 2) if found.get("center") else (0.0, 0.0)
-    corners = [(left, low), (left + wide, low), (left + wide, low + high), (left, low + high)]
+    corners: Any = [(left, low), (left + wide, low), (left + wide, low + high), (left, low + high)]
     return corners if min(wide, high) > 0 else None

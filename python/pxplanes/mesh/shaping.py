@@ -1,15 +1,17 @@
 """What OpenSCAD makes of other shapes, where the outcome is convex: hulls, sums, prisms and turned
 profiles. Convex flat shapes are their corners in order; convex solids are points and planes."""
-import math
+from __future__ import annotations
 
-from pxplanes.mesh import facets
-from pxplanes.mesh import primitives
+import math
+from typing import Any
+
 from pxplanes.errors import Trouble
+from pxplanes.mesh import facets, kinds, mesh_files, primitives
 
 PACKAGE = "python3-scipy"
 
 
-def hull(points):
+def hull(points: kinds.Points) -> Any:
     """The points at the corners of the hull of points in space, and its planes; by Qhull."""
     try:
         from scipy.spatial import ConvexHull, QhullError
@@ -19,21 +21,21 @@ def hull(points):
         found = ConvexHull(points)
     except QhullError:
         raise Trouble("is flat")
-    planes = {}
+    planes: dict[Any, Any] = {}
     for equation in found.equations.tolist():
         plane = equation[:3], -equation[3]
         planes.setdefault(tuple(round(part, 9) + 0.0 for part in equation), plane)
     return [points[at] for at in found.vertices.tolist()], list(planes.values())
 
 
-def flat_hull(points):
+def flat_hull(points: kinds.Points) -> Any:
     """The corners of the hull of points of a plane, one after another, to the left."""
     points = sorted({(x, y) for x, y in points})
     if len(points) < 3:
         return []
     sides = []
     for way in (points, points[::-1]):
-        side = []
+        side: list[Any] = []
         for point in way:
             while len(side) > 1 and turn(side[-2], side[-1], point) <= 1e-12:
                 side.pop()
@@ -42,16 +44,16 @@ def flat_hull(points):
     return sides if len(sides) > 2 else []
 
 
-def turn(a, b, c):
+def turn(a: kinds.Vector, b: kinds.Vector, c: kinds.Vector) -> float:
     return (b[0] - a[0]) * (c[1] - a[1]) - (b[1] - a[1]) * (c[0] - a[0])
 
 
-def area(corners):
+def area(corners: Any) -> float:
     """Twice the area of a polygon; below 0 where it goes round to the right."""
-    return sum(a[0] * b[1] - a[1] * b[0] for a, b in zip(corners, corners[1:] + corners[:1]))
+    return float(sum(a[0] * b[1] - a[1] * b[0] for a, b in zip(corners, corners[1:] + corners[:1])))
 
 
-def convex_pieces(corners):
+def convex_pieces(corners: kinds.Points) -> Any:
     """A polygon of a plane as convex polygons."""
     if area(corners) < 0:
         corners = corners[::-1]
@@ -63,7 +65,7 @@ def convex_pieces(corners):
             for _, found in facets.cells(points, sides)]
 
 
-def prism(corners, height, scale, center):
+def prism(corners: kinds.Points, height: float, scale: Any, center: Any) -> Any:
     """The mesh of a polygon that goes up, and is scaled on its way."""
     low = -height / 2 if center else 0
     count = len(corners)
@@ -75,13 +77,13 @@ def prism(corners, height, scale, center):
     return points, [list(range(count))[::-1], list(range(count, 2 * count))] + primitives.between(0, count, count)
 
 
-def is_round(corners):
+def is_round(corners: Any) -> bool:
     """Whether a convex polygon right of the axis, turned about it, is convex."""
     whole = flat_hull(corners + [(-x, y) for x, y in corners])
     return abs(area(whole) - 2 * area(corners)) < 1e-9 * area(whole)
 
 
-def turned(corners, angle, count, whole):
+def turned(corners: kinds.Points, angle: float, count: int, whole: bool) -> list[Any]:
     """The meshes of a convex polygon of x and z that is turned about the z axis in `count` steps."""
     first = math.pi if whole else 0.0
     step = math.radians(angle) / count
@@ -93,19 +95,12 @@ def turned(corners, angle, count, whole):
         of = len(corners)
         quads = [[i * of + k, (i + 1) % count * of + k, (i + 1) % count * of + (k + 1) % of, i * of + (k + 1) % of]
                  for i in range(count) for k in around if corners[k][0] > 0 or corners[(k + 1) % of][0] > 0]
-        return [merged(points, quads)]
+        return [mesh_files.merged(points, quads)]
     quads = [[k, (k + 1) % len(corners), len(corners) + (k + 1) % len(corners), len(corners) + k] for k in around]
     ends = [around[::-1], [len(corners) + k for k in around]]
-    return [merged(rings[i] + rings[(i + 1) % len(rings)], quads + ends) for i in range(count)]
+    return [mesh_files.merged(rings[i] + rings[(i + 1) % len(rings)], quads + ends) for i in range(count)]
 
 
-def merged(points, facets):
-    """A mesh in which points that are one have one number."""
-    numbers = {}
-    own = [numbers.setdefault(tuple(part + 0.0 for part in point), len(numbers)) for point in points]
-    return [list(point) for point in numbers], [[own[at] for at in facet] for facet in facets]
-
-
-def sums(ones, others):
+def sums(ones: kinds.Points, others: kinds.Points) -> list[list[float]]:
     """Each point of one shape with each of another."""
     return [[a + b for a, b in zip(one, other)] for one in ones for other in others]

@@ -1,11 +1,15 @@
 """Convex solids as `model` places them, and the trees that they are joined to. A tree is None for
 nothing, a solid, or (sign, trees)."""
+from __future__ import annotations
+
 import functools
 import itertools
+import math
+from typing import Any, Optional, Sequence
 
 from pxplanes import ends
-from pxplanes.mesh import facets
 from pxplanes.errors import Trouble
+from pxplanes.mesh import facets, kinds
 
 AS_IS = [[1, 0, 0, 0], [0, 1, 0, 0], [0, 0, 1, 0]]
 
@@ -14,22 +18,24 @@ class Solid:
     """`points` are its corners, and perhaps others of it; `planes` as in facets.py. One that is a part of
     another, whose planes may be nearly one, is kept within the box of its corners in the picture."""
 
-    def __init__(self, kind, line, points, planes, colour, is_part=False, sides=None):
+    def __init__(self, kind: str, line: int, points: kinds.Points, planes: Any, colour: kinds.Colour,
+                 is_part: bool = False, sides: Any = None) -> None:
         self.kind, self.line, self.colour, self.is_part = kind, line, colour, is_part
         self.points, self.planes, self.sides = points, planes, sides
 
-    def name(self):
+    def name(self) -> str:
         return "line %d: %s" % (self.line, self.kind) if self.line else "the file"
 
     @functools.cached_property
-    def corners(self):
+    def corners(self) -> list[list[kinds.Vector]]:
         """Of each of its planes the corners on it, in order round it."""
         cloud = facets.Cloud(self.points)
-        near = facets.NEAR * facets.SIX_DIGITS * max(map(abs, cloud.low + cloud.high))
-        return [facets.in_order([point for point in cloud.beyond(normal, far - near) if facets.dot(normal, point) - far <= near], normal)
+        near = facets.NEAR * facets.SIX_DIGITS * max(abs(part) for part in cloud.low + cloud.high)
+        return [facets.in_order([point for point in cloud.beyond(normal, far - near)
+                                 if facets.dot(normal, point) - far <= near], normal)
                 for normal, far in self.planes]
 
-    def moved(self, matrix, colour):
+    def moved(self, matrix: kinds.Matrix, colour: kinds.Colour) -> Solid:
         """The solid under a matrix, in this colour; `Trouble` where the matrix makes it flat."""
         if matrix == AS_IS:
             return Solid(self.kind, self.line, self.points, self.planes, colour, self.is_part, self.sides)
@@ -45,27 +51,29 @@ class Solid:
 
 
 class Mesh:
-    """A mesh at its place, which is divided into convex parts only where these are needed. `read` gives its points and facets, `soup`
-    its triangles as an array, where that is quicker, and `words` says where the mesh is in a refusal."""
+    """A mesh at its place, which is divided into convex parts only where these are needed. `read` gives its points and
+    facets, `soup` its triangles as an array, where that is quicker, and `words` says where the mesh is in a refusal."""
 
     is_part, planes = False, ()
+    triangles: Any        # an array, as columns.py keeps it
 
-    def __init__(self, kind, line, read, colour, words="%s", soup=None, matrix=AS_IS, divide=None):
+    def __init__(self, kind: str, line: int, read: Any, colour: kinds.Colour, words: Any = "%s", soup: Any = None,
+                 matrix: kinds.Matrix = AS_IS, divide: Any = None) -> None:
         self.kind, self.line, self.read, self.colour, self.words, self.soup = kind, line, read, colour, words, soup
         self.matrix, self.divide = matrix, divide or of_file
 
-    def name(self):
+    def name(self) -> str:
         return "line %d: %s" % (self.line, self.kind) if self.line else "the file"
 
     @functools.cached_property
-    def mesh(self):
+    def mesh(self) -> Any:
         try:
             return self.read()
         except Trouble as bad:
             raise Trouble(self.words % bad)
 
     @functools.cached_property
-    def points(self):
+    def points(self) -> Any:
         found = self.soup and self.soup()
         if found is not None:
             from pxplanes.mesh import columns
@@ -73,34 +81,35 @@ class Mesh:
         return placed(self.matrix, self.mesh[0])
 
     @property
-    def sides(self):
+    def sides(self) -> Any:
         return self.mesh[1]
 
-    def moved(self, matrix, colour):
+    def moved(self, matrix: kinds.Matrix, colour: kinds.Colour) -> Mesh:
         """The mesh under a matrix, in this colour."""
-        return Mesh(self.kind, self.line, self.read, colour, self.words, self.soup, times(matrix, self.matrix), self.divide)
+        return Mesh(self.kind, self.line, self.read, colour, self.words, self.soup, times(matrix, self.matrix),
+                    self.divide)
 
-    def divided(self):
+    def divided(self) -> Any:
         """The tree of its convex parts."""
         try:
-            tree = self.divide(*self.mesh, self.colour, self.line)
+            tree = self.divide(self.mesh[0], self.mesh[1], self.colour, self.line)
             self.parts = each(tree, lambda solid: solid.moved(self.matrix, self.colour))
             return self.parts
         except Trouble as bad:
             raise Trouble(self.words % bad)
 
 
-def divided(tree):
+def divided(tree: kinds.Tree) -> Any:
     """The tree in which each mesh is its convex parts."""
     return each(tree, lambda leaf: leaf.divided() if isinstance(leaf, Mesh) else leaf)
 
 
-def placed(matrix, points):
+def placed(matrix: kinds.Matrix, points: kinds.Points) -> list[list[float]]:
     """The points under a matrix of three rows of four."""
     return [[facets.dot(row, point) + row[3] for row in matrix] for point in points]
 
 
-def cofactors(matrix):
+def cofactors(matrix: kinds.Matrix) -> tuple[list[list[float]], int]:
     """What turns normals as the matrix turns points, and the sign of its determinant."""
     rows = [[matrix[(i + 1) % 3][(j + 1) % 3] * matrix[(i + 2) % 3][(j + 2) % 3]
              - matrix[(i + 1) % 3][(j + 2) % 3] * matrix[(i + 2) % 3][(j + 1) % 3] for j in range(3)]
@@ -112,18 +121,19 @@ def cofactors(matrix):
     return rows, 1 if size > 0 else -1
 
 
-def growth(matrix):
+def growth(matrix: kinds.Matrix) -> float:
     """By how much a matrix makes lengths greater, at most."""
-    return max(1e-300, sum(part * part for row in matrix for part in row[:3]) ** 0.5)
+    return max(1e-300, math.sqrt(sum(part * part for row in matrix for part in row[:3])))
 
 
-def times(outer, inner):
-    inner = inner + [[0, 0, 0, 1]]
+def times(outer: kinds.Matrix, inner: kinds.Matrix) -> list[list[float]]:
+    inner = [*inner, [0, 0, 0, 1]]
     return [[sum(outer[row][k] * inner[k][column] for k in range(4)) for column in range(4)]
             for row in range(3)]
 
 
-def of_mesh(kind, line, points, sides, colour, numbers=None, is_exact=False):
+def of_mesh(kind: str, line: int, points: kinds.Points, sides: Any, colour: kinds.Colour,
+            numbers: Optional[Sequence[int]] = None, is_exact: bool = False) -> Any:
     """The tree of a mesh: one solid where it is convex, and else the convex parts of it."""
     flat = facets.flat_facets(points, sides)
     if len(flat) > len(sides):
@@ -144,7 +154,7 @@ def of_mesh(kind, line, points, sides, colour, numbers=None, is_exact=False):
     return joined("+", [Solid(kind, line, corners, planes, colour, True) for planes, corners in found])
 
 
-def planes_of(points, sides, numbers, is_exact):
+def planes_of(points: kinds.Points, sides: Any, numbers: Optional[Sequence[int]], is_exact: bool) -> list[kinds.Plane]:
     """The planes of a convex solid, whose points may be exact although they have six digits."""
     try:
         return facets.planes(points, sides, numbers, is_exact)
@@ -157,7 +167,7 @@ def planes_of(points, sides, numbers, is_exact):
             raise bad
 
 
-def of_file(points, sides, colour, line=0):
+def of_file(points: Any, sides: Any, colour: Any, line: int = 0) -> Any:
     """The tree of a mesh that may have several parts, or shells within others; `line` is that of
     the node which has it, if any."""
     shells = facets.parts(points, sides)
@@ -165,7 +175,7 @@ def of_file(points, sides, colour, line=0):
         hollows, shells = facets.hollows(shells)
         if hollows:
             return joined("+", [of_mesh("part", line, own, turned, colour) for own, turned in hollows]
-                          + [of_file(*shell[:2], colour, line) for shell in shells])
+                          + [of_file(shell[0], shell[1], colour, line) for shell in shells])
     trees = []
     for number, (own, turned, numbers) in enumerate(shells, 1):
         try:
@@ -175,7 +185,7 @@ def of_file(points, sides, colour, line=0):
     return joined("+", trees)
 
 
-def joined(sign, trees):
+def joined(sign: str, trees: list[Any]) -> Any:
     """Trees under a sign, where a tree without solids is the empty set."""
     if sign == "*" and None in trees or sign == "-" and trees[:1] == [None]:
         return None
@@ -187,14 +197,14 @@ def joined(sign, trees):
     return sign, trees
 
 
-def each(tree, change):
+def each(tree: kinds.Tree, change: Any) -> Any:
     """The tree with what `change` makes of each of its leaves."""
     if tree is None or not isinstance(tree, tuple):
         return None if tree is None else change(tree)
     return joined(tree[0], [each(part, change) for part in tree[1]])
 
 
-def leaves(tree, added=True):
+def leaves(tree: kinds.Tree, added: bool = True) -> list[tuple[Any, bool]]:
     """The leaves of a tree in their order, each with whether it is added."""
     if tree is None or not isinstance(tree, tuple):
         return [] if tree is None else [(tree, added)]
@@ -202,11 +212,11 @@ def leaves(tree, added=True):
     return [pair for i, part in enumerate(trees) for pair in leaves(part, added != (sign == "-" and i == 1))]
 
 
-def signs(tree):
+def signs(tree: kinds.Tree) -> set[str]:
     return {tree[0]}.union(*map(signs, tree[1])) if isinstance(tree, tuple) else set()
 
 
-def convex_parts(tree, meet):
+def convex_parts(tree: kinds.Tree, meet: Any) -> list[Any]:
     """The convex shapes whose union a tree without a difference is; `meet` makes one of several."""
     if tree is None or not isinstance(tree, tuple):
         return [] if tree is None else [tree]
@@ -216,7 +226,7 @@ def convex_parts(tree, meet):
     return [found for found in map(meet, itertools.product(*lists)) if found]
 
 
-def met(parts):
+def met(parts: Any) -> Any:
     """The common part of convex solids; None where there is none."""
     size, _ = facets.extent([point for part in parts for point in part.points])
     found = facets.bounded([plane for part in parts for plane in part.planes],

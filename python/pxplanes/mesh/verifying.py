@@ -1,19 +1,18 @@
 """Holds a mesh beside the expression that it was made of: the program's pictures of the expression, from
 several sides and through cuts, beside rays through the mesh. What `verify` and `dev/league` judge by."""
+from __future__ import annotations
+
 import collections
 import math
 import os
+from typing import Any, Iterator, Sequence, Union
 
-from pxplanes.errors import Trouble
-from pxplanes.mesh import facets
-from pxplanes.mesh import modelling
-from pxplanes.image import netpbm
 from pxplanes import program
-from pxplanes.scene import scenes
-from pxplanes.mesh import solids
-from pxplanes.scene import texts
-from pxplanes.mesh import views
+from pxplanes.errors import Trouble
+from pxplanes.image import netpbm
+from pxplanes.mesh import facets, kinds, modelling, solids, views
 from pxplanes.mesh.crossings import Crossings, open_edges, outwards
+from pxplanes.scene import scenes, texts
 
 SIZE, BITS, SIDES, CUTS = (64, 48), (12, 6), 6, 3
 GOLDEN = 180 * (3 - math.sqrt(5))
@@ -32,28 +31,28 @@ Seen = collections.namedtuple("Seen", "side cut ours theirs words")
 class Mesh:
     """A kernel's result; without facets it is nothing."""
 
-    def __init__(self, points, sides):
+    def __init__(self, points: kinds.Points, sides: Any) -> None:
         self.points = points
         self.sides, self.is_inwards = outwards(points, sides)
         self.open_edges = open_edges(sides)
         self.digit = 2 * facets.digit_of(points) * facets.extent(points)[0] if points else 0
 
-    def seen(self, place, cells):
+    def seen(self, place: Any, cells: float) -> tuple[Crossings, float]:
         return Crossings([place(point) for point in self.points], self.sides), self.digit * cells
 
-    def notes(self):
+    def notes(self) -> list[str]:
         """What is to be told of the mesh itself."""
         return ["its facets look inwards, and are taken the other way round"] * self.is_inwards + [
             "it is not closed: %d edges are not passed as often one way as the other" % self.open_edges
         ] * bool(self.open_edges)
 
 
-def turn_of(at, count):
+def turn_of(at: int, count: int) -> tuple[float, float, float]:
     """The turn of one of so many sides, which are spread evenly over the sphere."""
     return math.degrees(math.acos(1 - (2 * at + 1) / count)), 0.0, GOLDEN * at % 360
 
 
-def of_tree(tree, mesh, count, size=SIZE):
+def of_tree(tree: kinds.Tree, mesh: Any, count: int, size: Sequence[int] = SIZE) -> Iterator[Side]:
     """The sides of a model's tree. Both the model and the mesh are within each picture."""
     far = 2 ** BITS[0] - 1
     both = ("+", [tree, solids.Solid("result", 0, mesh.points, [], None)]) if mesh.points else tree
@@ -62,7 +61,7 @@ def of_tree(tree, mesh, count, size=SIZE):
         view = views.fitted(turn, size, None, far, both)
         text, (off, _) = modelling.scene_of(tree, view, modelling.Choices(size=size, depth=BITS, flat=True))
 
-        def place(point):
+        def place(point: kinds.Vector) -> Any:
             column, row = view.places([point])[0]
             return column, row, (view.turned(point)[1] - view.nearest) * view.cells
 
@@ -70,7 +69,7 @@ def of_tree(tree, mesh, count, size=SIZE):
         yield Side("%.0f %.0f" % (turn[0], turn[2]), modelling.checked(text), text, crossings, 1 + 2 * off + digits)
 
 
-def of_scene(content, mesh):
+def of_scene(content: bytes, mesh: Any) -> Iterator[Side]:
     """The one side of a scene's bytes, whose mesh stands as `export` writes it."""
     try:
         scene = scenes.read(content)
@@ -80,7 +79,7 @@ def of_scene(content, mesh):
     yield Side("picture", scene, texts.text_of(scene), crossings, 1 + digits)
 
 
-def through(text, cut, scene):
+def through(text: str, cut: int, scene: Any) -> str:
     """The text of a scene without what is nearer than a cut."""
     if not cut:
         return text
@@ -90,7 +89,7 @@ def through(text, cut, scene):
         head, name[:16], cut << scene.fraction_bits, show.rsplit("\n", 1)[0], name[:16])
 
 
-def is_beside(side, x, y, cut, ours, right, down, grow):
+def is_beside(side: Any, x: float, y: float, cut: int, ours: Any, right: float, down: float, grow: float) -> bool:
     """Whether the mesh has a depth a little beside a pixel, or what is there goes on to it in a straight line; its
     spans are longer by `grow` at both ends."""
     far, room = side.scene.far(), side.near + abs(grow)
@@ -98,10 +97,10 @@ def is_beside(side, x, y, cut, ours, right, down, grow):
     if abs(ours - other) <= room:
         return True
     further = side.crossings.depth(x + 2 * right, y + 2 * down, cut, far, grow)
-    return max(other, further) < far and abs(ours - (2 * other - further)) <= room + 1
+    return max(other, further) < far and bool(abs(ours - (2 * other - further)) <= room + 1)
 
 
-def word_of(side, x, y, cut, ours):
+def word_of(side: Any, x: float, y: float, cut: int, ours: Any) -> tuple[str, int]:
     """What is at a pixel, and the mesh's depth there."""
     far = side.scene.far()
     theirs = side.crossings.depth(x, y, cut, far)
@@ -112,13 +111,13 @@ def word_of(side, x, y, cut, ours):
     return (MISSING if theirs > ours else TOO_MUCH), theirs
 
 
-def looked(side, cut, depths):
+def looked(side: Any, cut: int, depths: Any) -> Seen:
     """A side through a cut, beside the program's depths of it."""
     found = [word_of(side, at % side.scene.width, at // side.scene.width, cut, ours) for at, ours in enumerate(depths)]
     return Seen(side, cut, depths, [theirs for _, theirs in found], [word for word, _ in found])
 
 
-def seen(sides, cuts, draw):
+def seen(sides: Any, cuts: int, draw: Any) -> Iterator[Seen]:
     """Each side, whole and through so many cuts; `draw` gives the depths of a scene's text."""
     for side in sides:
         for which in range(cuts + 1):
@@ -126,18 +125,18 @@ def seen(sides, cuts, draw):
             yield looked(side, cut, draw(through(side.text, cut, side.scene)))
 
 
-def verdict(counts):
+def verdict(counts: Any) -> str:
     """`right`, `within rounding` or `wrong`."""
     if counts[MISSING] or counts[TOO_MUCH]:
         return "wrong"
     return "within rounding" if counts[ROUNDING] else "right"
 
 
-def picture(found):
+def picture(found: Any) -> Any:
     """Ours, theirs and what is missing (red) or too much (blue) side by side, as PNG."""
     width, height, far = found.side.scene.width, found.side.scene.height, found.side.scene.far()
 
-    def grey(depth):
+    def grey(depth: int) -> Any:
         return (255, 255, 255) if depth >= far else (round(20 + 200 * depth / far),) * 3
 
     colours, marks = [], {MISSING: RED, TOO_MUCH: BLUE, ROUNDING: GREY}
@@ -148,7 +147,7 @@ def picture(found):
     return netpbm.png(3 * width + 2, height, colours, 768)
 
 
-def leave(folder, found):
+def leave(folder: str, found: Any) -> None:
     """Puts a picture of what is wrong into a folder."""
     os.makedirs(folder, exist_ok=True)
     leaf = "%s-cut%d.png" % (found.side.name.replace(" ", "-"), found.cut)
@@ -156,9 +155,9 @@ def leave(folder, found):
         file.write(picture(found))
 
 
-def drawer(path):
+def drawer(path: str) -> Any:
     """What draws the depths of a scene's text, by the program at a path."""
-    def draw(text):
+    def draw(text: Union[str, bytes]) -> Any:
         text = text if isinstance(text, bytes) else text.encode()
         status, output, note = program.answer(path, ["render"], text)
         if status != 0:

@@ -1,9 +1,11 @@
 """Lays a model into a picture: its turn, its scale, and what of it can show. What `model` draws by."""
-import math
+from __future__ import annotations
 
-from pxplanes.mesh import solids
-from pxplanes.mesh import turns
+import math
+from typing import Any, Sequence
+
 from pxplanes.errors import Trouble
+from pxplanes.mesh import kinds, solids, turns
 
 FILLS = 0.92
 STEEP = 1e-9
@@ -15,7 +17,7 @@ class View:
     """From the model to the picture: right and down in pixels, and away from the eye in cells.
     `box` bounds what can show, along the picture's right, away and up."""
 
-    def __init__(self, rows, size, far, tree):
+    def __init__(self, rows: kinds.Points, size: Sequence[int], far: float, tree: kinds.Tree) -> None:
         self.rows, self.size, self.far = rows, size, far
         box = shown(rows, tree)
         self.has_common = box is not None
@@ -23,20 +25,20 @@ class View:
         self.cells = FILLS * far / max(high[1] - low[1], 1e-9)
         self.nearest = low[1] - (1 - FILLS) / 2 * far / self.cells
 
-    def placed(self, scale, left, top):
+    def placed(self, scale: float, left: float, top: float) -> View:
         """With so many pixels to a unit, and the origin at this place."""
         self.scale, self.left, self.top = scale, left, top
         return self
 
-    def turned(self, point):
+    def turned(self, point: kinds.Vector) -> list[float]:
         return turns.turned(self.rows, point)
 
-    def places(self, points):
+    def places(self, points: kinds.Points) -> list[tuple[float, float]]:
         """The columns and rows of points."""
         seen = [self.turned(point) for point in points]
         return [(self.left + self.scale * right, self.top - self.scale * up) for right, _, up in seen]
 
-    def half_space(self, normal, far):
+    def half_space(self, normal: kinds.Vector, far: float) -> tuple[str, tuple[float, ...]]:
         """The kind of a half-space, and A, B, C of its plane in cells; of a side in any unit."""
         right, away, up = self.turned(normal)
         form = (-right / self.scale, up / self.scale, far - away * self.nearest
@@ -45,26 +47,26 @@ class View:
             return "side", form
         return "front" if away < 0 else "back", tuple(self.cells / away * part for part in form)
 
-    def notes(self):
+    def notes(self) -> list[str]:
         """Comments that the scene begins with."""
         return []
 
-    def where(self, normal, far):
+    def where(self, normal: kinds.Vector, far: float) -> Any:
         """Where a plane is to be true: in the middle of these corners, here those of the picture."""
         return (0, 0, 0), (self.size[0] - 1, self.size[1] - 1, 0)
 
-    def cut_off(self):
+    def cut_off(self) -> list[str]:
         """What the edges of the picture cut off of what can show, in a line for each."""
         return ["the model is cut off at the %s of the picture, by %.1f pixels" % pair for pair in self.beyond()]
 
-    def beyond(self):
+    def beyond(self) -> list[tuple[str, float]]:
         """The edges of the picture beyond which what can show goes on, and by how many pixels."""
         low, high = self.box
         beyond = (-self.left - self.scale * low[0], self.left + self.scale * high[0] - (self.size[0] - 1),
                   self.top - self.scale * low[2] - (self.size[1] - 1), self.scale * high[2] - self.top)
         return [pair for pair in zip(EDGES, beyond) if pair[1] >= 1]
 
-    def why_empty(self):
+    def why_empty(self) -> str:
         if not self.has_common:
             return "what the model intersects has no common part"
         if self.beyond():
@@ -72,7 +74,7 @@ class View:
         return "nothing is left of the model, or what is left is smaller than a pixel"
 
 
-def box_of(rows, points):
+def box_of(rows: Any, points: Any) -> Any:
     if hasattr(points, "shape"):
         seen = [points @ row for row in rows]
         return [float(own.min()) for own in seen], [float(own.max()) for own in seen]
@@ -80,7 +82,7 @@ def box_of(rows, points):
     return [min(point[i] for point in seen) for i in range(3)], [max(point[i] for point in seen) for i in range(3)]
 
 
-def shown(rows, tree):
+def shown(rows: kinds.Points, tree: Any) -> Any:
     """The box of what can show of a tree: of what is added, and where solids intersect the common
     part of theirs; None where they have none."""
     if not isinstance(tree, tuple):
@@ -93,20 +95,20 @@ def shown(rows, tree):
     return around([box for box in boxes if box])
 
 
-def met(boxes):
+def met(boxes: Any) -> Any:
     low = [max(low[i] for low, _ in boxes) for i in range(3)]
     high = [min(high[i] for _, high in boxes) for i in range(3)]
     return (low, high) if all(a < b for a, b in zip(low, high)) else None
 
 
-def around(boxes):
+def around(boxes: Any) -> Any:
     if not boxes:
         return None
     return ([min(low[i] for low, _ in boxes) for i in range(3)],
             [max(high[i] for _, high in boxes) for i in range(3)])
 
 
-def fitted(turn, size, scale, far, tree):
+def fitted(turn: kinds.Vector, size: Sequence[int], scale: Any, far: float, tree: kinds.Tree) -> View:
     """What can show in the middle of the picture, and so large that it fills it."""
     view = View(turns.rows_of(turn), size, far, tree)
     low, high = view.box
@@ -116,7 +118,7 @@ def fitted(turn, size, scale, far, tree):
                        size[1] / 2 + scale * (low[2] + high[2]) / 2)
 
 
-def of_camera(numbers, size, far, tree):
+def of_camera(numbers: kinds.Vector, size: Sequence[int], far: float, tree: kinds.Tree) -> View:
     """As OpenSCAD's orthographic camera has it, whose pixels are sampled in their middles."""
     if len(numbers) == 6:
         numbers = turns.between(numbers[:3], numbers[3:])

@@ -1,0 +1,338 @@
+"""Random programs of OpenSCAD, and meshes in files, drawn by `pxplanes convert` and judged pixel by pixel: five rays a
+pixel through the mesh that OpenSCAD makes, or through the file's own triangles (ray_judge.py). Nothing but the command
+is of the tool."""
+import collections
+import concurrent.futures
+import glob
+import json
+import math
+import os
+import random
+import re
+import resource
+import shutil
+import struct
+import subprocess
+import sys
+import tempfile
+from typing import NamedTuple
+
+import numpy as np
+
+import ray_judge
+
+TOP = os.path.realpath(os.path.join(os.path.dirname(__file__), "..", ".."))
+
+SIZE, SECONDS, NEARER = (96, 72), 60, 0.004
+RAW = np.dtype([("normal", "<f4", 3), ("corners", "<f4", (3, 3)), ("more", "<u2")])
+EXAMPLES = "/usr/share/openscad/examples"
+WAYS = ("--draw", "scene")
+WORDS = ("right", "refused", "wrong", "timed out")
+
+
+class Subject(NamedTuple):
+    """A model: what its file is called, how it is written into a folder, and the triangles that rays meet; None for no
+    witness."""
+
+    name: str
+    write: object
+    seed: int
+
+
+# ---- random programs ----
+def program_of(seed):
+    """The text of a program of a seed, at a scale from 0.001 to 100000."""
+    draw = random.Random(seed)
+    scale = 10 ** draw.uniform(-3, 5)
+    return "$fn = %d;\nscale(%.3g) %s\n" % (draw.randint(4, 14), scale, joined(draw, draw.randint(1, 3)))
+
+
+def joined(draw, depth):
+    if depth == 0 or draw.random() < 0.15:
+        return leaf(draw)
+    word = draw.choice(("union", "difference", "difference", "intersection", "hull"))
+    if word == "hull":
+        return "hull() { %s %s }" % (leaf(draw), leaf(draw))
+    return "%s%s() { %s }" % (turn(draw), word, " ".join(joined(draw, depth - 1) for _ in range(draw.randint(2, 3))))
+
+
+def turn(draw):
+    """One in three stands square, so that faces meet."""
+    if draw.random() < 0.34:
+        return "rotate([0, 0, %d]) " % draw.choice((0, 90, 180))
+    return "rotate([%d, %d, %d]) " % tuple(draw.randint(-90, 90) for _ in range(3))
+
+
+def leaf(draw):
+    a, b, c = (draw.randint(3, 12) for _ in range(3))
+    corners = [(draw.uniform(2, 8), 2 * math.pi * (i + draw.uniform(0, 0.8)) / 7) for i in range(7)]
+    own = draw.choice((
+        "cube([%d, %d, %d], center = true);" % (a, b, c),
+        "cylinder(h = %d, r = %d, center = true);" % (2 * a, b // 2 + 1),
+        "cylinder(h = %d, r1 = %d, r2 = %d);" % (a, b // 2 + 2, c // 4),
+        "sphere(%d);" % (a // 2 + 2),
+        "linear_extrude(%d) polygon(%s);"
+                       % (a, [[round(r * math.cos(t), 2), round(r * math.sin(t), 2)] for r, t in corners]),
+        'linear_extrude(%d) text("%s", size = %d, halign = "center", valign = "center");'
+                       % (a, draw.choice(("A", "k&", "8", "Rg")), b + 2)))
+    return "translate([%d, %d, %d]) %s%s" % (*(draw.randint(-6, 6) for _ in range(3)), turn(draw), own)
+
+
+def subject_of_program(seed):
+    def write(folder):
+        with open(os.path.join(folder, "model.scad"), "w") as file:
+            file.write(program_of(seed))
+        return by_openscad("model.scad", folder, "model.csg"), stl(by_openscad("model.scad", folder, "model.stl"))
+
+    return Subject("program %d" % seed, write, seed)
+
+
+# ---- files ----
+def by_openscad(source, folder, out):
+    """What OpenSCAD exports; None for nothing."""
+    done = subprocess.run(["openscad", "-o", os.path.join(folder, out), source], cwd=folder, capture_output=True,
+                          preexec_fn=bounded(300))
+    path = os.path.join(folder, out)
+    return path if done.returncode == 0 and os.path.exists(path) else None
+
+
+def bounded(seconds):
+    return lambda: resource.setrlimit(resource.RLIMIT_CPU, (seconds, seconds + 5))
+
+
+def stl(path):
+    """The triangles of an STL file, of words or raw; none where there is no file."""
+    if path is None:
+        return np.zeros((0, 3, 3))
+    with open(path, "rb") as file:
+        data = file.read()
+    if data[:5] == b"solid":
+        return np.array(re.findall(rb"vertex\s+(\S+)\s+(\S+)\s+(\S+)", data), float).reshape(-1, 3, 3)
+    return np.frombuffer(data, RAW, offset=84)["corners"].astype(float)
+
+
+def points_of(triangles):
+    points, numbers = np.unique(triangles.reshape(-1, 3), axis=0, return_inverse=True)
+    return points, numbers.reshape(-1, 3)
+
+
+def raw_stl(triangles):
+    rows = np.zeros(len(triangles), RAW)
+    rows["corners"] = triangles
+    return b"raw".ljust(80) + struct.pack("<I", len(rows)) + rows.tobytes()
+
+
+def obj(triangles):
+    points, sides = points_of(triangles)
+    return ("".join("v %.9g %.9g %.9g\n" % tuple(own) for own in points) + "".join(
+        "f %d %d %d\n" % tuple(own + 1) for own in sides)).encode()
+
+
+def off(triangles):
+    points, sides = points_of(triangles)
+    return ("OFF\n%d %d 0\n" % (len(points), len(sides)) + "".join(
+        "%.9g %.9g %.9g\n" % tuple(own) for own in points) + "".join(
+        "3 %d %d %d\n" % tuple(own) for own in sides)).encode()
+
+
+def glb(triangles):
+    """With y upwards and in metres, as glTF has it: what is read of it has z upwards, in millimetres."""
+    points, sides = points_of(triangles)
+    body = sides.astype("<u4").tobytes() + (points[:, (0, 2, 1)] * (0.001, 0.001, -0.001)).astype("<f4").tobytes()
+    head = json.dumps({"asset": {"version": "2.0"}, "scene": 0, "scenes": [{"nodes": [0]}], "nodes": [{"mesh": 0}],
+                       "meshes": [{"primitives": [{"attributes": {"POSITION": 1}, "indices": 0}]}],
+                       "buffers": [{"byteLength": len(body)}],
+                       "bufferViews": [{"buffer": 0, "byteLength": sides.size * 4},
+                                       {"buffer": 0, "byteOffset": sides.size * 4,
+                                                                                 "byteLength": points.size * 4}],
+                       "accessors": [{"bufferView": 0, "componentType": 5125, "count": sides.size, "type": "SCALAR"},
+                                     {"bufferView": 1, "componentType": 5126, "count": len(points),
+                                      "type": "VEC3"}]}).encode()
+    head += b" " * (-len(head) % 4)
+    return struct.pack("<4sII", b"glTF", 2, 28 + len(head) + len(body)) + struct.pack(
+        "<I4s", len(head), b"JSON") + head + struct.pack(
+        "<I4s", len(body), b"BIN\0") + body
+
+
+FORMS = {"stl": raw_stl, "obj": obj, "off": off, "glb": glb}
+
+
+def subject_of_file(path, form, seed):
+    """A mesh of a file: an STL as it is, of any other what OpenSCAD makes of it; written in a form, or by OpenSCAD
+    itself as words or 3MF."""
+    def write(folder):
+        is_mesh = path.endswith(".stl")
+        source = shutil.copy(path, folder) if is_mesh else path
+        own = os.path.join(folder, "model.scad")
+        if is_mesh and form in ("words", "3mf"):
+            with open(own, "w") as file:
+                file.write('import("%s");' % os.path.basename(source))
+        words = source if is_mesh else by_openscad(path, os.path.dirname(path), os.path.join(folder, "words.stl"))
+        triangles = stl(words)
+        if form == "words" or not len(triangles):
+            return words, triangles
+        if form == "3mf":
+            return by_openscad(own if is_mesh else path, os.path.dirname(path),
+                               os.path.join(folder, "model.3mf")), triangles
+        with open(os.path.join(folder, "model." + form), "wb") as file:
+            file.write(FORMS[form](triangles))
+        return file.name, triangles
+
+    return Subject("%s as %s" % (os.path.relpath(path, TOP if path.startswith(TOP) else EXAMPLES), form), write, seed)
+
+
+def subjects_of_files(count):
+    """Meshes that OpenSCAD ships or makes of its examples and of those of this repository, in one form after
+    another."""
+    paths = sorted(glob.glob(EXAMPLES + "/*/*.stl")) + sorted(glob.glob(EXAMPLES + "/*/*.scad"))
+    paths += sorted(glob.glob(os.path.join(TOP, "gallery", "*.csg"))) + [os.path.join(TOP, "docs/scenes/bracket.scad")]
+    forms = ("words", "obj", "stl", "off", "3mf", "glb")
+    return [subject_of_file(os.path.realpath(paths[at % len(paths)]), forms[(at + at // len(paths)) % len(forms)], at)
+            for at in range(count)]
+
+
+# ---- judging ----
+def camera_words(triangles, seed):
+    """A camera from a random side that has all of a mesh in the picture, the words that say it, and near and far."""
+    draw = random.Random(seed)
+    points = triangles.reshape(-1, 3)
+    middle = (points.min(0) + points.max(0)) / 2
+    radius = max(np.linalg.norm(points - middle, axis=1).max(), 1e-9)
+    turn_, height = draw.uniform(0, 2 * math.pi), draw.uniform(-0.95, 0.95)
+    way = np.array([math.cos(turn_) * math.sqrt(1 - height ** 2), math.sin(turn_) * math.sqrt(1 - height ** 2), height])
+    is_deep, fov = seed % 2 == 1, draw.uniform(15, 60) if seed % 2 else 22.5
+    distance = 1.05 * radius / (math.sin if is_deep else math.tan)(math.radians(fov) / 2)
+    eye = middle + distance * way
+    words = ["--size", *map(str, SIZE)]
+    if is_deep:
+        near, far = (distance - radius) * 0.98, (distance + radius) * 1.02
+        words += ["--eye=" + listed(eye), "--at=" + listed(middle), "--fov", repr(fov), "--near", repr(near), "--far",
+                  repr(far)]
+        return ray_judge.camera_of(eye, middle, SIZE, True, fov), words, (near, far)
+    return ray_judge.camera_of(eye, middle, SIZE, False), words + ["--camera=" + listed([*eye, *middle])], None
+
+
+def listed(numbers):
+    return ",".join(repr(float(number)) for number in numbers)
+
+
+def run(words, folder):
+    done = subprocess.run([sys.executable, "-m", "pxplanes", *words], cwd=folder, capture_output=True,
+                          preexec_fn=bounded(3 * SECONDS), env={
+        **os.environ, "PYTHONPATH": os.path.join(TOP, "python")})
+    return done.returncode, done.stderr.decode("latin-1").strip().replace(folder + "/", "")
+
+
+def depths_of(path):
+    """The depths of maps as the program writes them: the first image, in three bytes a pixel."""
+    with open(path, "rb") as file:
+        _, size, _, data = file.read().split(b"\n", 3)
+    width, height = map(int, size.split())
+    raw = np.frombuffer(data, np.uint8, 3 * width * height).reshape(-1, 3).astype(int)
+    return raw[:, 0] << 16 | raw[:, 1] << 8 | raw[:, 2]
+
+
+class Lens(NamedTuple):
+    steep: float
+    near: float
+    perspective: bool
+
+
+def lens_of(camera, ends, cells, depths, away):
+    """How depths count. Without perspective the tool chooses where they begin and end: the straight line that fits most
+    pixels."""
+    if camera.perspective:
+        return Lens(cells / (1 / ends[0] - 1 / ends[1]), ends[0], True)
+    there = np.isfinite(away).all(1) & (depths < cells)
+    z, own = away[there].mean(1), depths[there] - 0.5
+    kept = np.ptp(away[there], axis=1) < 0.02 * max(np.ptp(z) if len(z) else 0, 1e-300)
+    for _ in range(8):
+        if kept.sum() < 2 or np.ptp(z[kept]) == 0:
+            break
+        origin = z[kept].mean()
+        steep, base = np.polyfit(z[kept] - origin, own[kept], 1)
+        near = origin - base / steep if steep else 0.0
+        off = np.abs(steep * (z - near) - own)
+        kept &= off <= max(1.0, 3 * np.median(off[kept]))
+    else:
+        return Lens(steep, near, False)
+    return Lens(0.0, 0.0, False) if not len(own) else Lens(cells, z[0] - own[0] / cells, False)
+
+
+def judged(subject, ways=WAYS):
+    """A row for each way: its word, and why."""
+    with tempfile.TemporaryDirectory(prefix="px-judged-") as folder:
+        path, triangles = subject.write(folder)
+        if path is None or not np.isfinite(triangles).all():
+            return [{"name": subject.name, "way": way, "word": "no witness"} for way in ways]
+        is_empty = len(triangles) == 0
+        camera, words, ends = camera_words(np.zeros((1, 3, 3)) if is_empty else triangles, subject.seed)
+        away = ray_judge.nearest(triangles, camera, SIZE) if not is_empty else np.full((SIZE[0] * SIZE[1], 5), np.inf)
+        return [{"name": subject.name, "way": way, "triangles": len(triangles),
+                 **word_of(path, way, words, folder, camera, ends, away, triangles)}
+                for way in ways]
+
+
+def word_of(path, way, words, folder, camera, ends, away, triangles):
+    maps, before = os.path.join(folder, "maps"), resource.getrusage(resource.RUSAGE_CHILDREN).ru_utime
+    more = ["--draw", maps] if way == "--draw" else ["-o", os.path.join(folder, "out.scene")]
+    status, said = run(["convert", *words, "--seconds", str(SECONDS), *more, path], folder)
+    row = {"seconds": round(resource.getrusage(resource.RUSAGE_CHILDREN).ru_utime - before, 2)}
+    if status:
+        why = said.split("\n")[-1]
+        if "the model has no solid" in why and not np.isfinite(away).any():
+            return {**row, "word": "right", "why": "nothing"}
+        return {**row, "word": "timed out" if "more than %d seconds" % SECONDS in why or status < 0 else "refused",
+                "why": why}
+    if way == "scene":
+        with open(os.path.join(folder, "out.scene")) as scene, open(maps, "wb") as file:
+            if subprocess.run([os.environ["PXPLANES_PROGRAM"], "render"], stdin=scene, stdout=file,
+                              preexec_fn=bounded(SECONDS)).returncode:
+                return {**row, "word": "timed out",
+                        "why": "the program takes more than %d seconds for its scene" % SECONDS}
+            scene.seek(0)
+            cells = 2 ** int(re.search(r"^depth (\d+)", scene.read(), re.M).group(1)) - 1
+    else:
+        cells = int((re.findall(r"cells of (\d+)", said) or [4095])[-1])
+    told = [float(number) for number in re.findall(r"rounded by (?:at most )?([-+.e\d]+) cells", said)]
+    depths = depths_of(maps)
+    lens = lens_of(camera, ends, cells, depths, away)
+    room = (1 if camera.perspective else 1.6) + sum(told)
+    bad, there = ray_judge.wrong_pixels(depths, cells, away, lens, room)
+    # at a steep face behind an edge the rays around a pixel are not near enough: what is wrong is so by nearer ones too
+    if bad:
+        nearer = ray_judge.nearest(triangles, camera, SIZE, NEARER)
+        bad = sorted(set(bad) & set(ray_judge.wrong_pixels(depths, cells, nearer, lens, room)[0]))
+    row.update(pixels=there, rounded=sum(told), columns="drawn by columns" in said)
+    if bad:
+        x, y = bad[0] % SIZE[0], bad[0] // SIZE[0]
+        return {**row, "word": "wrong", "why": "%d of %d pixels, the first x %d, y %d: %d, and not %s" % (
+            len(bad), there, x, y, depths[bad[0]], np.round(away[bad[0]], 4).tolist()), "command": " ".join(words)}
+    return {**row, "word": "right"}
+
+
+def rows_at(work):
+    """The rows of a program, or of a mesh, by its number; of every fifth as one scene too."""
+    is_program, number = work
+    subject = subject_of_program(number) if is_program else subjects_of_files(number + 1)[number]
+    return judged(subject, WAYS if number % 5 == 0 else WAYS[:1])
+
+
+def rows_of(programs, meshes, known, jobs):
+    """The rows of so many programs and meshes, but for those that are known by name, as they come."""
+    works = [(True, number) for number in range(1, programs + 1) if "program %d" % number not in known]
+    works += [(False, own.seed) for own in subjects_of_files(meshes) if own.name not in known]
+    with concurrent.futures.ProcessPoolExecutor(jobs) as pool:
+        for done in concurrent.futures.as_completed([pool.submit(rows_at, work) for work in works]):
+            yield from done.result()
+
+
+def table(rows):
+    """Lines of a table: of each kind and way how many were right, refused, wrong, too slow."""
+    counts = collections.Counter((row["name"].split()[0] == "program", row["way"], row["word"]) for row in rows)
+    out = ["| What | Way | %s | no witness |" % " | ".join(WORDS), "|---" * 7 + "|"]
+    for is_program, what in ((True, "random programs"), (False, "meshes")):
+        for way in WAYS:
+            out.append("| %s | %s | %s |" % (
+                what, way, " | ".join(str(counts[is_program, way, word]) for word in (*WORDS, "no witness"))))
+    return out
