@@ -148,11 +148,3 @@ def is_quick(clocks, width, height, seconds):
 def grid(width, height):
     """The pixels of the array that draws a picture of this size: powers of two, at least 2."""
     return tuple(max(2, 1 << (side - 1).bit_length()) for side in (width, height))
-
-
-def spoken(seconds):
-    """A time as people say it."""
-    for unit, size in (("days", 86400), ("hours", 3600), ("minutes", 60)):
-        if seconds >= 2 * size:
-            return "%.0f %s" % (seconds / size, unit)
-    return "%.0f seconds" % seconds if seconds >= 9.5 else "%.1f seconds" % seconds

@@ -57,10 +57,3 @@ def finer(scene, factor):
 
 def tile(scene, left, top, width, height):
     return changed(scene, width, height, lambda a, b, c: (a, b, a * left + b * top + c))
-
-
-def alone(scene):
-    """The scene with its first solid that is shown, and nothing else of it."""
-    other = copy.copy(scene)
-    other.show = [next(node for node in scene.show if isinstance(node, int))]
-    return other
