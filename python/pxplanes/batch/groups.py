@@ -1,10 +1,13 @@
 """Processes that end with all that they began: each runs in a session of its own, which is killed behind it, and when all is
 broken off. It is no tool itself."""
+from __future__ import annotations
+
 import os
 import signal
 import subprocess
 import threading
 import time
+from typing import Any, Optional
 
 SESSION = 3
 
@@ -12,10 +15,11 @@ SESSION = 3
 class Groups:
     """What runs of them now. `run` is as `subprocess.run`, from any thread; `end` kills all, and nothing is begun behind it."""
 
-    def __init__(self):
-        self.running, self.lock, self.is_over = set(), threading.Lock(), False
+    def __init__(self) -> None:
+        self.running: set[subprocess.Popen[Any]] = set()
+        self.lock, self.is_over = threading.Lock(), False
 
-    def run(self, words, timeout, stdin=b"", **more):
+    def run(self, words: list[str], timeout: Optional[float], stdin: bytes = b"", **more: Any) -> subprocess.CompletedProcess[Any]:
         with self.lock:
             if self.is_over:
                 raise KeyboardInterrupt
@@ -29,14 +33,14 @@ class Groups:
             process.wait()
             self.running.discard(process)
 
-    def end(self):
+    def end(self) -> None:
         with self.lock:
             self.is_over = True
             for process in list(self.running):
                 kill_session(process.pid)
 
 
-def kill_session(number):
+def kill_session(number: int) -> None:
     """Kills each process of a session, until none is left: one that is about to begin another is met in the next round."""
     while True:
         found = [pid for pid in map(int, filter(str.isdigit, os.listdir("/proc"))) if session_of(pid) == number]
@@ -50,7 +54,7 @@ def kill_session(number):
         time.sleep(0.01)
 
 
-def session_of(pid):
+def session_of(pid: int) -> Optional[int]:
     """The session of a process that runs; None where there is none, or it has ended and is not waited for."""
     try:
         with open("/proc/%d/stat" % pid) as file:
@@ -60,10 +64,10 @@ def session_of(pid):
     return None if words[0] in "ZX" else int(words[SESSION])
 
 
-def break_off_once():
+def break_off_once() -> None:
     """Has the first signal that would end this process be a KeyboardInterrupt, and passes over those behind it. A run in the
     background has the key that breaks off ignored, and would hand that on."""
-    def broken_off(*_):
+    def broken_off(*_: Any) -> None:
         for number in (signal.SIGINT, signal.SIGTERM):
             signal.signal(number, signal.SIG_IGN)
         raise KeyboardInterrupt
