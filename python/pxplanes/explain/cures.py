@@ -22,16 +22,13 @@ MOST_FRACTION = 8
 
 def of(text: bytes, refusal: scenes.Refusal) -> Optional[str]:
     """A cure for the first bad line of a text."""
-    if refusal.note.startswith("limit line 0"):
+    if refusal.note.startswith("limit line 0") or refusal.span is None:
         return None
-    found = of_text(text)
-    if found or refusal.span is None:
-        return found or of_end(text, refusal)
     number = int(refusal.note.split(":")[0].split(" ")[-1])
     line = scenes.cut_lines(text)[number - 1]
     word = line[refusal.span[0]:refusal.span[1]]
     cause = refusal.note.split(": ")[1].split(" ")[0]
-    found = of_bytes(word) or of_comment(line, word, cause)
+    found = "a NUL byte stands here: leave it out" if b"\0" in word else of_comment(line, word, cause)
     maker = MAKERS.get(cause)
     return found or (maker and maker(text, number, readable(line), readable(word)))
 
@@ -42,33 +39,6 @@ def readable(word: bytes) -> str:
         return word.decode("utf-8")
     except UnicodeDecodeError:
         return word.decode("latin-1")
-
-
-def of_text(text: bytes) -> Optional[str]:
-    """What is wrong with a text as a whole."""
-    if text[:2] in (b"\xff\xfe", b"\xfe\xff"):
-        return "the text is UTF-16: save it as ASCII, or `iconv -f UTF-16 -t ASCII SCENE > NEW`"
-    if text[:3] == b"\xef\xbb\xbf":
-        return "the text begins with a byte-order mark: save it as UTF-8 without one, or as ASCII"
-    if b"\n" not in text and b"\r" in text:
-        return "its lines end in carriage returns alone: `tr '\\r' '\\n' < SCENE > NEW` makes line feeds of them"
-    if not text.strip():
-        return "the text is empty: a scene begins with pxscene 1"
-    return None
-
-
-def of_end(text: bytes, refusal: scenes.Refusal) -> Optional[str]:
-    if refusal.note.endswith("missing-end") and refusal.due == "end":
-        return "add a last line: end"
-    return None
-
-
-def of_bytes(word: bytes) -> Optional[str]:
-    if b"\xc2\xa0" in word or b"\xa0" == word[-1:] or b"\xa0" == word[:1]:
-        return "a no-break space stands here: write a plain space"
-    if b"\0" in word:
-        return "a NUL byte stands here: leave it out"
-    return None
 
 
 def of_comment(line: bytes, word: bytes, cause: str) -> Optional[str]:
