@@ -15,7 +15,8 @@ DEFAULT = os.path.join(TOP, "crates", "px_program", "out", "px_program")
 NEWER_END = "-x86-64-v3"
 NEWER = DEFAULT + NEWER_END
 NEWER_FLAGS = {"avx", "avx2", "bmi1", "bmi2", "f16c", "fma", "abm", "movbe", "xsave"}
-SLOW = 2 * 10 ** 7
+# Clocks times pixels of the array a second: the slowest scene of the gallery had 2.1 * 10^9, on a machine with ten times more to do.
+SLOW = 2 * 10 ** 9
 
 
 def is_newer():
@@ -140,7 +141,7 @@ def cost(program, text):
 
 
 def is_quick(clocks, width, height, seconds):
-    """Whether a picture surely takes less than so many seconds, on any machine."""
+    """Whether a picture takes less than so many seconds on a slow machine."""
     wide, high = grid(width, height)
     return clocks * wide * high < seconds * SLOW
 

@@ -51,13 +51,14 @@ def test_no_reference(batch, tmp_path):
 def test_one_run_at_a_time(built, batch, tmp_path):
     """While a run works in a folder a second one says so, and changes nothing."""
     slow = tmp_path / "slow"
-    slow.write_text("#!/bin/sh\ntouch %s/begun\nsleep 4\nexec %s \"$@\"\n" % (tmp_path, built))
+    slow.write_text("#!/bin/sh\ntouch %s/begun\nuntil [ -e %s/go ]; do sleep 0.1; done\nexec %s \"$@\"\n" % (tmp_path, tmp_path, built))
     slow.chmod(0o755)
     environment = dict(os.environ, PYTHONPATH=os.path.join(support.TOP, "python"), PXPLANES_PROGRAM=str(slow))
     with subprocess.Popen(words("render", FIRST, "-o", tmp_path / "out"), env=environment, stdout=subprocess.PIPE, text=True) as first:
         while not (tmp_path / "begun").exists():
             assert first.poll() is None
         second = batch("render", TRIANGLE, "-o", tmp_path / "out")
+        (tmp_path / "go").touch()
         assert second.returncode == 2 and "another run works in" in second.stderr
         assert "1 drawn" in first.communicate()[0] and first.returncode == 0
 
