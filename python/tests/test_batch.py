@@ -64,14 +64,14 @@ def test_one_run_at_a_time(built, batch, tmp_path):
 
 
 @pytest.mark.skipif(os.geteuid() != 0, reason="only root mounts a small disk")
-def test_full_disk(batch, tmp_path):
+def test_full_disk(built, tmp_path):
     """A scene that has no room is named, and drawn by the next run once there is some."""
     disk, lines = tmp_path / "disk", "mount -t tmpfs -o size=2m none %s && %s; "
     disk.mkdir()
     run = " ".join(words("'tile 400 300'", FIRST, "-o", disk, "--jobs", 1))
     script = lines % (disk, "head -c 1600000 /dev/zero > %s/fill" % disk) + run + "; rm %s/fill; " % disk + run
     done = subprocess.run(["unshare", "--mount", "sh", "-c", script], capture_output=True, text=True, env=dict(
-        os.environ, PYTHONPATH=os.path.join(support.TOP, "python"), PYTHONDONTWRITEBYTECODE="1"))
+        os.environ, PYTHONPATH=os.path.join(support.TOP, "python"), PXPLANES_PROGRAM=built, PYTHONDONTWRITEBYTECODE="1"))
     if "mount" in done.stderr or "unshare" in done.stderr:
         pytest.skip("no mount here")
     told = done.stdout.splitlines()
