@@ -16,7 +16,8 @@ DEFAULT = os.path.join(TOP, "crates", "px_program", "out", "px_program")
 # The same for processors of x86-64-v3.
 NEWER_END = "-x86-64-v3"
 NEWER = DEFAULT + NEWER_END
-SLOW = 2 * 10 ** 7
+# Clocks times pixels of the array a second: the slowest scene of the gallery had 2.1 * 10^9, on a machine with ten times more to do.
+SLOW = 2 * 10 ** 9
 
 
 def newer_of(path: str) -> str | None:
@@ -132,7 +133,7 @@ def cost(program: str, text: bytes) -> tuple[int, int]:
 
 
 def is_quick(clocks: int, width: int, height: int, seconds: float) -> bool:
-    """Whether a picture surely takes less than so many seconds, on any machine."""
+    """Whether a picture takes less than so many seconds on a slow machine."""
     wide, high = grid(width, height)
     return clocks * wide * high < seconds * SLOW
 
@@ -141,11 +142,3 @@ def grid(width: int, height: int) -> tuple[int, int]:
     """The pixels of the array that draws a picture of this size: powers of two, at least 2."""
     wide, high = (max(2, 1 << (side - 1).bit_length()) for side in (width, height))
     return wide, high
-
-
-def spoken(seconds: float) -> str:
-    """A time as people say it."""
-    for unit, size in (("days", 86400), ("hours", 3600), ("minutes", 60)):
-        if seconds >= 2 * size:
-            return "%.0f %s" % (seconds / size, unit)
-    return "%.0f seconds" % seconds if seconds >= 9.5 else "%.1f seconds" % seconds

@@ -39,8 +39,6 @@ NO_LIBRARY = "there is no library for C; .ci/run builds it"
 SKIPPED = {"built": "it wants a program that is proved", "archive": NO_LIBRARY, "shared": NO_LIBRARY,
            "page": "there is no page; tools/package --web --page makes it",
            "kept": "the page was made of other crates; tools/package --web --page, behind a gate, makes it of these",
-           **{need: "no %s; Debian's %s has it, and begins a service" % (need, package) for need, package in (
-               ("sshd", "openssh-server"), ("sbatch", "slurm-wlm"), ("slurmctld", "slurm-wlm"), ("slurmd", "slurm-wlm"))},
            "venv": "this Python makes no venv; Debian's python3-venv has it",
            "chroot": "only root lays out a system, and from an archive of Debian that answers",
            "states": "there is no library for C with the calls for states; .ci/run builds it"}

@@ -51,27 +51,59 @@ def test_no_reference(batch, tmp_path):
 def test_one_run_at_a_time(built, batch, tmp_path):
     """While a run works in a folder a second one says so, and changes nothing."""
     slow = tmp_path / "slow"
-    slow.write_text("#!/bin/sh\ntouch %s/begun\nsleep 4\nexec %s \"$@\"\n" % (tmp_path, built))
+    slow.write_text("#!/bin/sh\ntouch %s/begun\nuntil [ -e %s/go ]; do sleep 0.1; done\nexec %s \"$@\"\n" % (tmp_path, tmp_path, built))
     slow.chmod(0o755)
     environment = dict(os.environ, PYTHONPATH=os.path.join(support.TOP, "python"), PXPLANES_PROGRAM=str(slow))
     with subprocess.Popen(words("render", FIRST, "-o", tmp_path / "out"), env=environment, stdout=subprocess.PIPE, text=True) as first:
         while not (tmp_path / "begun").exists():
             assert first.poll() is None
         second = batch("render", TRIANGLE, "-o", tmp_path / "out")
+        (tmp_path / "go").touch()
         assert second.returncode == 2 and "another run works in" in second.stderr
         assert "1 drawn" in first.communicate()[0] and first.returncode == 0
 
 
 @pytest.mark.skipif(os.geteuid() != 0, reason="only root mounts a small disk")
-def test_full_disk(batch, tmp_path):
+def test_full_disk(built, tmp_path):
     """A scene that has no room is named, and drawn by the next run once there is some."""
     disk, lines = tmp_path / "disk", "mount -t tmpfs -o size=2m none %s && %s; "
     disk.mkdir()
     run = " ".join(words("'tile 400 300'", FIRST, "-o", disk, "--jobs", 1))
     script = lines % (disk, "head -c 1600000 /dev/zero > %s/fill" % disk) + run + "; rm %s/fill; " % disk + run
     done = subprocess.run(["unshare", "--mount", "sh", "-c", script], capture_output=True, text=True, env=dict(
-        os.environ, PYTHONPATH=os.path.join(support.TOP, "python"), PYTHONDONTWRITEBYTECODE="1"))
+        os.environ, PYTHONPATH=os.path.join(support.TOP, "python"), PXPLANES_PROGRAM=built, PYTHONDONTWRITEBYTECODE="1"))
     if "mount" in done.stderr or "unshare" in done.stderr:
         pytest.skip("no mount here")
     told = done.stdout.splitlines()
     assert "first.scene: failed: No space left on device" in told[0] and told[-1].startswith("1 scenes: 1 drawn"), done.stdout + done.stderr
+
+
+def numbers(data):
+    """The depths and the faces of two maps, by rows."""
+    head = data.index(b"255\n") + 4
+    wide, high = map(int, data.split()[1:3])
+    out = []
+    for part in (data[head:len(data) // 2], data[len(data) // 2 + head:]):
+        found = [int.from_bytes(part[at:at + 3], "big") for at in range(0, len(part), 3)]
+        out.append([found[y * wide:(y + 1) * wide] for y in range(high)])
+    return out
+
+
+@pytest.mark.parametrize("wide, high", [(96, 64), (192, 32), (768, 512)])
+def test_enlarged(built, batch, tmp_path, wide, high):
+    """Each pixel of the scene is where it belongs in the poster, with its depth and its face; between them is what the planes say."""
+    assert batch("poster", FIRST, wide, high, "--tile", 100, "-o", tmp_path / "poster.ppm").returncode == 0
+    ours = numbers(subprocess.run([built, "render"], stdin=open(FIRST, "rb"), capture_output=True).stdout)
+    for small, large in zip(ours, numbers(content(tmp_path / "poster.ppm"))):
+        assert [row[::wide // 48] for row in large[::high // 32]] == small
+
+
+def test_enlarged_by_a_third(batch, tmp_path):
+    """Edges may be at any fraction of a pixel; a slope of a third of a cell is refused, with its line."""
+    scene = "pxscene 1\npicture 2 1\ndepth 4\nsolid a 1 2 3\nfront %s\nside -1 0 0\nshow a\nend\n"
+    (tmp_path / "flat.scene").write_text(scene % "3 0 5")
+    (tmp_path / "steep.scene").write_text(scene % "1 0 5")
+    assert batch("poster", tmp_path / "flat.scene", 6, 1, "-o", tmp_path / "flat.ppm").returncode == 0
+    assert numbers(content(tmp_path / "flat.ppm")) == [[[5, 15, 15, 15, 15, 15]], [[2, 0, 0, 0, 0, 0]]]
+    done = batch("poster", tmp_path / "steep.scene", 6, 1, "-o", tmp_path / "steep.ppm")
+    assert done.returncode == 1 and "line 5 has no exact enlargement to 6 by 1" in done.stderr and not (tmp_path / "steep.ppm").exists()

@@ -1,5 +1,6 @@
 """What `explain --fix` mends, and what it leaves: slips drawn from a seed, files of other kinds, and what it does with files."""
 import glob
+import json
 import os
 import subprocess
 import sys
@@ -54,8 +55,7 @@ def test_other_files(name, tmp_path):
 
 
 def fix(path, *words):
-    return subprocess.run([sys.executable, "-m", "pxplanes", "explain", "--fix", *words, str(path)], capture_output=True, text=True,
-                          env=dict(os.environ, PYTHONPATH=os.path.join(support.TOP, "python"), PYTHONDONTWRITEBYTECODE="1"))
+    return explained(path, "--fix", *words)
 
 
 # Each is a mistake that is mended in no way: a sign, a number, the structure, a line, a name that may be another one.
@@ -90,6 +90,34 @@ def test_first_cure_is_what_fix_writes():
     cure = next(line for line in told.lines if line.startswith("cure: "))
     assert told.lines[0] == "a.scene:16:1: 'sdie' is not expected here (did you mean 'side'?) [unexpected]"
     assert cure == "cure: write side 0 1 -13" and b"\nside 0 1 -13\n" in readings.mended(text).text
+
+
+def test_faces_as_json(tmp_path):
+    """Of each face what it is, by hand: with two fraction bits the normals have -4 along the depth."""
+    path = tmp_path / "a.scene"
+    path.write_text("pxscene 3\npicture 8 4\ndepth 10 2\nsolid a 1 2 3\nback 0 -4 300\nfront 3 0 40 9 8 7\nside 1 0 0\n"
+                    "solid b 4 5 6\nfront 0 0 8\nshow (a - b)\nend\n")
+    found = json.loads(explained(path, "--json").stdout)
+    assert (found["picture"], found["depth_bits"], found["fraction_bits"], found["far"]) == ([8, 4], 10, 2, 1023)
+    keys = ("face", "solid", "name", "kind", "which", "line", "colour", "plane", "normal")
+    assert [[each[key] for key in keys] for each in found["faces"]] == [
+        [1, 1, "a", "near", None, 4, [1, 2, 3], [0, 0, 0], [0, 0, -4]], [2, 1, "a", "back", 1, 5, [1, 2, 3], [0, -4, 300], [0, -4, -4]],
+        [3, 1, "a", "front", 1, 6, [9, 8, 7], [3, 0, 40], [3, 0, -4]], [4, 2, "b", "near", None, 8, [4, 5, 6], [0, 0, 0], [0, 0, -4]],
+        [5, 2, "b", "front", 1, 9, [4, 5, 6], [0, 0, 8], [0, 0, -4]]]
+
+
+def test_sarif(tmp_path):
+    """A mistake with its rule and its place."""
+    path = tmp_path / "a.scene"
+    path.write_text("pxscene 1\npicture 8 8\ndepth 4\nsolid a 1 2 3\nshow c\nend\n")
+    result = json.loads(explained(path, "--sarif").stdout)["runs"][0]["results"][0]
+    assert result["ruleId"] == "unknown-name" and result["locations"][0]["physicalLocation"]["region"] == {
+        "startLine": 5, "startColumn": 6, "endColumn": 7}
+
+
+def explained(path, *words):
+    return subprocess.run([sys.executable, "-m", "pxplanes", "explain", *words, str(path)], capture_output=True, text=True,
+                          env=dict(os.environ, PYTHONPATH=os.path.join(support.TOP, "python"), PYTHONDONTWRITEBYTECODE="1"))
 
 
 def test_bytes_stay():

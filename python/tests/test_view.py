@@ -4,7 +4,7 @@ import random
 import numpy as np
 import pytest
 
-from pxplanes.cli import view
+from pxplanes.cli import frame, view
 from pxplanes.image import netpbm, shades, show
 
 
@@ -29,3 +29,13 @@ def test_a_small_map_by_hand():
     assert [list(map(int, pixel)) for pixel in np.array(found.colours).reshape(-1, 3)] == [[240] * 3, [60] * 3, [24, 24, 64]]
     picture = netpbm.png_content(view.png(found))
     assert picture == netpbm.png_content(netpbm.png(3, 1, [(240,) * 3, (60,) * 3, (24, 24, 64)]))
+
+
+def test_colours_in_the_light(tmp_path, capsys):
+    """Of two lights none, one and both reach a pixel: it keeps 0.3, 0.65 and all of its colour; the background is black."""
+    scene = ("pxscene 1\npicture 4 1\ndepth 4\nsolid wall 200 100 0\nfront 0 0 5\nside -1 0 2\n"
+             "solid s 0 0 0\nside -1 0 0\nsolid t 0 0 0\nside -1 0 1\nshow wall\nend\n")
+    (tmp_path / "a.scene").write_text(scene)
+    (tmp_path / "lights").write_text("light s\nlight t\n")
+    options = frame.parser_of("view").parse_args([str(tmp_path / "a.scene"), "--lights", str(tmp_path / "lights")])
+    assert view.of_scene(scene.encode(), options).colours == [(60, 30, 0), (130, 65, 0), (200, 100, 0), (0, 0, 0)]

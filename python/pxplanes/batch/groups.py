@@ -1,11 +1,13 @@
 """Processes that end with all that they began: each runs in a session of its own, which is killed behind it, and when all is
 broken off. It is no tool itself."""
+from __future__ import annotations
+
 import os
 import signal
 import subprocess
 import threading
 import time
-from typing import Any
+from typing import Any, Optional
 
 SESSION = 3
 
@@ -14,10 +16,10 @@ class Groups:
     """What runs of them now. `run` is as `subprocess.run`, from any thread; `end` kills all, and nothing is begun behind it."""
 
     def __init__(self) -> None:
-        self.running: set[subprocess.Popen[bytes]] = set()
+        self.running: set[subprocess.Popen[Any]] = set()
         self.lock, self.is_over = threading.Lock(), False
 
-    def run(self, words: list[str], timeout: float, stdin: bytes = b"", **more: Any) -> subprocess.CompletedProcess[bytes]:
+    def run(self, words: list[str], timeout: Optional[float], stdin: bytes = b"", **more: Any) -> subprocess.CompletedProcess[Any]:
         with self.lock:
             if self.is_over:
                 raise KeyboardInterrupt
@@ -52,7 +54,7 @@ def kill_session(number: int) -> None:
         time.sleep(0.01)
 
 
-def session_of(pid: int) -> int | None:
+def session_of(pid: int) -> Optional[int]:
     """The session of a process that runs; None where there is none, or it has ended and is not waited for."""
     try:
         with open("/proc/%d/stat" % pid) as file:
@@ -65,7 +67,7 @@ def session_of(pid: int) -> int | None:
 def break_off_once() -> None:
     """Has the first signal that would end this process be a KeyboardInterrupt, and passes over those behind it. A run in the
     background has the key that breaks off ignored, and would hand that on."""
-    def broken_off(*_: object) -> None:
+    def broken_off(*_: Any) -> None:
         for number in (signal.SIGINT, signal.SIGTERM):
             signal.signal(number, signal.SIG_IGN)
         raise KeyboardInterrupt

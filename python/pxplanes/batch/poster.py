@@ -6,28 +6,65 @@ the file as it comes, so that memory does not grow with the picture; the file ha
 FILE.part, and FILE.done has the pieces that are in it: the same call goes on where it was broken off."""
 from __future__ import annotations
 
-import functools
 import hashlib
 import os
 import re
-from typing import IO, Iterator
+import threading
+from fractions import Fraction
+from math import gcd
+from typing import Any, Iterator, NamedTuple
 
 from pxplanes import ends
 from pxplanes.batch import engine
+from pxplanes.batch.scenes_drawn import REFUSALS, drop
 from pxplanes.errors import Trouble
+from pxplanes.scene import limits, scenes, texts
 
-LARGEST_CONSTANT = 2 ** 33
-LARGEST_PIECE = 4096
-REFUSALS = (3, 4)
-# Where a piece is in the picture, and how large it is.
-Place = tuple[int, int, int, int]
-ROWS_AT_ONCE = 64
-SAMPLES = 3
+LARGEST_PIECE, SAMPLES = limits.MAX_WIDE_PICTURE_SIZE, 3
 PLANE = re.compile(rb"^([ \t\r]*(?:front|back|side)[ \t\r]+)(-?\d+)([ \t\r]+)(-?\d+)([ \t\r]+)(-?\d+)(.*)$", re.S)
+Plane = tuple[int, int, int]
 
 
 class Refused(Exception):
-    """The scene is refused, by a line of the program's form."""
+    """The scene is refused, by a line of the program's form, or cannot be enlarged."""
+
+
+def enlarged(text: bytes, wide: int, high: int) -> bytes:
+    """The text of the scene over so many pixels, its picture's size as it was. A plane that rises by A a pixel rises by A times the old
+    width over the new one, in parts of a cell; what no fraction bits say exactly is refused."""
+    try:
+        scene = scenes.read(text)
+    except scenes.Refusal as refusal:
+        raise Refused(refusal.note) from None
+    x, y = Fraction(scene.width, wide), Fraction(scene.height, high)
+    surfaces = [face for solid in scene.solids for face in solid.fronts + solid.backs]
+    room = min(limits.MAX_FRACTION_BITS - scene.fraction_bits, limits.MAX_DEPTH_BITS - scene.depth_bits - scene.fraction_bits)
+    own = {face: max((x * face.plane[0]).denominator, (y * face.plane[1]).denominator) for face in surfaces}
+    for face, parts in own.items():
+        if parts & parts - 1 or parts.bit_length() - 1 > room:
+            raise Refused("the plane in line %d has no exact enlargement to %d by %d: its slope would have parts of 1/%d, and fraction bits "
+                          "have room for 1/%d" % (face.line, wide, high, parts, 1 << max(room, 0)))
+    bits = max([parts.bit_length() - 1 for parts in own.values()], default=0)
+
+    for solid in scene.solids:
+        for face in solid.fronts + solid.backs:
+            a, b, c = face.plane
+            face.plane = int(x * a * (1 << bits)), int(y * b * (1 << bits)), c << bits
+        for side in solid.sides:
+            side.plane = smallest(x * side.plane[0], y * side.plane[1], Fraction(side.plane[2]))
+    scene.fraction_bits += bits
+    written: str = texts.text_of(scene)
+    return written.encode()
+
+
+def smallest(*plane: Fraction) -> Plane:
+    """The least whole numbers in the same proportion: only the sign of a side counts."""
+    common = 1
+    for each in plane:
+        common = common * each.denominator // gcd(common, each.denominator)
+    a, b, c = (int(each * common) for each in plane)
+    least = gcd(gcd(a, b), c) or 1
+    return a // least, b // least, c // least
 
 
 def moved(text: bytes, x0: int, y0: int) -> bytes:
@@ -38,25 +75,27 @@ def moved(text: bytes, x0: int, y0: int) -> bytes:
         if plane:
             head, a, gap, b, space, c, tail = plane.groups()
             constant = int(c) + int(a) * x0 + int(b) * y0
-            if abs(constant) > LARGEST_CONSTANT:
+            if abs(constant) > limits.MAX_CONSTANT:
                 raise Refused("limit line 0: coefficient %d" % constant)
             line = head + a + gap + b + space + b"%d" % constant + tail
         lines.append(line)
     return b"\n".join(lines)
 
 
-class Pieces:
+class Piece(NamedTuple):
+    """A part of a picture: its first column and row, and its size."""
+
+    x0: int
+    y0: int
+    wide: int
+    high: int
+
+
+def pieces_of(wide: int, high: int, side: int) -> Iterator[Piece]:
     """The pieces of a picture, by rows from the top and in each row from the left."""
-
-    def __init__(self, wide: int, high: int, side: int) -> None:
-        self.wide, self.high, self.side = wide, high, side
-        self.across, self.down = -(-wide // side), -(-high // side)
-
-    def __iter__(self) -> Iterator[tuple[str, Place]]:
-        for row in range(self.down):
-            for column in range(self.across):
-                x0, y0 = column * self.side, row * self.side
-                yield "%dx%d" % (x0, y0), (x0, y0, min(self.side, self.wide - x0), min(self.side, self.high - y0))
+    for y0 in range(0, high, side):
+        for x0 in range(0, wide, side):
+            yield Piece(x0, y0, min(side, wide - x0), min(side, high - y0))
 
 
 def header(wide: int, high: int) -> bytes:
@@ -64,118 +103,77 @@ def header(wide: int, high: int) -> bytes:
 
 
 class Picture:
-    """A file of two images of one size, written row by row wherever a row has its place."""
+    """A file of two images of one size, written row by row wherever a row has its place; and, in a file beside it, the pieces that are in
+    it, a line each behind the sum of what it is made of."""
 
-    def __init__(self, path: str, wide: int, high: int, goes_on: bool) -> None:
-        self.wide, self.head = wide, header(wide, high)
-        self.image = len(self.head) + SAMPLES * wide * high
-        self.file = open(path, "r+b" if goes_on else "wb")
+    def __init__(self, path: str, wide: int, high: int, total: str):
+        self.path, self.wide, self.head = path, wide, header(wide, high)
+        self.image, self.lock = len(self.head) + SAMPLES * wide * high, threading.Lock()
+        self.part, self.list = path + ".part", path + ".done"
+        lines = ends.content(self.list).decode().split("\n") if os.path.exists(self.list) else []
+        goes_on = lines[:1] == [total] and os.path.exists(self.part)
+        self.done = set(lines[1:-1]) if goes_on else set()
+        self.file = open(self.part, "r+b" if goes_on else "wb")
         for first in (0, self.image):
             self.file.seek(first)
             self.file.write(self.head)
         self.file.truncate(2 * self.image)
+        if not goes_on:
+            with open(self.list, "w") as file:
+                file.write(total + "\n")
 
-    def put(self, source: IO[bytes], x0: int, y0: int, wide: int, high: int) -> None:
+    def has(self, piece: Piece) -> bool:
+        return "%dx%d" % piece[:2] in self.done
+
+    def put(self, piece: Piece, data: bytes) -> None:
         """Copies both images of a piece into their places."""
-        for first in (0, self.image):
-            if source.read(len(header(wide, high))) != header(wide, high):
-                raise Trouble("a piece has not the form of an image")
-            for y in range(y0, y0 + high):
-                row = source.read(SAMPLES * wide)
-                if len(row) != SAMPLES * wide:
-                    raise Trouble("a piece is cut off")
-                self.file.seek(first + len(self.head) + SAMPLES * (y * self.wide + x0))
-                self.file.write(row)
+        head, row = header(piece.wide, piece.high), SAMPLES * piece.wide
+        size = len(head) + row * piece.high
+        if len(data) != 2 * size or not data.startswith(head):
+            raise Trouble("a piece has not the form of an image")
+        with self.lock:
+            for first, start in ((0, len(head)), (self.image, size + len(head))):
+                for y in range(piece.high):
+                    self.file.seek(first + len(self.head) + SAMPLES * ((piece.y0 + y) * self.wide + piece.x0))
+                    self.file.write(data[start + y * row:start + (y + 1) * row])
+            self.file.flush()
+            with open(self.list, "a") as file:
+                file.write("%dx%d\n" % piece[:2])
 
-    def close(self) -> None:
+    def finish(self) -> None:
+        """Gives the picture its name."""
         self.file.close()
+        os.replace(self.part, self.path)
+        os.remove(self.list)
 
 
-class Done:
-    """Which pieces are in a picture, a name a line behind the sum of what it is made of; kept in a file as they come."""
-
-    def __init__(self, path: str, total: str) -> None:
-        self.path = path
-        self.names: set[str] = set()
-        lines = ends.content(path).decode().split("\n") if os.path.exists(path) else []
-        self.goes_on = lines[:1] == [total] and os.path.exists(path[:-len(".done")] + ".part")
-        if self.goes_on:
-            self.names.update(lines[1:-1])
-        self.total = total
-
-    def begin(self) -> None:
-        """Begins the file, unless it goes on."""
-        if not self.goes_on:
-            with open(self.path, "w") as file:
-                file.write(self.total + "\n")
-
-    def add(self, name: str, picture: Picture) -> None:
-        picture.file.flush()
-        with open(self.path, "a") as file:
-            file.write(name + "\n")
-
-
-def put(piece: engine.Piece, picture: Picture, place: Place) -> None:
-    """Puts a piece into its place, or tells why there is none."""
-    if piece.status in REFUSALS:
-        raise Refused(piece.note)
-    if piece.status != 0:
-        raise Trouble("piece %s: %s" % (piece.name, piece.note or "status %d" % piece.status))
-    with open(piece.output, "rb") as source:
-        picture.put(source, *place)
-
-
-def draw(text: bytes, pieces: Pieces, picture: Picture, done: Done, folder: str, built: str, where: engine.Where) -> None:
-    """Draws each piece that is not done, and puts it into its place."""
-    progress = engine.Progress(pieces.across * pieces.down - len(done.names))
-    sizes: dict[tuple[int, int], dict[str, Place]] = {}
-    for name, place in pieces:
-        if name in done.names:
-            continue
-        sizes.setdefault(place[2:], {})[name] = place
-    for (wide, high), group in sizes.items():
-        motor = engine.Engine(folder, built, ["tile", str(wide), str(high)], where)
-        try:
-            for piece in motor.ended({name: functools.partial(moved, text, at[0], at[1]) for name, at in group.items()}):
-                put(piece, picture, group[piece.name])
-                done.add(piece.name, picture)
-                progress.step()
-        finally:
-            motor.close()
-    progress.end()
-
-
-def checked(text: bytes, pieces: Pieces) -> None:
-    """Raises the first refusal of a piece that its text alone shows, before anything is drawn."""
-    for _, (x0, y0, _, _) in pieces:
-        moved(text, x0, y0)
-
-
-def drawn(text: bytes, wide: int, high: int, out: str, side: int, built: str, where: engine.Where) -> None:
-    """Draws a picture of `wide` by `high` pixels in pieces of `side` by `side` into the file `out`. Raises `Refused`."""
-    pieces, part, folder = Pieces(wide, high, side), out + ".part", out + ".pieces"
-    made_of = repr((text, pieces.wide, pieces.high, side)).encode() + ends.content(built)
-    lock = open(out + ".done", "a")
+def drawn(text: bytes, wide: int, high: int, out: str, side: int, built: str, jobs: int, enlarges: bool = True) -> None:
+    """Draws a picture of `wide` by `high` pixels in pieces of `side` by `side` into the file `out`: the scene enlarged, or as far as its
+    planes go. Raises `Refused`."""
+    pieces = list(pieces_of(wide, high, side))
+    lock: Any = open(out + ".done", "a")
     engine.locked(lock, out)
+    motor = engine.Engine(built, lock)
     try:
-        checked(text, pieces)
-        done = Done(out + ".done", hashlib.sha256(made_of).hexdigest())
-        picture = Picture(part, pieces.wide, pieces.high, done.goes_on)
-        done.begin()
-        draw(text, pieces, picture, done, folder, built, where)
-        picture.close()
-        os.replace(part, out)
-        os.remove(done.path)
-    except Refused:
-        drop(part, out + ".done")
-        raise
-    except (Trouble, OSError):
-        if not os.path.exists(out + ".done") or len(ends.content(out + ".done").splitlines()) < 2:
-            drop(part, out + ".done")
-        raise
+        text = enlarged(text, wide, high) if enlarges else text
+        for piece in pieces:
+            moved(text, piece.x0, piece.y0)
+        total = hashlib.sha256(repr((text, wide, high, side)).encode() + ends.content(built)).hexdigest()
+        picture = Picture(out, wide, high, total)
 
+        def work(piece: Piece) -> None:
+            status, data, note = motor.run(["tile", str(piece.wide), str(piece.high)], moved(text, piece.x0, piece.y0))
+            if status in REFUSALS:
+                raise Refused(note)
+            if status != 0:
+                raise Trouble("the piece at %d %d: %s" % (piece.x0, piece.y0, note or "status %d" % status))
+            picture.put(piece, data)
 
-def drop(*paths: str) -> None:
-    for path in paths:
-        if os.path.exists(path):
-            os.remove(path)
+        for _ in motor.each(jobs, work, [piece for piece in pieces if not picture.has(piece)]):
+            pass
+        picture.finish()
+    except (Refused, Trouble, OSError) as error:
+        if isinstance(error, Refused) or not os.path.exists(out + ".done") or ends.content(out + ".done").count(b"\n") < 2:
+            drop(out + ".part")
+            drop(out + ".done")
+        raise

@@ -1,18 +1,16 @@
 """Draws many scenes into a folder, and goes on where it was broken off.
 
-The folder gets NAME.ppm, or NAME.txt of plan and cost. A picture is there whole or not at all. `many.tsv` keeps what came of each
-scene: one of the same text, command and program that is there already, and compared with the same picture or with none, is not
+The folder gets NAME.ppm, or NAME.txt of a word that writes text. A picture is there whole or not at all. `many.tsv` keeps what came of
+each scene: one of the same text, command and program that is there already, and compared with the same picture or with none, is not
 drawn again. One run at a time works in the folder."""
 from __future__ import annotations
 
 import collections
-import functools
 import hashlib
 import os
 import subprocess
 import sys
-from concurrent import futures
-from typing import Iterable, Iterator, NamedTuple, Optional
+from typing import Iterator, NamedTuple, Optional, Sequence
 
 from pxplanes import ends
 from pxplanes.batch import engine
@@ -20,19 +18,20 @@ from pxplanes.errors import Trouble
 
 ENDINGS = {"render": ".ppm", "colour": ".ppm", "compare": ".ppm", "shadow": ".ppm", "sample": ".ppm", "tile": ".ppm", "refine": ".ppm",
            "plan": ".txt", "cost": ".txt", "tidy": ".txt", "list": ".txt", "debug": ".txt"}
-REFUSALS = (3, 4)
-Outcome = tuple[str, str]
+REFUSALS, WRITE_FAULT, LEAST_ROOM = (3, 4), 6, 1 << 16
+NO_SPACE = "No space left on device"
+Came = tuple[str, str]     # what came of a scene: drawn, refused, differs or failed, and a note
 
 
 class Scene(NamedTuple):
-    """A scene: its name, its file, and the checksum of what its picture hangs on, if it can be read."""
+    """A scene that is to be drawn. The sum of one that cannot be read is empty."""
 
     name: str
     path: str
-    sum: Optional[str]
+    sum: str
 
 
-def found(words: Iterable[str]) -> Iterator[str]:
+def found(words: Sequence[str]) -> Iterator[str]:
     """The files that the words name, each once."""
     for word in words:
         if word == "-":
@@ -46,8 +45,8 @@ def found(words: Iterable[str]) -> Iterator[str]:
             yield word
 
 
-def scenes_of(words: Iterable[str], command: str, built: str, against: Optional[str]) -> dict[str, Scene]:
-    """The scenes, by their names; two of one name have one place, which is trouble. The sum of one that cannot be read is None."""
+def scenes_of(words: Sequence[str], command: str, built: str, against: Optional[str]) -> list[Scene]:
+    """The scenes; two of one name have one place, which is trouble."""
     scenes: dict[str, Scene] = {}
     made = content_of(built)
     for path in dict.fromkeys(found(words)):
@@ -56,10 +55,10 @@ def scenes_of(words: Iterable[str], command: str, built: str, against: Optional[
             raise Trouble("%s and %s would both be written as %s" % (scenes[name].path, path, name))
         text = content_of(path)
         beside = content_of(os.path.join(against, name + ending_of(command))) if against else None
-        scenes[name] = Scene(name, path, None if text is None else sum_of(command.encode(), made, text, beside))
+        scenes[name] = Scene(name, path, "" if text is None else sum_of(command.encode(), made, text, beside))
     if not scenes:
         raise Trouble("there is no scene; --help says more")
-    return scenes
+    return [scenes[name] for name in sorted(scenes)]
 
 
 def ending_of(command: str) -> str:
@@ -70,7 +69,8 @@ def ending_of(command: str) -> str:
 def content_of(path: str) -> Optional[bytes]:
     """The bytes of a file, or None where it cannot be read."""
     try:
-        return ends.content(path)
+        data: bytes = ends.content(path)
+        return data
     except OSError:
         return None
 
@@ -83,7 +83,7 @@ def sum_of(*parts: Optional[bytes]) -> str:
 class Table:
     """What came of each scene, kept in a file as it comes."""
 
-    def __init__(self, folder: str) -> None:
+    def __init__(self, folder: str):
         self.path = os.path.join(folder, "many.tsv")
         self.rows: dict[str, tuple[str, str, str]] = {}
         if os.path.exists(self.path):
@@ -94,29 +94,62 @@ class Table:
                         self.rows[name] = total, what, note
 
     def add(self, scene: Scene, what: str, note: str) -> None:
-        self.rows[scene.name] = scene.sum or "", what, note
+        self.rows[scene.name] = scene.sum, what, note
         with open(self.path, "a", errors="surrogateescape") as file:
-            file.write("\t".join((scene.name, scene.sum or "", what, " ".join(note.split()))) + "\n")
+            file.write("\t".join((scene.name, scene.sum, what, " ".join(note.split()))) + "\n")
 
     def has(self, scene: Scene, output: str) -> bool:
         """Whether a scene needs no work: it was refused, or its output is there, and its text is the same."""
-        total, what, _ = self.rows.get(scene.name, (None, "", ""))
-        return total == scene.sum and what != "failed" and (what == "refused" or os.path.exists(output))
+        total, what, _ = self.rows.get(scene.name, ("", "", ""))
+        return scene.sum != "" and total == scene.sum and what != "failed" and (what == "refused" or os.path.exists(output))
 
 
-def settled(piece: engine.Piece, output: str, against: Optional[str]) -> Optional[Outcome]:
-    """What came of a scene whose piece has ended; its output is put in its place. None if it is to be compared."""
-    if piece.status in REFUSALS:
-        if os.path.exists(output):
-            os.remove(output)
-        return "refused", piece.note
-    if piece.status != 0:
-        return "failed", piece.note or "it ended with status %d" % piece.status
-    os.replace(piece.output, output)
-    return None if against else ("drawn", "")
+class Batch:
+    """Draws scenes by one command into a folder."""
+
+    def __init__(self, command: str, folder: str, against: Optional[str], motor: engine.Engine):
+        self.command, self.folder, self.against, self.motor = command, folder, against, motor
+        self.words = ["render"] if command == "compare" else command.split()
+
+    def place(self, scene: Scene) -> str:
+        return os.path.join(self.folder, scene.name + ending_of(self.command))
+
+    def drawn(self, scene: Scene) -> Came:
+        """What comes of a scene; its output is put in its place."""
+        text, place = content_of(scene.path), self.place(scene)
+        if text is None:
+            return "failed", "it cannot be read"
+        part = os.path.join(self.folder, ".%s.part" % scene.name)
+        try:
+            with open(part, "wb") as out:
+                status, _, note = self.motor.run(self.words, text, out)
+            if status == WRITE_FAULT and is_full(self.folder):
+                return "failed", NO_SPACE
+            if status in REFUSALS:
+                drop(place)
+                return "refused", note
+            if status != 0:
+                return "failed", note or "it ended with status %d" % status
+            os.replace(part, place)
+        except OSError as error:
+            return "failed", error.strerror or str(error)
+        finally:
+            drop(part)
+        return compared(place, os.path.join(self.against, os.path.basename(place))) if self.against else ("drawn", "")
 
 
-def compared(ours: str, theirs: str) -> Outcome:
+def is_full(folder: str) -> bool:
+    """Whether the disk of a folder has no room."""
+    room = os.statvfs(folder)
+    return room.f_bavail * room.f_frsize < LEAST_ROOM
+
+
+def drop(path: str) -> None:
+    if os.path.exists(path):
+        os.remove(path)
+
+
+def compared(ours: str, theirs: str) -> Came:
     """What comes of a picture beside the reference: equal bytes need no comparison, others have a process of their own."""
     if content_of(ours) == content_of(theirs):
         return "drawn", ""
@@ -128,47 +161,11 @@ def compared(ours: str, theirs: str) -> Outcome:
     return "failed", done.stderr.strip().split("\n")[-1]
 
 
-def work(scenes: dict[str, Scene], table: Table, command: str, folder: str, built: str, where: engine.Where,
-         against: Optional[str]) -> None:
-    """Draws what is not drawn yet."""
-    def place(scene: Scene) -> str:
-        return os.path.join(folder, scene.name + ending_of(command))
-
-    for scene in scenes.values():
-        if scene.sum is None:
-            table.add(scene, "failed", "it cannot be read")
-    left = {"%d" % number: scene for number, scene in enumerate(scenes.values())
-            if scene.sum is not None and not table.has(scene, place(scene))}
-    if not left:
-        return
-    words = ["render"] if command == "compare" else command.split()
-    motor = engine.Engine(os.path.join(folder, ".many"), built, words, where)
-    progress = engine.Progress(len(left))
-    comparing: dict[futures.Future[Outcome], Scene] = {}
-    try:
-        with futures.ThreadPoolExecutor(where.jobs) as jobs:
-            for piece in motor.ended({name: functools.partial(ends.content, scene.path) for name, scene in left.items()}):
-                scene = left[piece.name]
-                found = settled(piece, place(scene), against)
-                if found is None and against is not None:
-                    theirs = os.path.join(against, os.path.basename(place(scene)))
-                    comparing[jobs.submit(compared, place(scene), theirs)] = scene
-                elif found is not None:
-                    table.add(scene, *found)
-                    progress.step()
-            for job in futures.as_completed(comparing):
-                table.add(comparing[job], *job.result())
-                progress.step()
-    finally:
-        motor.close()
-    progress.end()
-
-
-def report(scenes: dict[str, Scene], table: Table) -> int:
+def report(scenes: Sequence[Scene], table: Table) -> int:
     """Prints a line for each scene that was not drawn, and how many there are of each; the exit status."""
     counts: collections.Counter[str] = collections.Counter()
-    for name, scene in sorted(scenes.items()):
-        _, what, note = table.rows[name]
+    for scene in scenes:
+        _, what, note = table.rows[scene.name]
         counts[what] += 1
         if what != "drawn":
             print("%s: %s%s" % (scene.path, what, ": " + note if note else ""))
@@ -177,7 +174,7 @@ def report(scenes: dict[str, Scene], table: Table) -> int:
     return 2 if counts["failed"] else int(counts["refused"] + counts["differs"] > 0)
 
 
-def draw(command: str, words: Iterable[str], folder: str, built: str, where: engine.Where, against: Optional[str] = None) -> int:
+def draw(command: str, words: Sequence[str], folder: str, built: str, jobs: int, against: Optional[str] = None) -> int:
     """Draws the scenes that the words name, and prints what came of them; the exit status."""
     if against is not None and not os.path.isdir(against):
         raise Trouble("%s: there is no such folder to compare with" % against)
@@ -185,6 +182,9 @@ def draw(command: str, words: Iterable[str], folder: str, built: str, where: eng
     os.makedirs(folder, exist_ok=True)
     with open(os.path.join(folder, "many.tsv"), "a") as lock:
         engine.locked(lock, folder)
-        table = Table(folder)
-        work(scenes, table, command, folder, built, where, against)
+        table, motor = Table(folder), engine.Engine(built, lock)
+        batch = Batch(command, folder, against, motor)
+        left = [scene for scene in scenes if not table.has(scene, batch.place(scene))]
+        for scene, came in motor.each(jobs, batch.drawn, left):
+            table.add(scene, *came)
     return report(scenes, table)

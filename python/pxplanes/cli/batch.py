@@ -1,16 +1,16 @@
-"""Draws many scenes, or a picture of any size, on all processors or on many machines, and goes on where it was broken off.
+"""Draws many scenes, or a picture of any size, on all processors, and goes on where it was broken off.
 
 WORD is a word of the program, as render or "tile 640 480", or compare, which renders and compares each picture with the one of the same
 name in the folder --against; SCENES are files, folders (all files NAME.scene in them), or - (a name a line on standard input). DIR gets
-NAME.ppm, or NAME.txt of a word that writes text. WORD poster draws one scene as a picture of W by H pixels into the file -o, as `pxplanes
-tile W H` writes it, also if W or H is over 4096. Status: 0 if all were drawn and none differs, otherwise 1; 2 for trouble."""
+NAME.ppm, or NAME.txt of a word that writes text. WORD poster enlarges one scene to W by H pixels, also over 4096, and writes its depths
+and faces into the file -o, as `pxplanes tile` does. Status: 0 if all were drawn and none differs, otherwise 1; 2 for trouble."""
 from __future__ import annotations
 
 import argparse
 import os
 
 from pxplanes import ends, program
-from pxplanes.batch import engine, groups, machines, poster, scenes_drawn
+from pxplanes.batch import groups, poster, scenes_drawn
 from pxplanes.cli import frame
 from pxplanes.errors import Trouble
 
@@ -28,10 +28,8 @@ def add_options(parser: argparse.ArgumentParser) -> None:
                         help="the side of a poster's pieces, in pixels")
     parser.add_argument("--jobs", metavar="N", type=frame.whole_number(1, 10 ** 6), default=os.cpu_count() or 1,
                         help="how many run side by side")
-    parser.add_argument("--sshloginfile", metavar="FILE", help="run on other machines: a login a line, as 4/user@host; : is this one")
-    parser.add_argument("--retries", metavar="N", type=frame.whole_number(1, 1000), default=machines.RETRIES,
-                        help="give up a machine that failed so often in a row; the others get its scenes")
-    parser.add_argument("--slurm", action="store_true", help="submit an array of --jobs jobs to Slurm, whose machines see DIR")
+    parser.add_argument("--extend", action="store_true", help="of a poster: the scene at its own size, as far as its planes go, as `pxplanes "
+                        "tile W H` draws it")
 
 
 def word_of_program(text: str) -> str:
@@ -47,15 +45,13 @@ def run(options: argparse.Namespace) -> int:
     groups.break_off_once()
     if (options.against is not None) != (options.word == "compare"):
         raise Trouble("--against goes with compare")
-    where = engine.Where(options.jobs, options.sshloginfile, options.retries, options.slurm)
     built: str = program.needed(None)
     if options.word == "poster":
-        return draw_poster(options, built, where)
-    status: int = scenes_drawn.draw(options.word, options.scenes, options.out, built, where, options.against)
-    return status
+        return draw_poster(options, built)
+    return scenes_drawn.draw(options.word, options.scenes, options.out, built, options.jobs, options.against)
 
 
-def draw_poster(options: argparse.Namespace, built: str, where: engine.Where) -> int:
+def draw_poster(options: argparse.Namespace, built: str) -> int:
     """Draws one scene as a picture of any size."""
     if len(options.scenes) != 3:
         raise Trouble("a poster needs SCENE W H")
@@ -63,7 +59,7 @@ def draw_poster(options: argparse.Namespace, built: str, where: engine.Where) ->
     if not all(side.isdigit() and 1 <= int(side) <= LARGEST_SIDE for side in (wide, high)):
         raise Trouble("W and H are numbers from 1 to %d, and not %s %s" % (LARGEST_SIDE, wide, high))
     try:
-        poster.drawn(ends.content(scene), int(wide), int(high), options.out, options.tile, built, where)
+        poster.drawn(ends.content(scene), int(wide), int(high), options.out, options.tile, built, options.jobs, not options.extend)
     except poster.Refused as refused:
         ends.say("pxplanes batch", refused)
         return frame.DIFFERS

@@ -10,18 +10,18 @@ import argparse
 import difflib
 import json
 import sys
-from typing import Optional
+from typing import Any, Optional
 
 from pxplanes import ends, errors, program
 from pxplanes.cli import frame
 from pxplanes.errors import Trouble
-from pxplanes.explain import explaining, kinds, list_cures, looks, readings, times
+from pxplanes.explain import explaining, kinds, list_cures, looks, readings
 from pxplanes.image import netpbm
 from pxplanes.machine import listings, micros, sessions
 from pxplanes.scene import scenes
 
 HELP = "say why a scene is refused or what it has; mend it; a pixel's ray; what it costs"
-# A picture that takes longer is drawn only with --draw.
+# A picture that may take longer is drawn only with --draw.
 PATIENCE_SECONDS = 10
 IS_A_SCENE = ["this is a scene: `pxplanes render` and its like draw it; `pxplanes list` writes the listing of its passes,",
               "and that is what `pxplanes play` takes"]
@@ -31,18 +31,16 @@ IS_A_LISTING = "this is a listing: `pxplanes play` carries it out, and no comman
 def add_options(parser: argparse.ArgumentParser) -> None:
     parser.add_argument("file", metavar="FILE", help="a scene or a listing; - is standard input")
     parser.add_argument("--at", nargs=2, metavar=("X", "Y"), type=frame.whole_number(0, 511), help="the ray of one pixel alone")
-    parser.add_argument("--draw", action="store_true", help="draw the picture for the answer, however long that takes; without it, "
-                        "if that takes up to %d seconds" % PATIENCE_SECONDS)
+    parser.add_argument("--draw", action="store_true", help="draw the picture for the answer, however long that takes")
     parser.add_argument("--fix", action="store_true", help="write the mended text, if it is sure what was meant; otherwise print "
                         "what it may be, write nothing, and end with 1")
     parser.add_argument("--in-place", action="store_true", help="with --fix: write the text into FILE, keep FILE.orig, and print the changes as a diff")
     parser.add_argument("--diff", action="store_true", help="with --fix: print the changes as a diff, and write nothing")
     parser.add_argument("--cost", action="store_true", help="print the operations and the clocks of a scene or a listing alone")
     parser.add_argument("--each", action="store_true", help="with --cost: a line for each operation too")
-    parser.add_argument("--time", action="store_true", help="about how long a command takes on this machine, measured with fewer pixels")
-    parser.add_argument("--command", metavar="WORDS", default="render", help="the command of --time, as 'tile 640 480'")
     parser.add_argument("--play", action="store_true", help="FILE was meant for `pxplanes play`, which takes no scene")
-    parser.add_argument("--json", action="store_true", help="print the answer as JSON")
+    parser.add_argument("--json", action="store_true", help="print the answer as JSON; of a scene with all of its faces")
+    parser.add_argument("--sarif", action="store_true", help="print the mistakes as SARIF, for editors and CI")
 
 
 def run(options: argparse.Namespace) -> int:
@@ -55,16 +53,28 @@ def run(options: argparse.Namespace) -> int:
         return fix(options.file, text, options)
     if options.cost:
         return cost(text, options)
-    if options.time:
-        return time_of(text, options)
     found = told(text, options)
-    if options.json:
-        places = [{key: value for key, value in place._asdict().items() if key != "shown"} for place in found.places]
-        print(json.dumps({"accepted": found.is_accepted, "file": name_of(options.file), "mistakes": places, "lines": found.lines},
-                         ensure_ascii=False))
+    if options.json or options.sarif:
+        print(json.dumps(as_sarif(found, options.file) if options.sarif else as_json(found, text, options.file), ensure_ascii=False))
     else:
         print("\n".join(found.lines))
     return frame.SUCCESS if found.is_accepted else frame.DIFFERS
+
+
+def as_json(found: explaining.Told, text: bytes, path: str) -> dict[str, Any]:
+    """The answer for programs; of an accepted scene with its size and its faces."""
+    places = [{key: value for key, value in place._asdict().items() if key != "shown"} for place in found.places]
+    out = {"accepted": found.is_accepted, "file": name_of(path), "mistakes": places, "lines": found.lines}
+    return {**out, **explaining.faces_of(scenes.read(text))} if found.is_accepted and is_scene(text) else out
+
+
+def as_sarif(found: explaining.Told, path: str) -> dict[str, Any]:
+    """The mistakes as SARIF 2.1.0."""
+    results = [{"ruleId": place.cause, "level": "error", "message": {"text": place.message}, "locations": [{"physicalLocation": {
+        "artifactLocation": {"uri": name_of(path)},
+        "region": {"startLine": max(place.line, 1), "startColumn": place.column, "endColumn": place.end_column}}}]} for place in found.places]
+    return {"version": "2.1.0", "$schema": "https://json.schemastore.org/sarif-2.1.0.json",
+            "runs": [{"tool": {"driver": {"name": "pxplanes explain"}}, "results": results}]}
 
 
 def told(text: bytes, options: argparse.Namespace) -> explaining.Told:
@@ -94,9 +104,7 @@ class Program(explaining.Judge):
 
     def faces(self, text: bytes, scene: scenes.Scene) -> tuple[Optional[list[int]], str]:
         if not self.draw and not program.is_quick(self.clocks, scene.width, scene.height, PATIENCE_SECONDS):
-            seconds, _ = times.estimate(self.built, [], text)
-            if seconds > PATIENCE_SECONDS:
-                return None, "not drawn: that takes about %s; --draw draws it" % program.spoken(seconds)
+            return None, "not drawn: %d clocks on %d by %d pixels take long; --draw draws it" % (self.clocks, scene.width, scene.height)
         status, output, note = program.answer(self.built, ["render"], text)
         if status != 0:
             raise Trouble("the program does not draw it: %s" % note)
@@ -228,14 +236,3 @@ def print_each(listing: bytes, lines: list[int]) -> None:
     print("%5s %9s %6s  %-*s  %s" % ("line", "at clock", "clocks", wide, "operation", "which does"))
     for line, begin, clocks, operation, does in rows:
         print("%5d %9d %6d  %-*s  %s" % (line, begin, clocks, wide, operation, does))
-
-
-def time_of(text: bytes, options: argparse.Namespace) -> int:
-    """Prints about how long a command takes."""
-    seconds, work = times.estimate(program.needed(None), options.command.split(), text)
-    if options.json:
-        print(json.dumps({"seconds": seconds, "operations": work.operations, "grid": work.grid, "parts": work.parts}))
-    else:
-        print("about %s: %d operations on %d by %d pixels%s" % (
-            program.spoken(seconds), work.operations, *work.grid, ", %d times" % work.parts if work.parts > 1 else ""))
-    return frame.SUCCESS

@@ -42,7 +42,7 @@ def add_options(parser: argparse.ArgumentParser) -> None:
     run.add_argument("--jobs", metavar="N", type=whole_number(1, 999), default=1, help="run N renderers at once")
     compare.add_shared_options(run)
     run.add_argument("-o", "--out", metavar="FILE", action="append", default=[],
-                     help="write the outcome as .json, .xml (JUnit), .svg (a badge) or .html (a page)")
+                     help="write the outcome as .json, .xml (JUnit) or .html (a page)")
     shrink = words.add_parser("shrink", help="find the smallest scene that differs", description=SHRINK, formatter_class=parser.formatter_class)
     shrink.add_argument("scene", metavar="SCENE", help="a scene on which RENDERER differs; - is standard input")
     shrink.add_argument("renderer", metavar="RENDERER", help="'./mine {scene} {out}'")

@@ -1,9 +1,8 @@
 """Steps through the broadcasts of a scene or a listing: the debugger's answers, the machine at one clock, or waveforms.
 
-With command lines after the line `end` of FILE (docs/DEBUGGER.md) it prints each line and its answer. Besides the debugger's
-own lines it knows `stop enable X Y`, `stop bit AT X Y`, `stop face X Y` and `stop OPERATION`, which run until that changes or
-begins, and `stop back ..`, which goes back to where it last did. Without command lines in FILE it takes lines from standard input,
-on a terminal with a prompt, and says in words where the machine is; `help` there lists them. --vcd and --chart show pixels over the clocks --from to --to."""
+With command lines after the line `end` of FILE (docs/DEBUGGER.md) it prints each line and its answer. Without command lines in FILE it
+takes lines from standard input, on a terminal with a prompt, and says in words where the machine is; `help` there lists them. --vcd and
+--chart show pixels over the clocks --from to --to."""
 from __future__ import annotations
 
 import argparse
@@ -12,7 +11,7 @@ import sys
 from pxplanes import ends, program
 from pxplanes.cli import frame
 from pxplanes.errors import Trouble
-from pxplanes.machine import debugger, listings, sessions, stops, waves
+from pxplanes.machine import debugger, listings, sessions, waves
 
 HELP = "step through the broadcasts: a session's answers, the state at a clock, waveforms"
 LAST_CLOCK = 10 ** 18
@@ -83,11 +82,9 @@ def complete_lines() -> None:
 def print_answers(text: bytes, commands: list[bytes]) -> None:
     """Prints each command line and its answer; the text after `#` is a comment."""
     bare = [command.partition(b"#")[0] for command in commands]
-    moves = stops.resolved(None, text, bare)
-    answers = listings.held(None, text, [move or b"" for move in moves])
-    for whole, command, move, lines in zip(commands, bare, moves, answers):
+    for whole, command, lines in zip(commands, bare, listings.held(None, text, bare)):
         is_comment = command != whole and not command.strip()
-        for line in [] if is_comment else [b"> " + command] + ([b"none"] if move is None else lines):
+        for line in [] if is_comment else [b"> " + command, *lines]:
             print(line.decode("latin-1").rstrip())
 
 

@@ -31,6 +31,7 @@ MEANINGS = {"colours": "the colours", "depths": "the depths, near is light", "fa
             "lights": "the lights that reach each pixel", "distances": "the distances, near is light"}
 # The program's command that makes what is shown of a scene.
 COMMANDS = {"colours": "colour", "depths": "render", "faces": "render", "lights": "shadow", "distances": "render"}
+SHADE = 0.3        # what is left of a colour that no light reaches
 REDIRECT = """<!DOCTYPE html>
 <meta charset="utf-8"><title>pxplanes</title><meta http-equiv="refresh" content="0; url=%s">
 """
@@ -52,6 +53,7 @@ def add_options(parser: argparse.ArgumentParser) -> None:
     parser.add_argument("-o", "--out", metavar="PNG", help="write a PNG picture; of two maps, one with -depth and one with -faces "
                         "in its name; with --show distances a PFM file beside it")
     parser.add_argument("--show", choices=WHATS, help="what to show (default: a scene's colours; both of two maps)")
+    parser.add_argument("--lights", metavar="LIGHTS", help="with a scene: its colours in the light of these light lines (docs/SCENES.md, \"Light lines\")")
     parser.add_argument("--scene", metavar="SCENE", help="the scene of the maps, whose camera gives the distances")
     parser.add_argument("--page", metavar="HTML", help="write a page that plays the broadcasts of FILE, for any browser")
     parser.add_argument("--first", metavar="N", type=frame.whole_number(0, 10 ** 11), default=0,
@@ -141,10 +143,9 @@ def of_scene(data: bytes, options: argparse.Namespace) -> Picture:
     if listings.is_listing(data):
         raise Trouble("a listing has no picture; --page shows what it does")
     what = options.show or "colours"
-    status, output, note = program.answer(program.needed(None), [COMMANDS[what]], data)
-    if status != 0:
-        raise Trouble("%s: %s; `pxplanes explain` says more" % (options.file, note or "the program ends with status %d" % status))
-    found = netpbm.images(output)
+    if options.lights:
+        return lit(data, options)
+    found = drawn(COMMANDS[what], data, options.file)
     size = found[0].width, found[0].height
     if what == "distances":
         return of_distances(found[0], data, options.file)
@@ -156,6 +157,26 @@ def of_scene(data: bytes, options: argparse.Namespace) -> Picture:
     if what == "faces":
         return Picture(*size, show.colours_of_faces(faces), what)
     return Picture(*size, show.greys_of_depths(found[0].numbers(), [face != 0 for face in faces]), what)
+
+
+def drawn(word: str, data: bytes, name: str) -> Any:
+    """The maps that the program writes of a scene."""
+    status, output, note = program.answer(program.needed(None), [word], data)
+    if status != 0:
+        raise Trouble("%s: %s; `pxplanes explain` says more" % (name, note or "the program ends with status %d" % status))
+    return netpbm.images(output)
+
+
+def lit(data: bytes, options: argparse.Namespace) -> Picture:
+    """The colours of a scene, each as bright as the share of the lights that reach its pixel; without any it keeps SHADE of it."""
+    lights = ends.content(options.lights)
+    count = sum(1 for line in lights.split(b"\n") if line.split(b"#")[0].split())
+    if options.show not in (None, "colours") or not count:
+        raise Trouble("--lights shows colours, and needs a light line")
+    colours, masks = drawn("colour", data, options.file)[0], drawn("shadow", data.rstrip(b"\n") + b"\n" + lights, options.lights)[0].numbers()
+    shares = [SHADE + (1 - SHADE) * bin(mask).count("1") / count for mask in masks]
+    return Picture(colours.width, colours.height, [tuple(round(part * share) for part in colour) for colour, share in zip(colours.colours(), shares)],
+                   "colours")
 
 
 def of_model(options: argparse.Namespace) -> Picture:

@@ -20,9 +20,11 @@ from pxplanes.compare.picture import (
     KINDS, RIGHT, Bools, Node, Picture, Plane, Reading, Reals, Scene, Solid, Whole, ends, picture)
 from pxplanes.compare.verdict import FACES, Sample
 
-PIXELS, SCENES = 20, 3     # so many pixels must differ, in so many scenes,
-ALONE, PAIRS = 200, 16     # or else so many, without an error, in which theirs has so many pairs of a depth and a face
+PIXELS, SCENES = 20, 3     # so many pixels must differ, in so many scenes, to name a cause;
+ALONE, PAIRS = 200, 16     # in fewer scenes so many, without an error, in which theirs has so many pairs of a depth and a
+                           # face, to call it possible
 ERRORS = 0.005             # the most errors: what is not explained and what is contradicted, as a share of what differs
+EXPLAINED = 0.9            # the least share of what differs that is explained; of the rest nothing is predicted
 MARGIN = 10                # every cause of another kind has so many times the errors, and PIXELS of them at least
 ASIDE = MARGIN * ERRORS    # a cause with more errors than this share is followed no further
 UNIT = 0.999               # less than a whole number
@@ -63,7 +65,12 @@ class Cause:
             shown = picture(scene, replace(self.how, real=real), x, y)
         if self.paint and sample.labels is not None:
             sample = replace(sample, labels=self.paint(sample.labels))
-        return sample.fits(*self.predicted(sample, scene, shown, x, y)), known
+        depths, faces, off = self.predicted(sample, scene, shown, x, y)
+        fits = sample.fits(depths, faces, off)
+        if self.rounding and sample.whole:
+            # A prediction that is as near to ours as rounding may take it is no evidence.
+            known &= (np.abs(depths - sample.ours.depths) > 2 * off) | ~fits & ~sample.right
+        return fits, known
 
     def predicted(self, sample: Sample, scene: Scene, shown: Picture, x: Whole, y: Whole) -> tuple[Reals, Whole, Reals]:
         """The depths and faces that would be written, and how far the depths may be off."""
@@ -80,7 +87,8 @@ class Cause:
 
 @dataclass(frozen=True)
 class Found:
-    """The causes that were found, best first, or none: what they were tested with, and how much the best explains."""
+    """The causes that were found, best first, or none: what they were tested with, and how much the best explains. In
+    fewer than SCENES scenes another mistake may show the same, so that a cause is no more than possible."""
 
     causes: list[str]
     differ: int
@@ -93,9 +101,15 @@ class Found:
         """The cause with its evidence; or that none was found, and which ones the maps cannot tell apart."""
         if self.equals:
             return ["no cause found: these explain all %d pixels equally well: %s" % (self.differ, "; ".join(self.equals))]
-        return ["cause: %s; it explains %d of %d pixels that differ in %d scene%s, with %d error%s" % (
-            " or ".join(self.causes), self.explained, self.differ, self.scenes, "s"[self.scenes == 1:], self.errors,
-            "s"[self.errors == 1:])] if self.causes else ["no cause found"]
+        if not self.causes:
+            return ["no cause found"]
+        return ["%s: %s; it explains %d of %d pixels that differ in %d scene%s, with %d error%s" % (
+            "cause" if self.is_sure else "possible cause", " or ".join(self.causes), self.explained, self.differ, self.scenes,
+            "s"[self.scenes == 1:], self.errors, "s"[self.errors == 1:])]
+
+    @property
+    def is_sure(self) -> bool:
+        return bool(self.causes) and self.scenes >= SCENES
 
 
 def judged(cause: Cause, samples: Sequence[Sample], most: float) -> tuple[float, float]:
@@ -104,7 +118,7 @@ def judged(cause: Cause, samples: Sequence[Sample], most: float) -> tuple[float,
     explained = errors = 0.0
     for sample in samples:
         fits, known = cause.fits(sample)
-        explained += int((fits & ~sample.right).sum())
+        explained += int((known & fits & ~sample.right).sum())
         errors += int((known & ~fits & ~sample.right).sum()) + sample.weight * int((known & ~fits & sample.right).sum())
         if errors > most:
             break
@@ -119,7 +133,9 @@ def find(samples: Sequence[Sample]) -> Found:
         return Found([], 0, 0, 0, 0)
     order = sorted(samples, key=lambda each: len(each.scene.solids) * each.x.size)
     rows = [(*judged(cause, order, ASIDE * total), cause) for cause in [*fixed(), *fitted(samples)]]
-    rows.sort(key=lambda row: row[1])
+    rows = sorted((row for row in rows if row[0] >= EXPLAINED * total), key=lambda row: row[1])
+    if not rows:
+        return Found([], total, where, 0, 0)
     explained, errors, first = rows[0]
     close = min(max(MARGIN * errors, PIXELS), ASIDE * total)
     alike = [cause for _, wrong, cause in rows if wrong < close] or [first]

@@ -3,7 +3,10 @@
 The expression is a model (.csg, .scad or a mesh) or a scene; the result is a mesh in the same axes; of a scene in those of
 `pxplanes convert`. The program draws the expression from several sides, whole and through cuts across the axis; rays pass through
 the mesh at each pixel. What is smaller than a pixel of every picture is not seen."""
+from __future__ import annotations
+
 import os
+from typing import Any, Optional
 
 from pxplanes import ends, program
 from pxplanes.errors import Trouble
@@ -14,17 +17,17 @@ MOST_SIDES, MOST_CUTS, COUNTS = 100, 100, (ALIKE, ROUNDING, MISSING, TOO_MUCH)
 LEAST_SIDE, MOST_SIDE = 8, 512
 
 
-def kind_of(path):
+def kind_of(path: str) -> str:
     return os.path.splitext(path)[1][1:].lower()
 
 
-def mesh_of(path):
+def mesh_of(path: str) -> Any:
     if kind_of(path) not in mesh_files.READERS:
         raise Trouble("%s is no mesh: %s are read" % (path, mesh_files.ENDINGS))
     return verifying.Mesh(*mesh_files.read(kind_of(path), ends.content(path), os.path.dirname(path) or "."))
 
 
-def sides_of(path, mesh, count, size):
+def sides_of(path: str, mesh: Any, count: int, size: tuple[int, int]) -> Any:
     """The sides of an expression: of a scene its picture, of a model so many."""
     if kind_of(path) == "scene":
         return verifying.of_scene(ends.content(path), mesh)
@@ -36,11 +39,11 @@ def sides_of(path, mesh, count, size):
     return verifying.of_tree(tree, mesh, count, size)
 
 
-def row_of(found, counts):
+def row_of(found: Any, counts: dict[str, int]) -> str:
     return "%-10s %5s  %s" % (found.side.name, found.cut or "-", " ".join("%8d" % counts[word] for word in COUNTS))
 
 
-def told(found):
+def told(found: Any) -> str:
     """The first pixel of a picture that is wrong."""
     at = next(at for at, word in enumerate(found.words) if word in (MISSING, TOO_MUCH))
     width, far = found.side.scene.width, found.side.scene.far()
@@ -49,12 +52,13 @@ def told(found):
         found.words[at], at % width, at // width, found.side.name, " cut at %d" % found.cut if found.cut else "", ours, theirs)
 
 
-def is_mesh(path):
+def is_mesh(path: str) -> bool:
     """Whether a file is a mesh, by its name."""
     return kind_of(path) in mesh_files.READERS
 
 
-def report(expression, result, sides=verifying.SIDES, cuts=verifying.CUTS, size=verifying.SIZE, out=None):
+def report(expression: str, result: str, sides: int = verifying.SIDES, cuts: int = verifying.CUTS, size: tuple[int, int] = verifying.SIZE,
+           out: Optional[str] = None) -> int:
     """Prints a row for each picture and the verdict: right, within rounding, or wrong with the first such pixel; the exit status.
 
     A model is drawn from so many sides, 1 to 100, and so many cuts from each, 0 to 100, in pictures of `size` pixels, 8 to 512 a

@@ -88,7 +88,7 @@ def why(scene: Scene, theirs: Maps, found: Comparison, allowed: Allowed) -> list
     if sample.right.all():
         return []
     cause = causes.find([sample])
-    return cause.said() if cause.causes else cause.said() + ["  " + line for line in causes.facts([sample])]
+    return cause.said() + ["  " + line for line in causes.facts([sample])]
 
 
 def shows_colours(theirs: Numbers, faces: Optional[Numbers], colours: Sequence[tuple[int, int, int]]) -> Optional[str]:

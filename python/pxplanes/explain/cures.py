@@ -1,7 +1,10 @@
 """What to write in place of a scene's first bad line, as people come to write it: what `explain`
 adds to a refusal. `of` gives a cure, or None where it knows none that is better than the reader's."""
+from __future__ import annotations
+
 import re
 import unicodedata
+from typing import Optional
 
 from pxplanes.scene import scenes
 
@@ -17,23 +20,20 @@ FLOAT = re.compile(r"[-+]?(?:\d+\.?\d*|\.\d+)(?:[eE][-+]?\d+)?\Z")
 MOST_FRACTION = 8
 
 
-def of(text, refusal):
+def of(text: bytes, refusal: scenes.Refusal) -> Optional[str]:
     """A cure for the first bad line of a text."""
-    if refusal.note.startswith("limit line 0"):
+    if refusal.note.startswith("limit line 0") or refusal.span is None:
         return None
-    found = of_text(text)
-    if found or refusal.span is None:
-        return found or of_end(text, refusal)
     number = int(refusal.note.split(":")[0].split(" ")[-1])
     line = scenes.cut_lines(text)[number - 1]
     word = line[refusal.span[0]:refusal.span[1]]
     cause = refusal.note.split(": ")[1].split(" ")[0]
-    found = of_bytes(word) or of_comment(line, word, cause)
+    found = "a NUL byte stands here: leave it out" if b"\0" in word else of_comment(line, word, cause)
     maker = MAKERS.get(cause)
     return found or (maker and maker(text, number, readable(line), readable(word)))
 
 
-def readable(word):
+def readable(word: bytes) -> str:
     """The text of some bytes, as UTF-8 where they are."""
     try:
         return word.decode("utf-8")
@@ -41,34 +41,7 @@ def readable(word):
         return word.decode("latin-1")
 
 
-def of_text(text):
-    """What is wrong with a text as a whole."""
-    if text[:2] in (b"\xff\xfe", b"\xfe\xff"):
-        return "the text is UTF-16: save it as ASCII, or `iconv -f UTF-16 -t ASCII SCENE > NEW`"
-    if text[:3] == b"\xef\xbb\xbf":
-        return "the text begins with a byte-order mark: save it as UTF-8 without one, or as ASCII"
-    if b"\n" not in text and b"\r" in text:
-        return "its lines end in carriage returns alone: `tr '\\r' '\\n' < SCENE > NEW` makes line feeds of them"
-    if not text.strip():
-        return "the text is empty: a scene begins with pxscene 1"
-    return None
-
-
-def of_end(text, refusal):
-    if refusal.note.endswith("missing-end") and refusal.due == "end":
-        return "add a last line: end"
-    return None
-
-
-def of_bytes(word):
-    if b"\xc2\xa0" in word or b"\xa0" == word[-1:] or b"\xa0" == word[:1]:
-        return "a no-break space stands here: write a plain space"
-    if b"\0" in word:
-        return "a NUL byte stands here: leave it out"
-    return None
-
-
-def of_comment(line, word, cause):
+def of_comment(line: bytes, word: bytes, cause: str) -> Optional[str]:
     for mark in (b"//", b"/*", b";", b"--", b"%"):
         if word.startswith(mark) and cause in ("unexpected", "not-header", "after-end"):
             said = readable(line[line.index(mark) + len(mark):].replace(b"*/", b"").strip())
@@ -76,17 +49,17 @@ def of_comment(line, word, cause):
     return None
 
 
-def of_header(text, number, line, word):
+def of_header(text: bytes, number: int, line: str, word: str) -> Optional[str]:
     version = re.match(r"\s*pxscene\s+([123])\.0*\s*(#|\Z)", line)
     return "write pxscene %s" % version.group(1) if version else None
 
 
-def plain(number):
+def plain(number: float) -> str:
     """A number as it is written, without needless digits."""
     return "%d" % number if number == int(number) else ("%.10f" % number).rstrip("0")
 
 
-def of_number(text, number, line, word):
+def of_number(text: bytes, number: int, line: str, word: str) -> Optional[str]:
     """A cure of a word that is no whole number."""
     words = line.split("#")[0].split()
     stripped = [each.rstrip(",;").strip("[](){}") for each in words]
@@ -108,7 +81,7 @@ def of_number(text, number, line, word):
     return "numbers are whole: write %d" % round(value)
 
 
-def of_plane(text, words):
+def of_plane(text: bytes, words: list[str]) -> Optional[str]:
     """A cure of a plane with parts: fraction bits, or for a side a multiple of it."""
     if not all(FLOAT.match(each) for each in words[1:]):
         return None
@@ -125,7 +98,7 @@ def of_plane(text, words):
                                 "halves" if times == 2 else "%dths" % times, whole))
 
 
-def of_count(text, number, line, word):
+def of_count(text: bytes, number: int, line: str, word: str) -> Optional[str]:
     words = line.split("#")[0].split()
     size = re.match(r"(\d+)\s*[xX*,]\s*(\d+)\Z", "".join(words[1:]))
     if words[0] == "picture" and size:
@@ -141,7 +114,7 @@ def of_count(text, number, line, word):
     return None
 
 
-def of_word(text, number, line, word):
+def of_word(text: bytes, number: int, line: str, word: str) -> Optional[str]:
     """A cure of a line that is not due."""
     shows = [own for own in lines_of(text) if own[1][:1] == ["show"]]
     if word == "show" and len(shows) > 1:
@@ -159,7 +132,7 @@ def of_word(text, number, line, word):
     return None
 
 
-def lines_of(text):
+def lines_of(text: bytes) -> list[tuple[int, list[str], str]]:
     """Number, words and text behind the first word of each line that has words."""
     out = []
     for number, line in enumerate(scenes.cut_lines(text), 1):
@@ -169,11 +142,11 @@ def lines_of(text):
     return out
 
 
-def names_in(text):
+def names_in(text: bytes) -> list[str]:
     return [words[1] for _, words, _ in lines_of(text) if words[0] == "solid" and len(words) > 1]
 
 
-def of_name(text, number, line, word):
+def of_name(text: bytes, number: int, line: str, word: str) -> Optional[str]:
     """A name of letters, digits and _ that is near to this one."""
     plain_one = unicodedata.normalize("NFKD", word).encode("ascii", "ignore").decode()
     name = re.sub(r"[^A-Za-z0-9_]", "_", plain_one)[:32]
@@ -187,7 +160,7 @@ def of_name(text, number, line, word):
     return "%s: write %s, in the show line too" % (why, name)
 
 
-def of_expression(text, number, line, word):
+def of_expression(text: bytes, number: int, line: str, word: str) -> Optional[str]:
     known = set(names_in(text))
     if "//" in line or "/*" in line:
         mark = "//" if "//" in line else "/*"
@@ -202,7 +175,7 @@ def of_expression(text, number, line, word):
         whole, ", and pxscene 2 in the first line" if older else "")
 
 
-def bracketed(said, known):
+def bracketed(said: str, known: set[str]) -> Optional[str]:
     """An expression with the names of solids as a scene has it, where it can be understood."""
     tokens = []
     for token in TOKEN.findall(said.split("#")[0]):
@@ -215,11 +188,12 @@ def bracketed(said, known):
     return joined(tokens)
 
 
-def joined(tokens):
+def joined(tokens: list[str]) -> Optional[str]:
     """The tokens as an expression, its open brackets closed; * binds before + and -."""
-    values, signs = [], []
+    values: list[str] = []
+    signs: list[str] = []
 
-    def join():
+    def join() -> None:
         sign, right, left = signs.pop(), values.pop(), values.pop()
         values.append("(%s %s %s)" % (left, sign, right))
 
@@ -256,7 +230,7 @@ def joined(tokens):
     return values[0] if len(values) == 1 else None
 
 
-def of_picture(text, number, line, word):
+def of_picture(text: bytes, number: int, line: str, word: str) -> Optional[str]:
     """A wide picture as tiles of the greatest size."""
     sizes = [int(each) for each in line.split("#")[0].split()[1:3] if each.isdigit()]
     if len(sizes) != 2 or min(sizes) < 1 or max(sizes) > 4096:
@@ -265,11 +239,11 @@ def of_picture(text, number, line, word):
         min(sizes[0], 512), min(sizes[1], 512), sizes[0], sizes[1])
 
 
-def of_colour(text, number, line, word):
+def of_colour(text: bytes, number: int, line: str, word: str) -> Optional[str]:
     return "write %d" % max(0, min(255, scenes.number_of(word.encode())))
 
 
-def of_depth(text, number, line, word):
+def of_depth(text: bytes, number: int, line: str, word: str) -> Optional[str]:
     return "write depth 24: its depths go to 16777214" if scenes.number_of(word.encode()) > 24 else None
 
 

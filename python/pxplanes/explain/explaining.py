@@ -158,6 +158,17 @@ def accepted(scene: Any, hints: list[tuple[str, str]], notes: list[str], found: 
     return out
 
 
+def faces_of(scene: Any) -> dict[str, Any]:
+    """The size of a scene, and of each face number what it is: docs/COMPARE.md, "Faces and normals"."""
+    rows = []
+    for number, solid, kind, which, colour, line in scene.faces():
+        a, b, c = (0, 0, 0) if which is None else (solid.fronts if kind == "front" else solid.backs)[which - 1].plane
+        rows.append({"face": number, "solid": scene.solids.index(solid) + 1, "name": solid.name, "kind": kind, "which": which, "line": line,
+                     "colour": colour, "plane": [a, b, c], "normal": [a, b, -(1 << scene.fraction_bits)]})
+    return {"picture": [scene.width, scene.height], "depth_bits": scene.depth_bits, "fraction_bits": scene.fraction_bits, "far": scene.far(),
+            "faces": rows}
+
+
 def own_reading(text: bytes) -> tuple[Any, Optional[scenes.Refusal]]:
     """The scene of a text, or its refusal, by the reading of scenes.py."""
     try:

@@ -1,6 +1,9 @@
 """What was due in the first bad line of a listing, or what its limit is: what `explain` adds to a refusal. It is no tool itself.
 The forms and limits are those of docs/LISTINGS.md."""
+from __future__ import annotations
+
 import difflib
+from typing import Any
 
 from pxplanes.machine import sessions
 
@@ -15,20 +18,20 @@ LIMITS = {"grid": "NX and NY are 1 to 9: the grid has 2^NX columns and 2^NY rows
           "overlap": "the fields of a copy share no bit", "text": "a text has at most 1048576 bytes"}
 
 
-def words_of(line):
+def words_of(line: bytes) -> list[str]:
     return [word.decode("latin-1") for word in sessions.words_of(line.split(b"#")[0])]
 
 
-def before(text, number):
+def before(text: bytes, number: int) -> list[list[str]]:
     """The lines with words before a line."""
     return [words for words in map(words_of, text.split(b"\n")[:number - 1]) if words]
 
 
-def form_of(word):
+def form_of(word: str) -> str:
     return " ".join([word, FORMS[word]]).strip()
 
 
-def due(text, refusal):
+def due(text: bytes, refusal: Any) -> list[str]:
     """What was due, by the cause and by how far the text had come."""
     if refusal.cause in DUE:
         return [DUE[refusal.cause]]
@@ -44,7 +47,7 @@ def due(text, refusal):
     return found + (["write %s" % (form_of(close[0]) if close[0] in FORMS else "end")] if close else [])
 
 
-def of(text, refusal):
+def of(text: bytes, refusal: Any) -> list[str]:
     """The lines behind a refusal: what was due, or the limit."""
     if hasattr(refusal, "kind"):
         return ["limit: " + LIMITS[refusal.kind]] if refusal.kind in LIMITS else []

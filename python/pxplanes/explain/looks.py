@@ -3,8 +3,15 @@ wrong with it. What `explain` tells; docs/PICTURE.md has the meaning that it tel
 
 A hint is a pair of a heading, LIKELY or LOOK, and a sentence. LIKELY is said where hardly anybody means what stands there,
 LOOK where a good scene may have it too."""
-from pxplanes.scene import rays
-from pxplanes.scene import texts
+from __future__ import annotations
+
+from typing import Any, Callable, Iterable, Iterator, Optional
+
+from pxplanes.scene import rays, texts
+from pxplanes.scene.scenes import Face, Plane, Scene, Solid
+
+Pair = tuple[int, int]
+Hint = tuple[str, str]
 
 # So many planes at pixels are tried in all, for what is taken away in vain.
 BUDGET = 3000000
@@ -19,20 +26,23 @@ WAYS_OUT = (("to the left", "columns", 0, (-1, 0)), ("to the right", "columns", 
 class Look:
     """Where a solid has cells: its first and last column, row and depth; or why it has none, under which heading."""
 
-    def __init__(self):
-        self.columns = self.rows = self.depths = self.why = self.heading = None
+    def __init__(self) -> None:
+        self.columns: Optional[Pair] = None
+        self.rows: Optional[Pair] = None
+        self.depths: Optional[Pair] = None
+        self.why, self.heading = "", LIKELY
 
-    def add(self, x, y, first, last):
+    def add(self, x: int, y: int, first: int, last: int) -> None:
         self.columns = widened(self.columns, x, x)
         self.rows = widened(self.rows, y, y)
         self.depths = widened(self.depths, first, last)
 
 
-def widened(known, low, high):
+def widened(known: Optional[Pair], low: int, high: int) -> Pair:
     return (low, high) if known is None else (min(known[0], low), max(known[1], high))
 
 
-def span_of(plane, y, first, last):
+def span_of(plane: Plane, y: int, first: int, last: int) -> Pair:
     """The x from first to last where A*x + B*y + C is not negative."""
     a, rest = plane[0], plane[1] * y + plane[2]
     if a > 0:
@@ -42,7 +52,7 @@ def span_of(plane, y, first, last):
     return (first, last) if rest >= 0 else (1, 0)
 
 
-def kept(scene, planes):
+def kept(scene: Scene, planes: list[Plane]) -> Iterator[Plane]:
     """Row, first and last column of each row in which some pixel keeps all of these planes."""
     for y in range(scene.height):
         first, last = 0, scene.width - 1
@@ -54,18 +64,18 @@ def kept(scene, planes):
             yield y, first, last
 
 
-def forms(scene, solid):
+def forms(scene: Scene, solid: Solid) -> tuple[list[Plane], list[Plane], list[Plane]]:
     """The planes of the fronts with the near face, of the backs with the far limit, of the sides."""
     return ([(0, 0, 0)] + [face.plane for face in solid.fronts],
             [(0, 0, scene.far() << scene.fraction_bits)] + [face.plane for face in solid.backs],
             [side.plane for side in solid.sides])
 
 
-def gaps(fronts, backs):
+def gaps(fronts: list[Plane], backs: list[Plane]) -> list[Plane]:
     return [(b[0] - f[0], b[1] - f[1], b[2] - f[2] - 1) for f in fronts for b in backs]
 
 
-def all_looks(scene):
+def all_looks(scene: Scene) -> list[Look]:
     """The look of each solid; where counting cells takes too long, what it is stays open."""
     if not scene.fraction_bits:
         return [look(scene, solid) for solid in scene.solids]
@@ -77,7 +87,7 @@ def all_looks(scene):
     return [look(scene, solid) if cost <= 2 * BUDGET else Look() for solid in scene.solids]
 
 
-def look(scene, solid):
+def look(scene: Scene, solid: Solid) -> Look:
     """Where a solid has cells in the picture. Without fraction bits a row needs its ends alone."""
     found, (fronts, backs, sides) = Look(), forms(scene, solid)
     whole = (lambda x, y: max(rays.value(plane, x, y) for plane in fronts),
@@ -98,7 +108,7 @@ def look(scene, solid):
     return found
 
 
-def least(convex, first, last):
+def least(convex: Callable[[int], int], first: int, last: int) -> int:
     """The least value of a convex function of whole numbers."""
     while first < last:
         middle = (first + last) // 2
@@ -109,11 +119,11 @@ def least(convex, first, last):
     return convex(first)
 
 
-def plane_text(kind, plane):
+def plane_text(kind: str, plane: Plane) -> str:
     return "%s %d %d %d" % ((kind,) + plane)
 
 
-def why_none(scene, solid):
+def why_none(scene: Scene, solid: Solid) -> Hint:
     """A hint: why a solid has no cell at any pixel of the picture."""
     fronts, backs, sides = forms(scene, solid)
     rows = list(kept(scene, sides))
@@ -144,12 +154,12 @@ def why_none(scene, solid):
     return LOOK, said
 
 
-def parts(value, scene):
+def parts(value: int, scene: Scene) -> str:
     whole = 1 << scene.fraction_bits
     return "%d" % (value // whole) if value % whole == 0 else "%g" % (value / whole)
 
 
-def why_no_pixel(scene, solid):
+def why_no_pixel(scene: Scene, solid: Solid) -> Hint:
     """A hint: which sides leave no pixel of the picture. Two that look away from each other are likely turned."""
     alone = next((side for side in solid.sides if not any(kept(scene, [side.plane]))), None)
     if alone:
@@ -157,7 +167,8 @@ def why_no_pixel(scene, solid):
             alone.line, plane_text("side", alone.plane))
     heading = LIKELY if any(look_away(scene, one, other) for one in solid.sides for other in solid.sides) else LOOK
     for side in solid.sides:
-        turned = tuple(-part for part in side.plane)
+        a, b, c = side.plane
+        turned = -a, -b, -c
         others = [other.plane for other in solid.sides if other is not side]
         if any(kept(scene, others + [turned])):
             return heading, "its sides leave no pixel; that in line %d may be the wrong way round: %s leaves some" % (
@@ -165,15 +176,15 @@ def why_no_pixel(scene, solid):
     return heading, "its sides leave no pixel"
 
 
-def look_away(scene, one, other):
+def look_away(scene: Scene, one: Face, other: Face) -> bool:
     """Whether two sides, each of which keeps some pixels, are parallel and have none together."""
     (a, b, _), (p, q, _) = one.plane, other.plane
     return a * q == b * p and not any(kept(scene, [one.plane, other.plane]))
 
 
-def ways(scene):
+def ways(scene: Scene) -> set[tuple[int, bool]]:
     """Of each solid of the expression whether it is added, taken away, or both."""
-    def join(sign, left, right):
+    def join(sign: str, left: Any, right: Any) -> Any:
         turned = {(solid, not added) for solid, added in right}
         if sign == "^":
             return left | {(solid, not added) for solid, added in left} | right | turned
@@ -182,7 +193,7 @@ def ways(scene):
     return rays.folded(scene.show, lambda at: {(at, True)}, join)
 
 
-def vain_sides(scene, solid):
+def vain_sides(scene: Scene, solid: Solid) -> list[str]:
     """Sides that keep all that another side keeps which looks the same way."""
     out = []
     for i, side in enumerate(solid.sides):
@@ -199,7 +210,7 @@ def vain_sides(scene, solid):
     return out
 
 
-def is_vain(scene, index, rows):
+def is_vain(scene: Scene, index: int, rows: Iterable[Plane]) -> bool:
     """Whether the depths at the pixels of some rows are the same without a solid."""
     for y, first, last in rows:
         for x in range(first, last + 1):
@@ -209,16 +220,16 @@ def is_vain(scene, index, rows):
     return True
 
 
-def box_of(looked):
+def box_of(looked: Look) -> Any:
     """The columns, rows and depths of a solid, each the first and the last; None where it has no cell, or that is open."""
     return looked.columns and (looked.columns, looked.rows, looked.depths)
 
 
-def apart(scene, looks):
+def apart(scene: Scene, looks: list[Look]) -> set[int]:
     """The solids that are taken away from what lies apart from them: whole columns, rows or depths are between."""
-    found = set()
+    found: set[int] = set()
 
-    def join(sign, left, right):
+    def join(sign: str, left: Any, right: Any) -> Any:
         (box, _), (other, taken) = left, right
         if sign == "-" and box:
             found.update(at for at in taken if box_of(looks[at]) and any(
@@ -231,7 +242,7 @@ def apart(scene, looks):
     return found
 
 
-def taken_in_vain(scene, looks):
+def taken_in_vain(scene: Scene, looks: list[Look]) -> Iterator[int]:
     """The solids that are taken away, and change no depth; of those that do, as many are tried as the budget has room for."""
     used, left = ways(scene), BUDGET
     planes = sum(3 + len(each.fronts) + len(each.backs) for each in scene.solids)
@@ -247,7 +258,7 @@ def taken_in_vain(scene, looks):
                 yield index
 
 
-def before_drawing(scene, looks):
+def before_drawing(scene: Scene, looks: list[Look]) -> list[Hint]:
     """The hints by the solids alone."""
     out = [(looked.heading, "solid %s has no cell in the picture: %s" % (solid.name, looked.why))
            for solid, looked in zip(scene.solids, looks) if looked.why]
@@ -261,7 +272,7 @@ def before_drawing(scene, looks):
     return out + unbounded(scene, looks)
 
 
-def unbounded(scene, looks):
+def unbounded(scene: Scene, looks: list[Look]) -> list[Hint]:
     """A hint for each solid that is added, and goes on where the picture ends with no plane of its own to end it."""
     used, out = ways(scene), []
     for index, (solid, looked) in enumerate(zip(scene.solids, looks)):
@@ -272,7 +283,7 @@ def unbounded(scene, looks):
     return out
 
 
-def open_ways(scene, solid, looked):
+def open_ways(scene: Scene, solid: Solid, looked: Look) -> list[str]:
     """The ways out of the picture by which a solid goes on without end."""
     fronts, backs = ([face.plane for face in faces] for faces in (solid.fronts, solid.backs))
     held = {plane[:2] for plane in [side.plane for side in solid.sides] + gaps(fronts, backs)} - {(0, 0)}
@@ -284,18 +295,18 @@ def open_ways(scene, solid, looked):
     return out + ["to the eye"] * (not fronts) + ["behind"] * (not backs)
 
 
-def is_open(held, way):
+def is_open(held: set[Pair], way: Pair) -> bool:
     """Whether some direction with a part that way leads out of no half-plane with these A and B. It need only be looked for along
     their edges, and straight that way."""
     edges = {way} | {each for a, b in held for each in ((b, -a), (-b, a))}
     return any(x * way[0] + y * way[1] > 0 and all(a * x + b * y >= 0 for a, b in held) for x, y in edges)
 
 
-def plural(count, word):
+def plural(count: int, word: str) -> str:
     return "%d %s%s" % (count, word, "" if count == 1 else "s")
 
 
-def from_picture(scene, faces, looks):
+def from_picture(scene: Scene, faces: Any, looks: list[Look]) -> list[Hint]:
     """The hints by a picture's face numbers."""
     if not any(faces):
         return [(LIKELY, "the picture is blank: no pixel shows a face")]
@@ -316,12 +327,12 @@ def from_picture(scene, faces, looks):
     return [(LOOK, each) for each in out]
 
 
-def sorted_hints(hints):
+def sorted_hints(hints: list[Hint]) -> list[Hint]:
     """First what is likely wrong."""
     return sorted(hints, key=lambda hint: hint[0] != LIKELY)
 
 
-def of_fraction(scene, looks):
+def of_fraction(scene: Scene, looks: list[Look]) -> list[str]:
     """A scene whose planes seem to count cells where they count parts of them."""
     ends = [looked.depths[1] for solid, looked in zip(scene.solids, looks) if looked.depths and solid.backs]
     if not scene.fraction_bits or not ends or max(ends) << scene.fraction_bits > scene.far():
@@ -331,11 +342,11 @@ def of_fraction(scene, looks):
                 max(ends) + 1, scene.far(), scene.fraction_bits, 1 << scene.fraction_bits, 1 << scene.fraction_bits)]
 
 
-def without_common(scene, looks):
+def without_common(scene: Scene, looks: list[Look]) -> list[str]:
     """Pairs of solids that are intersected, and have no common cell by their boxes."""
     out = []
 
-    def join(sign, left, right):
+    def join(sign: str, left: Any, right: Any) -> Any:
         if sign == "*" and isinstance(left, int) and isinstance(right, int):
             one, other = looks[left], looks[right]
             if one.columns and other.columns:
@@ -352,7 +363,7 @@ def without_common(scene, looks):
     return out
 
 
-def table(scene, looks, faces):
+def table(scene: Scene, looks: list[Look], faces: Any) -> list[str]:
     """A line for each solid: line, columns, rows, depths, and pixels that show it, where they are known."""
     name = max([5] + [len(solid.name) for solid in scene.solids])
     out = ["%-*s  %5s  %-9s  %-9s  %-19s  %6s" % (name, "solid", "line", "columns", "rows", "depths", "pixels")]
@@ -361,12 +372,13 @@ def table(scene, looks, faces):
         shown = "" if faces is None else "%d" % sum(face in numbers for face in faces)
         ranges = ["none" if looked.why else "open"] * 3
         if looked.columns:
-            ranges = ["%d..%d" % pair for pair in (looked.columns, looked.rows, looked.depths)]
-        out.append("%-*s  %5d  %-9s  %-9s  %-19s  %6s" % ((name, solid.name, solid.line) + tuple(ranges) + (shown,)))
+            ranges = ["%d..%d" % pair for pair in (looked.columns, looked.rows, looked.depths) if pair]
+        columns, rows, depths = ranges
+        out.append("%-*s  %5d  %-9s  %-9s  %-19s  %6s" % (name, solid.name, solid.line, columns, rows, depths, shown))
     return [line.rstrip() for line in out]
 
 
-def named(end, scene):
+def named(end: rays.End, scene: Scene) -> str:
     which = "" if end.which is None else " %d" % end.which
     face = ", face %d" % end.number if end.number else ""
     value = ", value %d" % end.value if scene.fraction_bits else ""
@@ -374,7 +386,7 @@ def named(end, scene):
     return "%s%s%s%s%s" % (end.kind, which, face, value, line)
 
 
-def ray(scene, x, y):
+def ray(scene: Scene, x: int, y: int) -> list[str]:
     """The ray of a pixel: what is seen, and where it is inside each solid, by which faces."""
     found = rays.crossings(scene, x, y)
     depth, face = rays.pixel_of(scene, found)
@@ -392,7 +404,7 @@ def ray(scene, x, y):
     return out + ["  %s: %s" % (texts.expression(scene), "depths " + cells if cells else "none")]
 
 
-def why_not(scene, solid, x, y):
+def why_not(scene: Scene, solid: Solid, x: int, y: int) -> str:
     side = rays.left_out(solid, x, y)
     if side:
         return "the side in line %d is %d here" % (side.line, rays.value(side.plane, x, y))

@@ -20,7 +20,7 @@ DASHES = re.compile("[\u2010-\u2015\u2212\ufe63\uff0d]")
 NOTHING = re.compile("[\u200b-\u200d\u2060\ufeff]")
 # After these causes the rest of the text can be read on.
 OWN_LINE = ("not-number", "word-count", "bad-name", "second-name", "bad-expression", "unknown-name")
-DUE: dict[int, list[bytes]] = dict(scenes.DUE)  # type: ignore[arg-type]
+DUE = scenes.DUE
 Lines = list[bytes]
 
 
@@ -231,7 +231,7 @@ class Search:
         if self.cause != "unknown-name":
             return
         line = self.lines[self.at]
-        word = line[slice(*self.refusal.span)].decode()
+        word = line[slice(*(self.refusal.span or (0, 0)))].decode()
         for name in map(bytes.decode, self.before.names):
             if is_near(word, name) and distance(word, name) == keys:
                 body, comment = cut(line)

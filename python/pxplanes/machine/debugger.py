@@ -18,6 +18,7 @@ HELP = """Moves:
   macro [N]              to the end of this operation, or of N of them
   run, until N           to the end, or to clock N
   until WHAT [X Y] [rises]   until that changes, or rises: enable, carry, latch, bit AT, depth, face, of the watched pixel or of X Y
+  until OPERATION        until such an operation begins, as keep-less
 Looks:
   where                  the pass, the operation, the clock, what it is for, and the watched pixel
   watch X Y              a pixel to watch; `watch` alone ends that
@@ -201,6 +202,10 @@ class Debugger:
         """Runs until something of a pixel changes, and says from what to what."""
         rises = words[-1] == "rises"
         thing, rest = words[0], words[1:len(words) - rises]
+        if thing in micros.OPERATIONS and len(words) == 1:
+            begin = [clock for row, clock in zip(self.machine.rows, self.machine.ends) if row.name == thing and clock > self.now]
+            yield from self.moved(begin[0]) if begin else ["no %s begins any more" % thing]
+            return
         bit = number(rest.pop(0)) if thing == "bit" and rest else 0
         if thing not in (*REGISTERS, "bit", "depth", "face") or len(rest) not in (0, 2) or not rest and self.watched[0] < 0:
             raise Mistaken("until takes a clock, or enable, carry, latch, bit AT, depth or face, and X Y unless a pixel is watched")

@@ -2,10 +2,13 @@
 
 `pxplanes debug` holds sessions over scenes. Over a listing `held` answers the same lines in the same words, by the states
 and the microinstructions that the library gives (python/pxplanes); but for `field`, as a listing has no keys."""
+from __future__ import annotations
+
 import bisect
 import os
 import re
 import sys
+from typing import Any, Callable, Optional, Sequence
 
 from pxplanes.errors import Trouble
 from pxplanes import ends
@@ -15,9 +18,10 @@ from pxplanes.machine import sessions
 NUMBER = re.compile(rb"\d{1,18}\Z")
 # The line of a listing that `list` writes in which its first operation stands.
 FIRST_LINE = 3
+Told = Optional[list[str]]
 
 
-def library():
+def library() -> Any:
     """The Python module, which a tool for scenes does without."""
     sys.path.insert(0, os.path.join(ends.TOP, "python"))
     try:
@@ -29,7 +33,7 @@ def library():
     return pxplanes
 
 
-def is_listing(text):
+def is_listing(text: bytes) -> bool:
     """Whether a text is meant as one: the first word of all is that of its header."""
     for line in text.split(b"\n"):
         words = sessions.words_of(line.split(b"#")[0])
@@ -41,7 +45,7 @@ def is_listing(text):
 class Listing:
     """A listing that the program accepts: its grid, its operations, and at which clock each ends."""
 
-    def __init__(self, text):
+    def __init__(self, text: bytes):
         self.text, self.library = text, library()
         try:
             first = self.library.state(text, 0)
@@ -52,28 +56,28 @@ class Listing:
         self.operations = [(each.kind, list(each.numbers)) for each in course]
         lines = [number for number, line in enumerate(text.split(b"\n"), 1) if sessions.words_of(line.split(b"#")[0])]
         self.lines = lines[2:2 + len(self.operations)]
-        self.ends = [each.clock for each in course[1:]] + [first.clocks] * bool(course)
+        self.ends: list[int] = [each.clock for each in course[1:]] + [first.clocks] * bool(course)
 
     @property
-    def clocks(self):
+    def clocks(self) -> int:
         return self.ends[-1] if self.ends else 0
 
-    def place_of(self, clock):
+    def place_of(self, clock: int) -> Optional[tuple[int, int]]:
         """The operation of a clock, and which of its clocks that is; past the last of all None."""
         if clock >= self.clocks:
             return None
         number = bisect.bisect_right(self.ends, clock)
         return number, clock - (self.ends[number - 1] if number else 0)
 
-    def state(self, clock):
+    def state(self, clock: int) -> Any:
         return self.library.state(self.text, clock)
 
-    def bits(self):
+    def bits(self) -> int:
         """How many memory bits its operations name, from bit 0 on."""
         return max([1] + [end_of(*operation) for operation in self.operations])
 
 
-def end_of(name, numbers):
+def end_of(name: str, numbers: Sequence[int]) -> int:
     """The end of the memory that an operation names."""
     if name in ("all", "keep-sign"):
         return 0
@@ -89,10 +93,11 @@ def end_of(name, numbers):
 class Session:
     """Answers command lines over a listing."""
 
-    def __init__(self, text):
-        self.listing, self.now, self.count, self.seen = Listing(text), 0, 0, None
+    def __init__(self, text: bytes):
+        self.listing, self.now, self.count = Listing(text), 0, 0
+        self.seen: Any = None
 
-    def answer(self, line):
+    def answer(self, line: bytes) -> list[bytes]:
         """The lines that answer one, as the program writes them."""
         self.count += 1
         words = sessions.words_of(line)
@@ -106,67 +111,68 @@ class Session:
                 return [line.encode() for line in told]
         return [b"? line %d" % self.count]
 
-    def state(self):
+    def state(self) -> Any:
         if self.seen is None or self.seen.clock != self.now:
             self.seen = self.listing.state(self.now)
         return self.seen
 
-    def to(self, clock):
+    def to(self, clock: int) -> Told:
         self.now = max(0, min(clock, self.listing.clocks))
         return ["at %d" % self.now]
 
-    def step(self, count):
+    def step(self, count: int) -> Told:
         return self.to(self.now + count)
 
-    def back(self, count):
+    def back(self, count: int) -> Told:
         return self.to(self.now - count)
 
-    def until(self, clock):
+    def until(self, clock: int) -> Told:
         return self.to(max(clock, self.now))
 
-    def run(self):
+    def run(self) -> Told:
         return self.to(self.listing.clocks)
 
-    def macro(self, count):
+    def macro(self, count: int) -> Told:
         place = self.listing.place_of(self.now)
         if place is None or count == 0:
             return self.to(self.now)
         return self.to(self.listing.ends[min(place[0] + count, len(self.listing.ends)) - 1])
 
-    def at(self):
+    def at(self) -> Told:
         place = self.listing.place_of(self.now)
         behind = "done" if place is None else "macro %d micro %d" % place
         return ["at %d of %d %s" % (self.now, self.listing.clocks, behind)]
 
-    def pixel(self, x, y):
+    def pixel(self, x: int, y: int) -> Told:
         if x >= 1 << self.listing.nx or y >= 1 << self.listing.ny:
             return None
         found = self.state().pixel(x, y)
         return ["pixel %d %d m %s e %d k %d l %d t %d" % (x, y, found.memory, found.enable, found.carry, found.latch, found.leaf)]
 
-    def tree(self, level, index):
+    def tree(self, level: int, index: int) -> Told:
         if not 1 <= level <= self.listing.nx + self.listing.ny or index >= 1 << level:
             return None
         return ["tree %d %d out %d carry %d" % ((level, index) + self.state().node(level, index))]
 
-    def trace(self):
+    def trace(self) -> Told:
         first = max(0, self.now - sessions.KEPT)
         made = self.listing.library.micros(self.listing.text, first, self.now - first)
         return ["%d: %s" % told for told in enumerate(map(str, made), first)]
 
 
 # Of each line how many numbers it has, and what answers it.
-FORMS = {"step": (1, Session.step), "macro": (1, Session.macro), "run": (0, Session.run), "until": (1, Session.until),
+FORMS: dict[str, tuple[int, Callable[..., Told]]] = {"step": (1, Session.step), "macro": (1, Session.macro), "run": (0, Session.run), "until": (1, Session.until),
          "back": (1, Session.back), "at": (0, Session.at), "pixel": (2, Session.pixel), "tree": (2, Session.tree),
          "trace": (0, Session.trace)}
 
 
-def held(path, text, commands):
+def held(path: Optional[str], text: bytes, commands: Sequence[bytes]) -> list[list[bytes]]:
     """The answers of a session over a scene, by the program at a path or as built, or over a listing; each a list of
     lines, and none behind a `quit`."""
     if not is_listing(text):
         return sessions.held(program.needed(path), text, commands)
-    session, answers = Session(text), []
+    session = Session(text)
+    answers: list[list[bytes]] = []
     for command in commands:
         answers.append(session.answer(command))
         if sessions.is_quit(command):

@@ -1,5 +1,9 @@
 """The microinstructions of broadcast operations, by the tables of docs/MACHINE.md, and what each act makes of a pixel.
 It is no tool itself. It reads listings (docs/LISTINGS.md) that the program wrote or accepts."""
+from __future__ import annotations
+
+from typing import Any, Callable, Iterator, Sequence
+
 from pxplanes.errors import Trouble
 
 ACTS = ("nop", "enable-all", "enable-carry", "enable-tree", "enable-bit", "set-carry", "fetch", "store-tree",
@@ -10,15 +14,17 @@ HAVE_A_VALUE = frozenset(("enable-carry", "enable-tree", "enable-bit", "set-carr
 OPERATIONS = ("all", "keep-sign", "keep-bit", "keep-at-most", "keep-less", "set-bit", "toggle", "load-linear", "add-linear", "load-const",
               "copy")
 SIGN_BIT = 40
+Form = tuple[int, int, int]
+Words = dict[str, Any]
 
 
 class Micro:
     """One clock: what the tree does, the bits of its lines in a feed, the act, its place and its value; or `open`."""
 
-    def __init__(self, act="nop", place=0, value=0, tree="hold", lines=(0, 0, 0), opens=False):
+    def __init__(self, act: str = "nop", place: int = 0, value: int = 0, tree: str = "hold", lines: Form = (0, 0, 0), opens: bool = False):
         self.act, self.place, self.value, self.tree, self.lines, self.opens = act, place, value, tree, lines, opens
 
-    def text(self):
+    def text(self) -> str:
         """As the debugger's trace writes it."""
         if self.opens:
             return "open"
@@ -27,14 +33,14 @@ class Micro:
         words += [str(self.value)] if self.act in HAVE_A_VALUE else []
         return " ".join(words)
 
-    def code(self):
+    def code(self) -> int:
         """The number that rtl/bench/bench.v reads: open, value, lines c, b, a, feed, clear, a bit each, act and place."""
         a, b, c = self.lines
         high = self.opens << 6 | self.value << 5 | c << 4 | b << 3 | a << 2 | (self.tree == "feed") << 1 | (self.tree == "clear")
         return high << 12 | ACTS.index(self.act) << 8 | self.place
 
 
-def micro_of(text):
+def micro_of(text: str) -> Micro:
     """The microinstruction of a line, as the debugger's trace writes it, or `open`."""
     words = text.split()
     if words == ["open"]:
@@ -46,25 +52,26 @@ def micro_of(text):
     if act not in ACTS or not all(word.isdigit() for word in numbers) or len(numbers) != due or \
             len(lines) != 3 or set(lines) - set("01"):
         raise Trouble("`%s` is no microinstruction, as `feed 101 store-tree 8`" % text.strip())
-    numbers = [int(word) for word in numbers]
-    place = numbers.pop(0) if act in HAVE_A_PLACE else 0
-    value = numbers.pop(0) if numbers else 0
+    found = [int(word) for word in numbers]
+    place = found.pop(0) if act in HAVE_A_PLACE else 0
+    value = found.pop(0) if found else 0
     if value > 1:
         raise Trouble("`%s`: a value is 0 or 1" % text.strip())
-    return Micro(act, place, value, tree, tuple(int(bit) for bit in lines))
+    a, b, c = (int(bit) for bit in lines)
+    return Micro(act, place, value, tree, (a, b, c))
 
 
-def bit(number, at):
+def bit(number: int, at: int) -> int:
     return number >> at & 1 if at >= 0 else 0
 
 
-def fed(form, step, nx, ny):
+def fed(form: Form, step: int, nx: int, ny: int) -> Form:
     """The lines a, b and c of a feed."""
     a, b, c = form
     return bit(a, step - (nx - 1)), bit(b, step - (nx + ny - 1)), bit(c, step)
 
 
-def down_the_tree(form, count, first, act_at, nx, ny):
+def down_the_tree(form: Form, count: int, first: Words, act_at: Callable[[int], Words], nx: int, ny: int) -> Iterator[Micro]:
     """A clear with the act `first`, and then feeds; the last `count` of them with the acts that `act_at` gives."""
     levels = nx + ny
     yield Micro(tree="clear", **first)
@@ -73,24 +80,23 @@ def down_the_tree(form, count, first, act_at, nx, ny):
                     **(act_at(step - levels) if step >= levels else {}))
 
 
-def stepwise(act, at):
+def stepwise(act: str, at: int) -> Callable[[int], Words]:
     return lambda t: {"act": act, "place": at + t}
 
 
-def micros_of(name, numbers, nx, ny):
+def micros_of(name: str, numbers: Sequence[int], nx: int, ny: int) -> Iterator[Micro]:
     """The microinstructions of an operation, a line of a listing."""
-    form = tuple(numbers[:3])
+    form: Any = tuple(numbers[:3])
     if name == "all":
         yield Micro("enable-all")
     elif name == "keep-bit":
-        yield Micro("enable-bit", *numbers)
+        yield Micro("enable-bit", numbers[0], numbers[1])
     elif name == "set-bit":
-        yield Micro("store-const", *numbers)
+        yield Micro("store-const", numbers[0], numbers[1])
     elif name == "toggle":
-        yield Micro("toggle", *numbers)
+        yield Micro("toggle", numbers[0])
     elif name == "keep-sign":
-        sign = lambda t: {"act": "enable-tree", "value": 0} if t == SIGN_BIT - 1 else {}
-        yield from down_the_tree(form, SIGN_BIT, {}, sign, nx, ny)
+        yield from down_the_tree(form, SIGN_BIT, {}, lambda t: {"act": "enable-tree", "value": 0} if t == SIGN_BIT - 1 else {}, nx, ny)
     elif name == "load-linear":
         at, length = numbers[3:]
         yield from down_the_tree(form, length, {}, stepwise("store-tree", at), nx, ny)
@@ -122,7 +128,7 @@ def micros_of(name, numbers, nx, ny):
         raise Trouble("%s is no operation of a listing" % name)
 
 
-def clocks_of(name, numbers, levels):
+def clocks_of(name: str, numbers: Sequence[int], levels: int) -> int:
     """How many microinstructions an operation has on a tree of so many levels."""
     one = {"all": 1, "keep-bit": 1, "set-bit": 1, "toggle": 1, "keep-sign": 1 + levels + SIGN_BIT}
     if name in one:
@@ -131,7 +137,7 @@ def clocks_of(name, numbers, levels):
     return {"load-const": 0, "copy": length, "keep-less": 2 + length, "keep-at-most": 2 + levels}.get(name, 1 + levels) + length
 
 
-def sum_text(form):
+def sum_text(form: Sequence[int]) -> str:
     """A linear form as one writes it."""
     terms = [(number, letter) for number, letter in zip(form, ("x", "y", "")) if number]
     text = ""
@@ -141,11 +147,11 @@ def sum_text(form):
     return text or "0"
 
 
-def field_text(at, length):
+def field_text(at: int, length: int) -> str:
     return "memory %d to %d" % (at, at + length - 1) if length > 1 else "memory %d" % at
 
 
-def spoken(name, numbers):
+def spoken(name: str, numbers: Sequence[int]) -> str:
     """What an operation does, in words."""
     value = sum_text(numbers[:3])
     if name in ("load-linear", "add-linear", "keep-at-most"):
@@ -154,38 +160,38 @@ def spoken(name, numbers):
         field = field_text(*numbers[:2])
     return {"all": lambda: "enable every pixel",
             "keep-sign": lambda: "keep the pixels where %s is not negative" % value,
-            "keep-bit": lambda: "keep the pixels whose bit %d is %d" % tuple(numbers),
+            "keep-bit": lambda: "keep the pixels whose bit %d is %d" % (numbers[0], numbers[1]),
             "keep-at-most": lambda: "keep the pixels where %s is at most the number in %s" % (value, field),
             "keep-less": lambda: "keep the pixels whose number in %s is less than that in %s" % (field, field_text(numbers[2], numbers[1])),
             "load-linear": lambda: "put %s into %s" % (value, field),
             "add-linear": lambda: "add %s to %s" % (value, field),
             "load-const": lambda: "put %d into %s" % (numbers[2], field),
             "copy": lambda: "copy %s into %s" % (field, field_text(numbers[2], numbers[1])),
-            "set-bit": lambda: "make bit %d %d" % tuple(numbers),
-            "toggle": lambda: "turn bit %d" % tuple(numbers)}[name]()
+            "set-bit": lambda: "make bit %d %d" % (numbers[0], numbers[1]),
+            "toggle": lambda: "turn bit %d" % numbers[0]}[name]()
 
 
-def read_listing(text):
+def read_listing(text: bytes) -> tuple[int, int, list[tuple[str, list[int]]]]:
     """The grid of a listing, and its operations, each a name and its numbers."""
-    lines = [line.split(b"#")[0].split() for line in text.split(b"\n")]
-    lines = [[word.decode("latin-1") for word in line] for line in lines if line]
+    found = [line.split("#")[0].split() for line in text.decode("latin-1").split("\n")]
+    lines = [line for line in found if line]
     if lines[:1] != [["pxlist", "1"]] or len(lines) < 3 or lines[1][0] != "grid" or lines[-1] != ["end"]:
         raise Trouble("it is no listing")
     nx, ny = map(int, lines[1][1:])
     return nx, ny, [(line[0], [int(word) for word in line[1:]]) for line in lines[2:-1]]
 
 
-def majority(p, q, r):
+def majority(p: int, q: int, r: int) -> int:
     return int(p + q + r >= 2)
 
 
 class Pixel:
     """What a pixel holds, and what an act makes of it, by the table of the fourteen acts."""
 
-    def __init__(self, bits):
+    def __init__(self, bits: int):
         self.memory, self.enable, self.carry, self.latch = [0] * bits, 0, 0, 0
 
-    def take(self, micro, tree):
+    def take(self, micro: Micro, tree: int) -> None:
         """Does an act, where the leaf gave `tree` before the clock."""
         act, at, value = micro.act, micro.place, micro.value
         stored = self.memory[at]
@@ -202,21 +208,21 @@ class Pixel:
         self.carry = carried.get(act, self.carry)
         self.latch = stored if act == "fetch" else self.latch
 
-    def state(self):
+    def state(self) -> tuple[str, int, int, int]:
         return "".join(map(str, self.memory)), self.enable, self.carry, self.latch
 
 
 class Tree:
     """The latches of every node, in heap order, and what a clock makes of them."""
 
-    def __init__(self, nx, ny):
+    def __init__(self, nx: int, ny: int):
         self.nx, self.levels = nx, nx + ny
         self.clear()
 
-    def clear(self):
+    def clear(self) -> None:
         self.outs, self.carries = [0] * (2 << self.levels), [0] * (2 << self.levels)
 
-    def take(self, micro):
+    def take(self, micro: Micro) -> None:
         if micro.tree == "clear":
             self.clear()
         elif micro.tree == "feed":
@@ -225,7 +231,7 @@ class Tree:
                 outs[node], carries[node] = self.next_of(node, micro.lines)
             self.outs, self.carries = outs, carries
 
-    def next_of(self, node, lines):
+    def next_of(self, node: int, lines: Form) -> tuple[int, int]:
         a, b, c = lines
         level = node.bit_length() - 1
         parent = c if level == 1 else self.outs[node // 2]
@@ -238,11 +244,11 @@ class Tree:
 class Array:
     """An array of pixels under the tree, by the tables alone: slow and plain."""
 
-    def __init__(self, nx, ny, bits):
+    def __init__(self, nx: int, ny: int, bits: int):
         self.tree = Tree(nx, ny)
         self.pixels = [Pixel(bits) for _ in range(1 << nx + ny)]
 
-    def take(self, micro):
+    def take(self, micro: Micro) -> None:
         if micro.opens:
             self.tree.clear()
             self.pixels = [Pixel(len(pixel.memory)) for pixel in self.pixels]
@@ -252,7 +258,7 @@ class Array:
             pixel.take(micro, leaf)
         self.tree.take(micro)
 
-    def state(self):
+    def state(self) -> list[tuple[str, int, int, int, int]]:
         """Of each pixel its memory, enable, carry, latch and leaf; the outputs and the carries of all nodes."""
         leaves = self.tree.outs[len(self.pixels):]
         return [pixel.state() + (leaf,) for pixel, leaf in zip(self.pixels, leaves)]

@@ -1,24 +1,35 @@
 """The broadcast operations of a scene with what each is for: docs/PASSES.md, step by step. It is no tool itself, and no
 part of the program; it is written by itself, to hold others beside: `tools/cases/passes_as_listed` holds it beside what `list` writes,
 `course_as_listed` beside the library's course, and `page_beside_tools` beside the page, which has its passes from that course."""
+from __future__ import annotations
+
 import itertools
+from typing import Iterable, Iterator, Optional, Sequence
 
 from pxplanes.machine import micros
+from pxplanes.scene import scenes
+
+Form = tuple[int, int, int]
+Products = list[tuple[int, ...]]
+Made = tuple[str, tuple[int, ...], str]                 # an operation: its name, its numbers, and what it is for
+Step = tuple[str, int, int, int, int]
+Pass = tuple[Step, str, list[Made]]
+Row = tuple[int, str, tuple[int, ...], str]
 
 
 class Face:
     """A face of a solid with its plane and its words: the near face, a front, a back, or the far limit."""
 
-    def __init__(self, solid, number, plane, said, is_front):
+    def __init__(self, solid: scenes.Solid, number: int, plane: Form, said: str, is_front: bool):
         self.solid, self.number, self.plane, self.said, self.is_front = solid, number, plane, said, is_front
 
-    def of_solid(self):
+    def of_solid(self) -> str:
         return "%s of `%s`" % (self.said, self.solid.name)
 
 
-def faces_of(scene, solid):
+def faces_of(scene: scenes.Scene, solid: scenes.Solid) -> tuple[list[Face], list[Face]]:
     """The faces of a solid in the order of their index."""
-    def named(kind, planes):
+    def named(kind: str, planes: list[scenes.Face]) -> list[str]:
         return ["the %s" % kind if len(planes) == 1 else "%s %d" % (kind, which) for which in range(1, len(planes) + 1)]
 
     far = (0, 0, scene.far() << scene.fraction_bits)
@@ -28,16 +39,16 @@ def faces_of(scene, solid):
             backs + [Face(solid, 0, far, "the far limit", False)])
 
 
-def less(left, right, more=0):
+def less(left: Form, right: Form, more: int = 0) -> Form:
     """The form of one plane less another, less so much more."""
     return left[0] - right[0], left[1] - right[1], left[2] - right[2] - more
 
 
-def plus(plane, more):
+def plus(plane: Form, more: int) -> Form:
     return plane[0], plane[1], plane[2] + more
 
 
-def edges(scene, face):
+def edges(scene: scenes.Scene, face: Face) -> Iterator[tuple[Form, str]]:
     """The edges of a face with what each keeps."""
     fronts, backs = faces_of(scene, face.solid)
     same, other = (fronts, backs) if face.is_front else (backs, fronts)
@@ -61,20 +72,20 @@ class Passes:
     """The passes of a scene: of each the step, a line on what it is for, and its operations with their words. A step is its role, the
     place of its literal among all, the solid and the number of its face, and which other literal it asks; 0 where it has none."""
 
-    def __init__(self, scene, products):
+    def __init__(self, scene: scenes.Scene, products: Products):
         self.scene, self.products = scene, products
         self.bits, self.length = scene.number_bits(), scene.depth_bits + scene.fraction_bits + scene.number_bits()
         self.deep = (self.length + self.bits, scene.depth_bits + scene.fraction_bits)
         self.alive, self.par = 2 * self.length, 2 * self.length + 1
         self.literal, self.numbers = 0, {id(solid): at for at, solid in enumerate(scene.solids, 1)}
 
-    def step(self, role, face=None, other=0):
+    def step(self, role: str, face: Optional[Face] = None, other: int = 0) -> Step:
         return role, self.literal, self.numbers[id(face.solid)] if face else 0, face.number if face else 0, other
 
-    def bit(self, name, place, value, says):
+    def bit(self, name: str, place: int, value: int, says: str) -> Made:
         return name, (place, value), says
 
-    def __iter__(self):
+    def __iter__(self) -> Iterator[Pass]:
         background, self.literal = self.scene.far() << self.scene.fraction_bits + self.bits, 0
         yield self.step("start"), "start: every pixel has the background", [
             ("load-const", (0, self.length, background), "put the background into key B")]
@@ -83,12 +94,12 @@ class Passes:
             for at, literal in enumerate(product):
                 yield from self.of_literal(product, at, "product %d of %d, %s" % (number, len(self.products), whole), literal)
 
-    def spelled(self, product):
+    def spelled(self, product: tuple[int, ...]) -> str:
         names = [self.scene.solids[abs(literal) - 1].name for literal in product]
         signs = ["" if literal > 0 else "- " for literal in product]
         return " ".join((sign if sign or not at else "* ") + name for at, (sign, name) in enumerate(zip(signs, names)))
 
-    def of_literal(self, product, at, where, literal):
+    def of_literal(self, product: tuple[int, ...], at: int, where: str, literal: int) -> Iterator[Pass]:
         solid = self.scene.solids[abs(literal) - 1]
         self.literal += 1
         yield self.step("open"), "%s: faces of `%s`" % (where, solid.name), [
@@ -102,11 +113,11 @@ class Passes:
             yield from self.classified(which, other)
         yield self.step("merge"), "merge: the nearer of candidate and best stays", list(self.merged())
 
-    def kept(self, face):
+    def kept(self, face: Face) -> Iterator[Made]:
         for form, says in edges(self.scene, face):
             yield "keep-sign", form, says
 
-    def candidate(self, face):
+    def candidate(self, face: Face) -> Iterator[Made]:
         fraction = self.scene.fraction_bits
         yield from self.kept(face)
         yield ("load-linear", plus(face.plane, (1 << fraction) - 1) + self.deep,
@@ -116,27 +127,27 @@ class Passes:
         yield "load-const", (self.length, self.bits, face.number), "put face %d into key T" % face.number
         yield self.bit("set-bit", self.alive, 1, "here a candidate stands: alive is 1")
 
-    def alive_ones(self):
+    def alive_ones(self) -> Made:
         return self.bit("keep-bit", self.alive, 1, "keep the pixels with a candidate")
 
-    def passed(self, face, more=0):
+    def passed(self, face: Face, more: int = 0) -> Made:
         says = "keep the pixels whose candidate is %s %s" % (
             "a whole cell behind" if more else "at or behind", face.of_solid())
         return "keep-at-most", plus(face.plane, more) + self.deep, says
 
-    def dies(self):
+    def dies(self) -> Made:
         return self.bit("set-bit", self.alive, 0, "there the candidate dies: alive is 0")
 
-    def counted(self, faces, more=0, other=0):
+    def counted(self, faces: list[Face], more: int = 0, other: int = 0) -> Iterator[Pass]:
         """The passes that count in par which of these faces stand before the candidate."""
         for face in faces:
             yield self.step("turn" if other else "front", face, other), "against `%s`: count %s" % (face.solid.name, face.said), [
                 self.alive_ones(), *self.kept(face), self.passed(face, more), ("toggle", (self.par,), "count it: turn par")]
 
-    def par_cleared(self):
+    def par_cleared(self) -> Made:
         return self.bit("set-bit", self.par, 0, "nothing is counted yet: par is 0")
 
-    def confirmed(self, is_plain, solid, fronts, backs):
+    def confirmed(self, is_plain: bool, solid: scenes.Solid, fronts: list[Face], backs: list[Face]) -> Iterator[Pass]:
         """With fraction bits: whether the solid has a cell of its own at the candidate."""
         if is_plain:
             for face in backs:
@@ -148,7 +159,7 @@ class Passes:
         yield self.step("confirm"), "is there a cell of `%s` before the candidate" % solid.name, [
             self.bit("keep-bit", self.par, 0, "keep the pixels where no front was counted"), self.dies()]
 
-    def classified(self, which, literal):
+    def classified(self, which: int, literal: int) -> Iterator[Pass]:
         solid, is_plain = self.scene.solids[abs(literal) - 1], literal > 0
         fronts, backs = faces_of(self.scene, solid)
         yield self.step("begin", other=which), "against `%s`: nothing is counted yet" % solid.name, [self.par_cleared()]
@@ -157,13 +168,13 @@ class Passes:
             self.bit("keep-bit", self.par, int(not is_plain),
                      "keep the pixels whose candidate is %s `%s`" % ("outside" if is_plain else "inside", solid.name)), self.dies()]
 
-    def merged(self):
+    def merged(self) -> Iterator[Made]:
         yield self.alive_ones()
         yield "keep-less", (self.length, self.length, 0), "keep the pixels where key T is less than key B"
         yield "copy", (self.length, self.length, 0), "copy key T into key B"
 
 
-def products_of(scene, plan):
+def products_of(scene: scenes.Scene, plan: bytes) -> Products:
     """The products that `plan` prints: of each the solids' numbers from 1 on, below 0 where one is taken away."""
     numbers, found = {solid.name: at for at, solid in enumerate(scene.solids, 1)}, []
     for line in plan.decode().split("\n")[1:-1]:
@@ -172,18 +183,20 @@ def products_of(scene, plan):
     return found
 
 
-def starts(scene, products, levels):
+def starts(scene: scenes.Scene, products: Products, levels: int) -> list[int]:
     """The clocks at which the passes begin, in an array whose tree has so many levels, and behind them the end of the last."""
-    clock, found = 0, []
+    clock = 0
+    found: list[int] = []
     for number, name, numbers, _ in operations(scene, products)[0]:
         found += [clock] if number == len(found) else []
         clock += micros.clocks_of(name, numbers, levels)
     return found + [clock]
 
 
-def operations(scene, products):
+def operations(scene: scenes.Scene, products: Products) -> tuple[list[Row], list[str]]:
     """Of each operation in order: the number of its pass, its name, its numbers, and what it is for; and the passes' words."""
-    found, said = [], []
+    found: list[Row] = []
+    said: list[str] = []
     for _, says, each in Passes(scene, products):
         found.append((len(said), "all", (), "enable every pixel"))
         found += [(len(said), name, numbers, words) for name, numbers, words in each]
@@ -191,7 +204,7 @@ def operations(scene, products):
     return found, said
 
 
-def steps(scene, products):
+def steps(scene: scenes.Scene, products: Products) -> list[Step]:
     """The step of each pass (`Passes`)."""
     return [step for step, _, _ in Passes(scene, products)]
 
@@ -199,24 +212,24 @@ def steps(scene, products):
 class Keys:
     """The numbers in the keys of a scene's pixels, by the bits of their memory (docs/PASSES.md, "Layout"); and the colours of faces."""
 
-    def __init__(self, scene):
+    def __init__(self, scene: scenes.Scene):
         self.face, self.depth = scene.number_bits(), scene.depth_bits
         self.length = self.face + scene.fraction_bits + self.depth
         self.colours = {0: [0, 0, 0], **{number: list(colour) for number, _, _, _, colour, _ in scene.faces()}}
 
-    def number(self, memory, key, what):
+    def number(self, memory: str, key: str, what: str) -> int:
         """A number of key "B" or "T": its "face" or its "depth"."""
         first = "BT".index(key) * self.length + (0 if what == "face" else self.length - self.depth)
         return int(memory[first:first + (self.face if what == "face" else self.depth)][::-1], 2)
 
 
-def of_listing(found):
+def of_listing(found: Sequence[tuple[str, Sequence[int]]]) -> tuple[list[Row], list[str]]:
     """The same of a listing: a pass is what follows an `all`."""
     numbers = itertools.accumulate(int(name == "all" and at > 0) for at, (name, _) in enumerate(found))
     rows = [(number, name, tuple(given), micros.spoken(name, given)) for number, (name, given) in zip(numbers, found)]
     return rows, ["pass %d of the listing" % (each + 1) for each in range(rows[-1][0] + 1 if rows else 0)]
 
 
-def line(name, numbers):
+def line(name: str, numbers: Iterable[int]) -> str:
     """An operation as a line of a listing."""
     return " ".join([name, *map(str, numbers)])

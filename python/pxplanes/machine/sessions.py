@@ -1,6 +1,9 @@
 """Sessions of `pxplanes debug` for the tools: how a text is cut, and which lines answer which command.
 It is no tool itself."""
+from __future__ import annotations
+
 import re
+from typing import Callable, Sequence
 
 from pxplanes.errors import Trouble
 from pxplanes.scene import limits
@@ -11,11 +14,11 @@ KEPT = 32
 WORDS = re.compile(rb"[^ \t\r]+")
 
 
-def words_of(line):
+def words_of(line: bytes) -> list[bytes]:
     return WORDS.findall(line)
 
 
-def parted(text):
+def parted(text: bytes) -> tuple[bytes, list[bytes]]:
     """The scene of a text, up to the line `end`, and the command lines behind it."""
     at = 0
     while at < len(text):
@@ -28,7 +31,7 @@ def parted(text):
     return text[:at], lines[:-1] if lines[-1] == b"" else lines
 
 
-def answer_lines(command, now):
+def answer_lines(command: bytes, now: int) -> int:
     """How many lines answer a command that is given after so many broadcasts."""
     words = words_of(command)
     if len(command) > LONGEST:
@@ -38,17 +41,17 @@ def answer_lines(command, now):
     return min(KEPT, now) if words == [b"trace"] else 1
 
 
-def is_quit(command):
+def is_quit(command: bytes) -> bool:
     return len(command) <= LONGEST and words_of(command) == [b"quit"]
 
 
 class Answers:
     """Tells the lines of a session's output apart: those of each command, one after another."""
 
-    def __init__(self):
+    def __init__(self) -> None:
         self.now = 0
 
-    def taken(self, command, next_line):
+    def taken(self, command: bytes, next_line: Callable[[], bytes]) -> list[bytes]:
         """The lines that answer a command; `next_line` gives one at each call."""
         lines = [next_line() for _ in range(answer_lines(command, self.now))]
         moved = re.match(rb"at (\d+)", lines[0]) if lines else None
@@ -57,7 +60,7 @@ class Answers:
         return lines
 
 
-def held(built, scene, commands):
+def held(built: str, scene: bytes, commands: Sequence[bytes]) -> list[list[bytes]]:
     """The answers of a session to its commands, each a list of lines; of those behind a `quit` none."""
     text = scene + b"".join(command + b"\n" for command in commands)
     if len(text) > limits.MAX_TEXT_BYTES:

@@ -1,12 +1,14 @@
 """Scenes drawn by lot: one seed gives the same scene each time. What `conform` tries besides its suite."""
+from __future__ import annotations
+
 import random
 
 SIGNS = "+++**--^"
 
 
-def solid_of(draw, name, parts):
+def solid_of(draw: random.Random, name: str, parts: int) -> list[str]:
     """The lines of a solid of a few planes, over a picture of 32 by 24 pixels."""
-    lines = ["solid %s %d %d %d" % ((name,) + tuple(draw.randint(0, 255) for _ in range(3)))]
+    lines = [" ".join(["solid", name, *(str(draw.randint(0, 255)) for _ in range(3))])]
     for _ in range(draw.randint(0, 3)):
         a, b = draw.randint(-5, 5), draw.randint(-5, 5)
         x, y = draw.randint(0, 31), draw.randint(0, 23)
@@ -18,7 +20,7 @@ def solid_of(draw, name, parts):
     return lines
 
 
-def expression(draw, names):
+def expression(draw: random.Random, names: str) -> str:
     if len(names) == 1:
         return names[0]
     middle = draw.randint(1, len(names) - 1)
@@ -26,7 +28,7 @@ def expression(draw, names):
     return "(%s %s %s)" % (left, draw.choice(SIGNS), right)
 
 
-def scene_of(seed):
+def scene_of(seed: int) -> str:
     """The text of the scene of a seed."""
     draw = random.Random(seed)
     names = "abcdef"[:draw.randint(3, 6)]

@@ -1,25 +1,28 @@
 """Writes the text of a scene, and of scenes made of one: coarser, finer, or a tile of it. A plane
 keeps its values where the pixels are the same (docs/PICTURE.md, "Refinement" and "Tiles")."""
+from __future__ import annotations
+
 import copy
+from typing import Callable
 
-from pxplanes.scene import limits
-from pxplanes.scene import rays
+from pxplanes.scene import limits, rays
+from pxplanes.scene.scenes import Plane, Scene, Solid
 
 
-def expression(scene):
+def expression(scene: Scene) -> str:
     return rays.folded(scene.show, lambda at: scene.solids[at].name,
                        lambda sign, left, right: "(%s %s %s)" % (left, sign, right))
 
 
-def lines_of(solid):
+def lines_of(solid: Solid) -> list[str]:
     faces = sorted([(face.number, "front", face) for face in solid.fronts]
                    + [(face.number, "back", face) for face in solid.backs])
-    return (["solid %s %d %d %d" % ((solid.name,) + solid.colour)]
-            + ["%s %d %d %d %d %d %d" % ((kind,) + face.plane + face.colour) for _, kind, face in faces]
-            + ["side %d %d %d" % side.plane for side in solid.sides])
+    rows = [("solid", solid.name, *solid.colour), *((kind, *face.plane, *face.colour) for _, kind, face in faces),
+            *(("side", *side.plane) for side in solid.sides)]
+    return [" ".join(map(str, row)) for row in rows]
 
 
-def text_of(scene):
+def text_of(scene: Scene) -> str:
     """The canonical text of a scene (docs/SCENES.md)."""
     version = 3 if scene.fraction_bits else 2 if "^" in scene.show else 1
     depth = "depth %d %d" % (scene.depth_bits, scene.fraction_bits) if version == 3 else "depth %d" % scene.depth_bits
@@ -28,7 +31,7 @@ def text_of(scene):
     return "\n".join(lines + ["show " + expression(scene), "end", ""])
 
 
-def changed(scene, width, height, plane_of, fraction=0):
+def changed(scene: Scene, width: int, height: int, plane_of: Callable[[int, int, int], Plane], fraction: int = 0) -> Scene:
     """The scene of another size, with what `plane_of` makes of each plane."""
     other = copy.deepcopy(scene)
     other.width, other.height, other.fraction_bits = width, height, scene.fraction_bits + fraction
@@ -38,11 +41,11 @@ def changed(scene, width, height, plane_of, fraction=0):
     return other
 
 
-def within(number, most):
+def within(number: int, most: int) -> int:
     return max(-most, min(most, number))
 
 
-def coarser(scene, factor):
+def coarser(scene: Scene, factor: int) -> Scene:
     """The scene with the pixels alone whose column and row are multiples of the factor; a slope that
     is past a scene's limits ends there."""
     most = limits.MAX_SLOPE
@@ -50,17 +53,10 @@ def coarser(scene, factor):
                    lambda a, b, c: (within(factor * a, most), within(factor * b, most), c))
 
 
-def finer(scene, factor):
+def finer(scene: Scene, factor: int) -> Scene:
     return changed(scene, factor * scene.width, factor * scene.height, lambda a, b, c: (a, b, factor * c),
                    factor.bit_length() - 1)
 
 
-def tile(scene, left, top, width, height):
+def tile(scene: Scene, left: int, top: int, width: int, height: int) -> Scene:
     return changed(scene, width, height, lambda a, b, c: (a, b, a * left + b * top + c))
-
-
-def alone(scene):
-    """The scene with its first solid that is shown, and nothing else of it."""
-    other = copy.copy(scene)
-    other.show = [next(node for node in scene.show if isinstance(node, int))]
-    return other

@@ -1,4 +1,4 @@
-"""The outcome of a run in files: JSON for programs, JUnit for CI, a badge, and a page with the pictures that differ."""
+"""The outcome of a run in files: JSON for programs, JUnit for CI, and a page with the pictures that differ."""
 from __future__ import annotations
 
 import base64
@@ -15,7 +15,6 @@ from pxplanes.errors import Trouble
 from pxplanes.image import maps, show
 from pxplanes.suite.running import ALIKE, DIFFERS, NOT_COMPARED, Outcome, Row
 
-GREEN, YELLOW, RED = "#3a7d34", "#b58900", "#b03a2e"
 SIDE = 256
 PAGE = """<!doctype html>
 <html lang="en"><meta charset="utf-8"><title>%(title)s</title>
@@ -87,19 +86,6 @@ def as_junit(outcome: Outcome) -> str:
     return "\n".join(out + ["</testsuites>", ""])
 
 
-def as_badge(outcome: Outcome) -> str:
-    """A badge as those of CI, in SVG."""
-    alike, count = outcome.count(ALIKE), len(outcome.rows)
-    colour = GREEN if alike == count else YELLOW if not outcome.count(DIFFERS) or 10 * alike >= 9 * count else RED
-    left, right = title(outcome), "%d of %d alike" % (alike, count)
-    one, two = (7 * len(word) + 12 for word in (left, right))
-    return ('<svg xmlns="http://www.w3.org/2000/svg" width="%d" height="20" role="img" aria-label="%s: %s">'
-            '<rect width="%d" height="20" fill="#444"/><rect x="%d" width="%d" height="20" fill="%s"/>'
-            '<g fill="#fff" font-family="Verdana,sans-serif" font-size="11" text-anchor="middle">'
-            '<text x="%d" y="14">%s</text><text x="%d" y="14">%s</text></g></svg>\n' % (
-                one + two, left, right, one, one, two, colour, one // 2, left, one + two // 2, right))
-
-
 def figure(pixels: Numbers, said: str) -> str:
     factor = max(1, SIDE // max(pixels.shape[:2]))
     data = base64.b64encode(maps.png(pixels.repeat(factor, 0).repeat(factor, 1))).decode()
@@ -143,12 +129,12 @@ def as_page(outcome: Outcome) -> str:
                    "scenes": "\n".join(section(outcome, row) for row in outcome.rows if row.status == DIFFERS)}
 
 
-FORMS: dict[str, Callable[[Outcome], str]] = {".json": as_json, ".xml": as_junit, ".svg": as_badge, ".html": as_page}
+FORMS: dict[str, Callable[[Outcome], str]] = {".json": as_json, ".xml": as_junit, ".html": as_page}
 
 
 def form_of(path: str) -> Callable[[Outcome], str]:
     """What writes a file, by the end of its name. Raises `Trouble` for another one."""
     end = os.path.splitext(path)[1]
     if end not in FORMS:
-        raise Trouble("%s: -o takes .json, .xml (JUnit), .svg (a badge) or .html (a page)" % path)
+        raise Trouble("%s: -o takes .json, .xml (JUnit) or .html (a page)" % path)
     return FORMS[end]

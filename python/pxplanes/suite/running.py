@@ -271,7 +271,7 @@ def cause_of(rows: list[Row], settings: Settings) -> list[str]:
     if any(row.pixels for row in rows):
         samples = samples_of(rows, settings)
         found = causes.find(samples)
-        lines += found.said() + ([] if found.causes else ["  " + line for line in causes.facts(samples)])
+        lines += found.said() + ([] if found.is_sure else ["  " + line for line in causes.facts(samples)])
     return lines
 
 
