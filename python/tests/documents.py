@@ -70,7 +70,7 @@ PLAIN = (
 NOT_YET_PLAIN = re.compile(r"(?:crates/px_\w+|debian|page|page/library|rtl|suite|tools)/README\.md|"
                            r"docs/(?:COMPARE|DEBUGGER|INSTALL|LEAGUE|MODELLING|RTL|SCALE|STUDIO)\.md")
 # Options of programs of others that documents name by themselves.
-OF_OTHERS = ("--projection=o", "--camera", "--sshlogin", "--viewall", "--autocenter", "--imgsize", "--preview", "--experimental-wasm-memory64")
+OF_OTHERS = ("--projection=o", "--camera", "--sshlogin", "--viewall", "--autocenter", "--imgsize", "--preview", "--loader")
 
 
 @functools.lru_cache(None)

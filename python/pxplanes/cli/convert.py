@@ -59,10 +59,10 @@ def add_options(parser: argparse.ArgumentParser) -> None:
     parser.add_argument("--to", choices=("scene", *exports.FORMS),
                         help="the form of what is written, if OUT does not say it")
     parser.add_argument("--kind", choices=modelling.KINDS, help="what IN is, if its name does not say it")
-    parser.add_argument("--unit", choices=modelling.UNITS,
+    parser.add_argument("--unit", choices=tuple(modelling.UNITS),
                         help="what the numbers of a file that says no unit are; they become millimetres "
                         "(default: as they are)")
-    parser.add_argument("--up", choices=modelling.UPWARDS,
+    parser.add_argument("--up", choices=tuple(modelling.UPWARDS),
                         help="the axis that is upwards in the file (default: y for glTF, z for others)")
     size = frame.whole_number(1, 512)
     parser.add_argument("--size", nargs=2, metavar=("W", "H"), type=size, default=usual.size,

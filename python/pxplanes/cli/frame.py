@@ -14,6 +14,7 @@ import io
 import os
 import re
 import shutil
+import stat
 import subprocess
 import sys
 import traceback
@@ -180,19 +181,17 @@ def answered(words: list[str]) -> int:
 
 
 def unwritten(error: OSError) -> str:
-    """The file that a failed call meant, as `name: `. A write tells no name: then it is standard output, if that still fails, and
-    otherwise the file that the innermost function holds."""
+    """The file that a failed call meant, as `name: `. A write does not say: then it is the file that the innermost function holds, and
+    otherwise standard output, if that is a file or a device."""
     if error.filename is not None or error.errno not in NO_ROOM:
         return "" if error.filename is None else "%s: " % os.fsdecode(error.filename)
-    try:
-        sys.stdout.flush()
-    except OSError:
-        return "standard output: "
     for frame, _ in reversed(list(traceback.walk_tb(error.__traceback__))):
         for each in (*frame.f_locals.values(), *vars(frame.f_locals.get("self", error)).values()):
-            if isinstance(each, io.IOBase) and isinstance(getattr(each, "name", None), str) and getattr(each, "mode", "r") not in ("r", "rb"):
-                return "%s: " % getattr(each, "name")
-    return ""
+            name = getattr(each, "name", None) if isinstance(each, io.IOBase) else None
+            if isinstance(name, str) and each is not sys.stdout and getattr(each, "mode", "r") not in ("r", "rb"):
+                return "%s: " % name
+    mode = os.fstat(1).st_mode
+    return "standard output: " if stat.S_ISREG(mode) or stat.S_ISCHR(mode) else ""
 
 
 def drop_output() -> None:
@@ -211,9 +210,10 @@ def main(words: Optional[list[str]] = None) -> int:
     except BrokenPipeError:
         drop_output()
     except OSError as error:
+        file = unwritten(error)
         if error.errno in NO_ROOM:
             drop_output()
-        print("%s: %s%s" % (name, unwritten(error), error.strerror or error), file=sys.stderr)
+        print("%s: %s%s" % (name, file, error.strerror or error), file=sys.stderr)
     except SystemExit as ended:
         return int(ended.code or SUCCESS)
     except KeyboardInterrupt:
