@@ -47,7 +47,9 @@
  *     }
  *
  * What you owe:
- *   - A pointer to a buffer points to as many elements as its length says. With length 0 it may be null.
+ *   - A pointer to a buffer points to as many elements as its length says. With length 0 it may be null: a null text is
+ *     the empty text, null words are no words, and a null buffer to write to has no room.
+ *   - found and state are never null.
  *   - No two buffers of one call overlap, nor the text, nor *found, nor *state. Nothing else writes to any of them,
  *     or reads what a call writes, before the call returns.
  *   - No call is made from a signal handler, nor in the child of a fork of a process with threads, and none is

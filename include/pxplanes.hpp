@@ -28,6 +28,7 @@
 #include <algorithm>
 #include <cstddef>
 #include <cstdint>
+#include <memory>
 #include <new>
 #include <stdexcept>
 #include <string>
@@ -279,20 +280,21 @@ inline std::size_t run(std::string_view text, std::string_view words, std::uint8
     return detail::size_of(found.room);
 }
 
-/* The same as a value; a longer output than two MiB is made twice. */
+/* The same as a value of just its size; a longer output than two MiB is made twice. The room is left as the allocator gives it, so
+ * only what is written of it costs anything. */
 inline std::string run(std::string_view text, std::string_view words)
 {
-    std::string out(std::size_t{1} << 21, '\0');
-    std::uint32_t status = PXPLANES_NO_ROOM;
-    pxplanes_found found{};
-    while (status == PXPLANES_NO_ROOM) {
-        status = pxplanes_run(detail::bytes_of(text), text.size(), detail::bytes_of(words), words.size(),
-                              reinterpret_cast<std::uint8_t *>(&out[0]), out.size(), &found);
-        if (status == PXPLANES_OK || status == PXPLANES_NO_ROOM)
-            out.resize(detail::size_of(found.room));
+    for (std::size_t size = std::size_t{1} << 21;;) {
+        const std::unique_ptr<std::uint8_t[]> room(new std::uint8_t[size]);
+        pxplanes_found found{};
+        const std::uint32_t status = pxplanes_run(detail::bytes_of(text), text.size(), detail::bytes_of(words), words.size(),
+                                                  room.get(), size, &found);
+        size = detail::size_of(found.room);
+        if (status == PXPLANES_NO_ROOM)
+            continue;
+        detail::need(status, found);
+        return std::string(room.get(), room.get() + size);
     }
-    detail::need(status, found);
-    return out;
 }
 
 /* Writes a state of the machine to words of the caller's: pxplanes_state. */

@@ -121,14 +121,25 @@ static inline size_t pxplanes_end_(struct pxplanes_writer_ *to)
     return to->at;
 }
 
+/* Whether a word, with its 0, and a buffer share a byte. */
+static inline int pxplanes_overlaps_(const char *word, const char *text, size_t room)
+{
+    const uintptr_t from = (uintptr_t) word, at = (uintptr_t) text;
+    return from < at + room && at < from + strlen(word) + 1;
+}
+
 /*
  * Writes "(left sign right)", with a 0 behind it, and gives its length without the 0. Where room is not more than that, the
- * buffer has the empty text, if it has room for any. The sign is '+', '*', '-' or '^'; both sides are names, or were joined.
+ * buffer has the empty text, if it has room for any. The sign is '+', '*', '-' or '^'; both sides are names, or were joined
+ * in another buffer. If the sign is another one, or a side is null or overlaps the buffer, it gives 0 and writes nothing.
  */
 static inline size_t pxplanes_join(char *text, size_t room, const char *left, char sign, const char *right)
 {
     struct pxplanes_writer_ to = {text, room, 0};
     const char signs[4] = {' ', sign, ' ', 0};
+    if (left == NULL || right == NULL || sign == 0 || strchr("+*-^", sign) == NULL || pxplanes_overlaps_(left, text, room)
+        || pxplanes_overlaps_(right, text, room))
+        return 0;
     pxplanes_put_(&to, "(");
     pxplanes_put_(&to, left);
     pxplanes_put_(&to, signs);
@@ -137,7 +148,8 @@ static inline size_t pxplanes_join(char *text, size_t room, const char *left, ch
     return pxplanes_end_(&to);
 }
 
-/* Writes the text of a scene, as pxplanes_join does an expression: with room 0 that is how to ask for its length. */
+/* Writes the text of a scene, as pxplanes_join does an expression: with room 0 that is how to ask for its length, and text may be
+ * null. Nothing that the scene points to overlaps the text; faces and sides may be null if there are none, and no other pointer may. */
 static inline size_t pxplanes_write(char *text, size_t room, const struct pxplanes_scene *scene)
 {
     struct pxplanes_writer_ to = {text, room, 0};

@@ -5,6 +5,7 @@ import contextlib
 import ctypes
 import os
 import pickle
+import re
 import select
 import subprocess
 import sys
@@ -23,6 +24,8 @@ Progress = Callable[[float], Any]
 # Seconds of a call that is made in one's own process at most, by what a clock and a pixel in a clock took on a slow machine, and
 # between two looks at one that is made apart.
 SHORT, CLOCK, PIXEL, LOOK = 0.5, 2e-8, 4e-12, 0.05
+# What the process writes first; another program that is begun in its place doesn't.
+MARK = b"pxplanes"
 PACKAGE = os.path.join(os.path.dirname(os.path.realpath(__file__)), "__init__.py")
 # Loads this package from its own place, whatever stands in the folder where one works.
 CHILD = """import importlib.util, sys
@@ -34,8 +37,13 @@ package.apart.main()"""
 
 def is_long(clocks: int, pixels: int) -> bool:
     """Whether so many clocks of so many pixels may take longer than one waits without a look at the keyboard, where a process can
-    be begun."""
-    return clocks * (CLOCK + PIXEL * pixels) > SHORT and bool(sys.executable)
+    be begun. A program that has Python inside can't be begun as one: there the call is made in the program itself."""
+    return clocks * (CLOCK + PIXEL * pixels) > SHORT and is_interpreter()
+
+
+def is_interpreter() -> bool:
+    """Whether this process is a Python interpreter by itself."""
+    return not getattr(sys, "frozen", False) and re.match("(python|pypy)", os.path.basename(sys.executable or "")) is not None
 
 
 def called(name: str, data: bytes, before: tuple[Any, ...], buffers: list[Buffer], behind: tuple[Any, ...],
@@ -44,7 +52,7 @@ def called(name: str, data: bytes, before: tuple[Any, ...], buffers: list[Buffer
     them. What it writes is in `buffers` and in the structures `behind`, as `ctypes.byref` hands them over. `progress` is handed the
     seconds that have passed, twenty times a second; what it raises ends the call, as Ctrl-C does, and then nothing is written."""
     found, structures = calls.Found(), [each._obj for each in behind]
-    asked = pickle.dumps((calls.library()._name, name, data, before, [(each.kind, each.count) for each in buffers],
+    asked = pickle.dumps((calls.library()._name, name, data, before, [(each.kind, each.count, each.size) for each in buffers],
                           [type(each) for each in structures]))
     start = time.monotonic()
     reading, writing = os.pipe()
@@ -55,23 +63,26 @@ def called(name: str, data: bytes, before: tuple[Any, ...], buffers: list[Buffer
         held.close()
         assert child.stdin is not None
         try:
-            child.stdin.write(len(asked).to_bytes(8, "little") + asked)
-            child.stdin.flush()
+            with contextlib.suppress(BrokenPipeError):
+                child.stdin.write(len(asked).to_bytes(8, "little") + asked)
+                child.stdin.flush()
             # The child has the other end until it is gone. `Popen.wait` keeps a lock for good where Ctrl-C comes at a bad moment.
             while not select.select([ended], [], [], LOOK)[0]:
                 if progress is not None:
                     progress(time.monotonic() - start)
             child.wait()
+        except KeyboardInterrupt:
+            raise KeyboardInterrupt("pxplanes: %s was ended, and wrote nothing" % name) from None
         finally:
             child.kill()
             child.wait()
             with contextlib.suppress(OSError):
                 child.stdin.close()
-        if child.returncode:
-            raise NoLibrary("the process that called the library ended with %d" % child.returncode)
         answer.seek(0)
+        if child.returncode or answer.read(len(MARK)) != MARK:
+            raise NoLibrary("%s was begun to call the library, and ended with %d and no answer" % (sys.executable, child.returncode))
         status = int.from_bytes(answer.read(4), "little")
-        for room in (found, *structures, *(each.room for each in buffers if each.room is not None)):
+        for room in (found, *structures, *(each.room for each in buffers)):
             answer.readinto(room)
     return calls.judged(status, found)
 
@@ -85,7 +96,7 @@ def main() -> None:
     buffers, behind, found = [Buffer(*each) for each in kinds], [each() for each in structures], calls.Found()
     given = [word for each in buffers for word in each.given()]
     status = calls.call(name)(data, len(data), *before, *given, *map(ctypes.byref, behind), ctypes.byref(found))
-    for room in (int(status).to_bytes(4, "little"), found, *behind, *(each.room for each in buffers if each.room is not None)):
+    for room in (MARK, int(status).to_bytes(4, "little"), found, *behind, *(each.room for each in buffers)):
         sys.stdout.buffer.write(room)
     sys.stdout.flush()
     os._exit(0)

@@ -11,29 +11,35 @@ try:
 except ImportError:
     numpy = None
 
-TYPES: dict[str, Any] = {"B": ctypes.c_uint8, "I": ctypes.c_uint32, "i": ctypes.c_int32, "Q": ctypes.c_uint64}
+SIZES = {"B": 1, "I": 4, "i": 4, "Q": 8}
 
 
 class Buffer:
-    """Room for so many elements of a kind: B, I, i or Q, of 1, 4, 4 and 8 bytes."""
+    """Room for so many elements of a kind: B, I, i or Q, of 1, 4, 4 and 8 bytes, or another of a size that is given. The system
+    hands out its pages as they are written, so too much room costs nothing."""
 
-    def __init__(self, kind: str, count: int):
-        self.kind, self.count = kind, count
-        self.room = (TYPES[kind] * count)() if count else None
+    def __init__(self, kind: str, count: int, size: int = 0):
+        self.kind, self.count, self.size = kind, count, size or SIZES[kind]
+        self.room = bytearray(self.size * count)
 
-    def given(self) -> tuple[Optional[ctypes.c_void_p], int]:
+    def given(self) -> tuple[Optional[int], int]:
         """The two words by which C takes it; null where it has no room."""
-        return ctypes.cast(self.room, ctypes.c_void_p) if self.count else None, self.count
+        return ctypes.addressof(ctypes.c_char.from_buffer(self.room)) if self.count else None, self.count
+
+    @property
+    def numbers(self) -> memoryview:
+        """Its elements in a row."""
+        return memoryview(self.room).cast(self.kind)
 
     def shaped(self, *shape: int) -> Any:
         """Its elements in rows: an array of this shape."""
-        return shaped(memoryview(self.room if self.count else b"").cast("B"), self.kind, shape)
+        return shaped(memoryview(self.room), self.kind, shape)
 
 
 def shaped(flat: memoryview, kind: str, shape: Sequence[int]) -> Any:
     """The bytes of a memoryview as an array of a kind and a shape."""
     if numpy is not None:
-        return numpy.frombuffer(flat, dtype=numpy.dtype(TYPES[kind])).reshape(shape)
+        return numpy.frombuffer(flat, dtype=kind).reshape(shape)
     return flat.cast(kind, list(shape)) if all(shape) else flat.cast(kind)
 
 

@@ -143,6 +143,21 @@ class Scene:
             if solid not in self.names:
                 raise ValueError("solid %s is shown, and is not in solids" % (solid.name or "without a name"))
 
+    @staticmethod
+    def union(parts: Iterable[Expression]) -> Expression:
+        """The cells of any part, as the signs + join them, nested as little as they can be: the language nests 64 deep.
+
+        >>> pxplanes.Scene.union(pxplanes.Solid(name=name) for name in "abcde")
+        (((a + b) + (c + d)) + e)
+        """
+        level: List[Expression] = listed(parts, "parts")
+        if not level or not all(isinstance(part, Expression) for part in level):
+            raise TypeError("parts: one solid or expression is wanted, or more, and nothing else")
+        while len(level) > 1:
+            pairs = [joined(left, "+", right) for left, right in zip(level[::2], level[1::2])]
+            level = pairs + level[2 * len(pairs):]
+        return level[0]
+
     @property
     def text(self) -> str:
         """The canonical text."""

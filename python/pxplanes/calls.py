@@ -5,7 +5,7 @@ import ctypes
 import functools
 import os
 from ctypes import POINTER, c_char_p, c_int64, c_size_t, c_uint32, c_uint64, c_void_p
-from typing import Any, Union
+from typing import Any, Protocol, Union
 
 from .arrays import Buffer
 from .errors import Limit, Malformed, NoClock, NoCommand, NoLibrary, NoMicro, NoOperation
@@ -14,7 +14,17 @@ from .finding import loaded
 OK, USAGE, MALFORMED, LIMIT, MEMORY, NO_ROOM, NO_CLOCK, NO_GRID, NO_MICRO, NO_OPERATION = 0, 2, 3, 4, 7, 8, 9, 10, 11, 12
 LONGEST_NAME = 64
 
-Text = Union[str, bytes, bytearray, memoryview]
+
+
+class Written(Protocol):
+    """A `Scene`, or what else has a text."""
+
+    @property
+    def text(self) -> str:
+        ...
+
+
+Text = Union[str, bytes, bytearray, memoryview, Written]
 
 
 class Found(ctypes.Structure):
@@ -69,10 +79,11 @@ def from_file(path: Union[str, bytes, "os.PathLike[str]", "os.PathLike[bytes]"])
 
 def content(text: Text) -> bytes:
     """The bytes of a text; of a `str` in UTF-8."""
+    text = getattr(text, "text", text)
     if isinstance(text, str):
         return text.encode("utf-8")
     try:
-        return bytes(memoryview(text))
+        return bytes(memoryview(text))  # type: ignore[arg-type]
     except TypeError:
         hint = ("; pxplanes.from_file reads the text in a file" if isinstance(text, os.PathLike) else
                 "; what its read() answers is one" if hasattr(text, "read") else "")
@@ -131,4 +142,4 @@ def word_of(name: str, *numbers: int) -> str:
     """The word that a call writes."""
     room = Buffer("B", LONGEST_NAME)
     length = call(name)(*numbers, *room.given())
-    return bytes(room.room[:min(length, LONGEST_NAME)]).decode("ascii")
+    return room.room[:length].decode("ascii")

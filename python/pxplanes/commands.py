@@ -4,21 +4,19 @@ Refusals are those of the commands. A budget of clocks is compared with what the
 from __future__ import annotations
 
 import operator
-import re
 from typing import Any, Callable, Iterator, Optional
 
 from .apart import Progress
-from .arrays import Buffer
+from .arrays import Buffer, shaped
 from .calls import Text, asked, content
 from .errors import Limit, Malformed, OverBudget, Refused
 from .machine.sessions import words_of
 from .machine.states import State, clocks_of, state
 from .pictures import Picture, check
-from .running import colours, maps_of, numbers, ran, run, work_of
+from .running import run, scene_part
 from .scene import limits, scenes, texts
 
 FACTORS, WIDEST = (2, 4), 4096
-END = re.compile(rb"^[ \t\r]*end[ \t\r]*(#.*)?(\n|\Z)", re.MULTILINE)
 
 
 def scene_of(text: Text) -> Any:
@@ -46,7 +44,11 @@ def need_budget(budget: Optional[int], pictures: Callable[[], Iterator[Text]]) -
 def tidy(text: Text) -> str:
     """The canonical text of a scene (docs/SCENES.md, "Canonical text").
 
-    Raises `Malformed` and `Limit` by a bad line alone: not if the whole needs too much memory, or has too many products."""
+    Raises `Malformed` and `Limit` by a bad line alone: not if the whole needs too much memory, or has too many products.
+
+    >>> pxplanes.tidy("pxscene 1 # a corner\\npicture 2  2\\ndepth 4\\nsolid a 1 2 3\\nback 0 0 9\\nshow a\\nend").splitlines()[:2]
+    ['pxscene 1', 'picture 2 2']
+    """
     return run(text, "tidy").decode("ascii")
 
 
@@ -55,15 +57,16 @@ def tile(text: Text, width: int, height: int, clocks: Optional[int] = None, prog
     (docs/PICTURE.md, "Tiles").
 
     Raises, before anything is drawn, as `check` does of any tile, `Limit` of `tiles`, and `OverBudget` if all tiles together take more
-    than so many clocks. `progress` is as in `render`."""
+    than so many clocks. `progress` is as in `render`.
+
+    >>> int(pxplanes.tile(text, 130, 70).depths[16, 24])
+    320
+    """
     width, height = operator.index(width), operator.index(height)
     if not (1 <= width <= WIDEST and 1 <= height <= WIDEST):
         raise ValueError("a wide picture has 1 to %d columns and rows, and not %d by %d" % (WIDEST, width, height))
     need_budget(clocks, lambda: tiles_of(scene_of(text), width, height))
-    takes, pixels = work_of(text)
-    tiles = -(-width * height // pixels) if pixels else 0
-    written = ran(text, "tile %d %d" % (width, height), 2 * (3 * width * height + 20), (tiles * takes, pixels), progress)
-    depths, faces = (numbers(*each) for each in maps_of(written))
+    depths, faces = (numbers(*each) for each in maps_of(run(text, "tile %d %d" % (width, height), progress)))
     return Picture(depths, faces, width, height)
 
 
@@ -81,11 +84,16 @@ def refine(text: Text, factor: int, clocks: Optional[int] = None, progress: Opti
     """The refined image of a scene, each pixel the mean of `factor` by `factor` finer ones, 2 or 4 (docs/PICTURE.md,
     "Refinement"): red, green and blue from 0 to 255, of shape (height, width, 3).
 
-    Raises `Limit` if there is no finer scene, and as `colour` does of that."""
+    Raises `Limit` if there is no finer scene, and as `colour` does of that.
+
+    >>> pxplanes.refine(text, 2).shape
+    (32, 48, 3)
+    """
     if operator.index(factor) not in FACTORS:
         raise ValueError("a picture is refined by 2 or 4, and not by %d" % factor)
     need_budget(clocks, lambda: iter([texts.text_of(texts.finer(scene_of(text), operator.index(factor)))]))
-    return colours(*maps_of(ran(text, "refine %d" % factor, work=work_of(text, 2, factor ** 2), progress=progress))[0])
+    (wide, high, body), = maps_of(run(text, "refine %d" % factor, progress))
+    return shaped(memoryview(bytearray(body)), "B", (high, wide, 3))
 
 
 def shadow(text: Text, clocks: Optional[int] = None, progress: Optional[Progress] = None) -> Any:
@@ -95,17 +103,35 @@ def shadow(text: Text, clocks: Optional[int] = None, progress: Optional[Progress
     Raises as the command refuses; `clocks` and `progress` are as in `render`, and the budget counts the scene's own passes."""
     scene = scene_part(content(text))
     need_budget(clocks, lambda: iter([scene]))
-    return numbers(*maps_of(ran(text, "shadow", work=work_of(scene, 2), progress=progress))[0])
+    return numbers(*maps_of(run(text, "shadow", progress))[0])
 
 
-def scene_part(text: bytes) -> bytes:
-    """The lines up to the first whose one word is `end`."""
-    end = END.search(text)
-    return text[:end.end()] if end else text
+def maps_of(output: bytes) -> list[tuple[int, int, memoryview]]:
+    """The columns, the rows and the bytes of each pixel map that a command wrote."""
+    found, rest = [], memoryview(output)
+    while rest:
+        head = bytes(rest[:32]).split(b"\n", 3)
+        width, height = map(int, head[1].split())
+        begin, size = sum(map(len, head[:3])) + 3, 3 * width * height
+        found.append((width, height, rest[begin:begin + size]))
+        rest = rest[begin + size:]
+    return found
+
+
+def numbers(width: int, height: int, body: memoryview) -> Any:
+    """The numbers of a map with three bytes for each, the highest first."""
+    flat = bytearray(4 * width * height)
+    for place, byte in enumerate((2, 1, 0)):
+        flat[byte::4] = body[place::3]
+    return shaped(memoryview(flat), "I", (height, width))
 
 
 def listing(text: Text) -> str:
-    """The listing of a scene's passes (docs/LISTINGS.md). Raises as `check` does."""
+    """The listing of a scene's passes (docs/LISTINGS.md). Raises as `check` does.
+
+    >>> pxplanes.listing(text).splitlines()[:3]
+    ['pxlist 1', 'grid 6 5', 'all']
+    """
     return run(text, "list").decode("ascii")
 
 

@@ -2,13 +2,20 @@
 from __future__ import annotations
 
 import operator
-from typing import Any, NamedTuple, Optional
+import os
+from typing import TYPE_CHECKING, Any, NamedTuple, Optional, Union
 
 from .apart import Progress
-from .arrays import Buffer, rows
+from .arrays import Buffer, rows, shaped
 from .calls import Found, Text, asked, word_of
 from .errors import OverBudget
-from .filling import filled
+from .running import filled
+
+if TYPE_CHECKING:
+    import numpy as np
+    from numpy.typing import NDArray
+
+    from .compare.comparing import Comparison
 
 
 class Cost(NamedTuple):
@@ -29,8 +36,8 @@ class Picture(NamedTuple):
     `depths` counts cells from the eye; the background has the far limit, `2**W - 1`. `faces` has the number of the face that
     shows, from 1 on in the order of the text, and 0 for the background."""
 
-    depths: Any
-    faces: Any
+    depths: NDArray[np.uint32]
+    faces: NDArray[np.uint32]
     width: int
     height: int
 
@@ -47,9 +54,39 @@ class Picture(NamedTuple):
     def __hash__(self) -> int:
         raise TypeError("a Picture has no hash, since its arrays can be written")
 
+    def __reduce__(self) -> Any:
+        return restored, (*(bytes(each) if isinstance(each, memoryview) else each for each in self[:2]), *self[2:])
+
+    def compare(self, other: Picture, tolerance: float = 0) -> Comparison:
+        """How another picture of this size differs, as `pxplanes.compare` finds it; true if nothing differs.
+
+        >>> bool(pxplanes.render(text).compare(pxplanes.render(text)))
+        True
+        """
+        from .compare import comparing
+        return comparing.compare(self, other, tolerance)
+
+    def save(self, path: Union[str, "os.PathLike[str]"], what: str = "depths") -> None:
+        """Writes an image, in place of an older file: a PNG of the depths in greys, or of the faces in colours if `what` is
+        `faces`. A path that doesn't end in .png gets both `maps()`."""
+        from .image import netpbm, show
+        flat = [[number for row in rows(each) for number in row] for each in self[:2]]
+        if what not in ("depths", "faces"):
+            raise ValueError("what is 'depths' or 'faces', and not %r" % (what,))
+        colours = show.colours_of_faces(flat[1]) if what == "faces" else show.greys_of_depths(flat[0], [face != 0 for face in flat[1]])
+        with open(path, "wb") as file:
+            file.write(netpbm.png(self.width, self.height, colours, 1) if os.fspath(path).lower().endswith(".png") else self.maps())
+
     def maps(self) -> bytes:
         """Both maps as `pxplanes render` writes them: P6, three bytes a number, highest first."""
         return image(self.depths, self.width, self.height) + image(self.faces, self.width, self.height)
+
+
+def restored(depths: Any, faces: Any, width: int, height: int) -> Picture:
+    """A picture of what pickle kept of it."""
+    depths, faces = (shaped(memoryview(bytearray(each)), "I", (height, width)) if isinstance(each, bytes) else each
+                     for each in (depths, faces))
+    return Picture(depths, faces, width, height)
 
 
 def image(numbers: Any, width: int, height: int) -> bytes:
@@ -63,7 +100,11 @@ def image(numbers: Any, width: int, height: int) -> bytes:
 def check(text: Text) -> Cost:
     """What a scene is and takes, before anything of it is drawn.
 
-    Raises `Malformed` and `Limit` exactly where the program refuses the scene, and `MemoryError`."""
+    Raises `Malformed` and `Limit` exactly where the program refuses the scene, and `MemoryError`.
+
+    >>> pxplanes.check(text)
+    Cost(width=48, height=32, faces=10, operations=186, clocks=5396)
+    """
     _, found = asked("check", text)
     return Cost(found.width, found.height, found.faces, found.operations, found.clocks)
 
@@ -72,17 +113,27 @@ def render(text: Text, clocks: Optional[int] = None, progress: Optional[Progress
     """The depths and the faces of a scene. Raises as `check` does, and `OverBudget`, before anything is drawn, where it takes more
     than so many clocks. A picture that may take longer than some tenths of a second is drawn by a process of its own, which
     Ctrl-C ends; `progress` is called meanwhile, twenty times a second, with the seconds that have passed, and what it raises ends the
-    drawing too."""
+    drawing too.
+
+    >>> picture = pxplanes.render(text)
+    >>> int(picture.depths[16, 24]), int(picture.faces[16, 24])
+    (320, 9)
+    """
     (depths, faces), found = drawn("render", "II", text, clocks, progress)
     shape = found.height, found.width
     return Picture(depths.shaped(*shape), faces.shaped(*shape), found.width, found.height)
 
 
-def colour(text: Text, clocks: Optional[int] = None, progress: Optional[Progress] = None) -> Any:
+def colour(text: Text, clocks: Optional[int] = None, progress: Optional[Progress] = None) -> NDArray[np.uint8]:
     """The picture in the colours of its faces: red, green and blue from 0 to 255, of shape (height, width, 3), rows from the
-    top; the background is black. Raises as `render` does, with the same budget and progress."""
+    top; the background is black. Raises as `render` does, with the same budget and progress.
+
+    >>> [int(pxplanes.colour(text)[16, 24, part]) for part in range(3)]
+    [200, 60, 40]
+    """
     (rgb,), found = drawn("colour", "B", text, clocks, progress)
-    return rgb.shaped(found.height, found.width, 3)
+    shown: NDArray[np.uint8] = rgb.shaped(found.height, found.width, 3)
+    return shown
 
 
 def drawn(name: str, kinds: str, text: Text, clocks: Optional[int], progress: Optional[Progress]) -> tuple[list[Buffer], Found]:
@@ -99,11 +150,15 @@ def drawn(name: str, kinds: str, text: Text, clocks: Optional[int], progress: Op
 
 def products(text: Text) -> list[tuple[int, ...]]:
     """The kept products of a scene (docs/PICTURE.md, "Boxes and pruning"), each with its literals in order: the number of a
-    solid, from 1 on in the order of the text, with a minus where it is taken away. Raises as `check` does."""
+    solid, from 1 on in the order of the text, with a minus where it is taken away. Raises as `check` does.
+
+    >>> pxplanes.products(text)
+    [(1, -2), (3,)]
+    """
     (numbers,), _ = filled("products", "i", text)
     found: list[tuple[int, ...]] = []
     literals: list[int] = []
-    for number in numbers.room or ():
+    for number in numbers.numbers:
         if number:
             literals.append(number)
         else:

@@ -1,69 +1,107 @@
-"""The program's commands, by one call of the library: what they write, and why they do not."""
+"""Calls of a text that fill buffers, and the program's commands by one of them; in a process of their own if they may take long."""
 from __future__ import annotations
 
-from typing import Any, Optional
+import ctypes
+import re
+from typing import Any, Callable, Optional
 
 from .apart import Progress, called, is_long
-from .arrays import Buffer, shaped
-from .calls import NO_ROOM, Text, asked, content
+from .arrays import Buffer
+from .calls import NO_ROOM, OK, Found, FoundState, Text, asked, content
 from .errors import Refused
-from .pictures import check
 
+Work = Callable[[Found], "tuple[int, int]"]
 # Room for the output of a command that is no wide picture and no listing's: as many bytes as two pixel maps of 512 by 512 have.
 ROOM = 2 * (3 * 512 * 512 + 20)
+# How often a command draws the picture of its scene.
+DRAWN = {"render": 1, "colour": 1, "list": 1, "tile": 1, "refine": 2, "shadow": 2, "debug": 1}
+# Planes that a state has: the bits of memory, three registers, the leaves, and four that the nodes fill.
+PLANES = 80
+END = re.compile(rb"^[ \t\r]*end[ \t\r]*(#.*)?(\n|\Z)", re.MULTILINE)
 
 
-def run(text: Text, words: str = "render") -> bytes:
+def no_work(found: Found) -> tuple[int, int]:
+    """Of a call that makes no clocks."""
+    return 0, 0
+
+
+def done(name: str, text: Text, before: tuple[Any, ...], buffers: list[Buffer], behind: tuple[Any, ...] = (),
+         work: tuple[int, int] = (0, 0), progress: Optional[Progress] = None) -> tuple[int, Found]:
+    """What a call finds, as `asked` gives it, if it makes so many clocks of so many pixels."""
+    if is_long(*work):
+        return called(name, content(text), before, buffers, behind, progress)
+    return asked(name, text, *before, *(word for each in buffers for word in each.given()), *behind)
+
+
+def filled(name: str, kinds: str, text: Text, *before: Any, behind: tuple[Any, ...] = (), work: Work = no_work,
+           progress: Optional[Progress] = None) -> tuple[list[Buffer], Found]:
+    """The buffers of a call, one of each kind, which it filled. By what it found, where it was asked for their size, `work` gives
+    how many clocks it makes of how many pixels, or raises."""
+    buffers = [Buffer(kind, 0) for kind in kinds]
+    status, found = asked(name, text, *before, *[None, 0] * len(kinds), *behind)
+    while status != OK:
+        buffers = [Buffer(kind, found.room) for kind in kinds]
+        status, found = done(name, text, before, buffers, behind, work(found), progress)
+    return buffers, found
+
+
+def run(text: Text, words: str = "render", progress: Optional[Progress] = None) -> bytes:
     """What the program writes for the words of a command, as `tile 1024 768`, with the text as its standard input.
 
     Raises `Malformed`, `Limit` and `NoCommand`, each a `Refused`: `status` is the one with which the program ends, and `said` what
-    it writes to its standard error."""
-    return ran(text, words)
+    it writes to its standard error. Ctrl-C and `progress` end it as they end `render`.
 
-
-def ran(text: Text, words: str, room: int = ROOM, work: tuple[int, int] = (0, 0), progress: Optional[Progress] = None) -> bytes:
-    """The same, if so much room is likely enough; in a process of its own, with `progress` called, if it makes so many clocks of so
-    many pixels that it may take long."""
-    given, status, out = words.encode(), NO_ROOM, Buffer("B", 0)
+    >>> run("", "sample 1")
+    b'shown 9\\ndepths 2111\\nproducts 1\\nclocks 3133\\n'
+    """
+    if not isinstance(words, str):
+        raise TypeError("the words of a command are a str, and no %s" % type(words).__name__)
+    given, work, status = words.encode(), work_of(text, words), NO_ROOM
+    command, numbers = parted(words)
+    room = 2 * (3 * numbers[0] * numbers[1] + 20) if command == "tile" and len(numbers) == 2 else ROOM
     while status == NO_ROOM:
         out = Buffer("B", room)
-        if is_long(*work):
-            status, found = called("run", content(text), (given, len(given)), [out], (), progress)
-        else:
-            status, found = asked("run", text, given, len(given), *out.given())
+        status, found = done("run", text, (given, len(given)), [out], work=work, progress=progress)
         room = found.room
-    return bytes(memoryview(out.room or b"").cast("B")[:room])
+    return bytes(memoryview(out.room)[:room])
 
 
-def work_of(text: Text, clocks: int = 1, pixels: int = 1) -> tuple[int, int]:
-    """Clocks and pixels of so many times the picture of a text; none where it has none, and is refused."""
+def parted(words: str) -> tuple[str, list[int]]:
+    """The first word of a command, and those behind it that are numbers as it takes them."""
+    command, *others = words.split() or ["render"]
+    return command, [int(each) for each in others if re.fullmatch("[1-9][0-9]{0,3}", each)]
+
+
+def work_of(text: Text, words: str) -> tuple[int, int]:
+    """At most how many clocks of how many pixels a command makes; none of a text that it refuses."""
+    command, numbers = parted(words)
+    data = content(text)
+    scene = scene_part(data)
     try:
-        cost = check(text)
+        if command == "play":
+            words_of_state = asked("state", data, 0, None, 0, ctypes.byref(FoundState()))[1].room
+            return int(asked("micros", data, 0, None, 0)[1].clocks), pixels_of(words_of_state)
+        if command not in DRAWN:
+            return 0, 0
+        found = asked("check", scene)[1]
     except Refused:
         return 0, 0
-    return clocks * cost.clocks, pixels * cost.width * cost.height
+    pixels, times = found.width * found.height, DRAWN[command]
+    if command == "tile" and len(numbers) == 2:
+        times = -(-numbers[0] // found.width) * -(-numbers[1] // found.height)
+    elif command == "refine" and numbers:
+        pixels *= numbers[0] ** 2
+    elif command == "debug":
+        times += data.count(b"\n", len(scene))
+    return times * found.clocks, pixels
 
 
-def maps_of(output: bytes) -> list[tuple[int, int, memoryview]]:
-    """The columns, the rows and the bytes of each pixel map that a command wrote."""
-    found, rest = [], memoryview(output)
-    while rest:
-        head = bytes(rest[:32]).split(b"\n", 3)
-        width, height = map(int, head[1].split())
-        begin, size = sum(map(len, head[:3])) + 3, 3 * width * height
-        found.append((width, height, rest[begin:begin + size]))
-        rest = rest[begin + size:]
-    return found
+def pixels_of(words: int) -> int:
+    """About how many pixels a state of so many words has."""
+    return 64 * words // PLANES
 
 
-def numbers(width: int, height: int, body: memoryview) -> Any:
-    """The numbers of a map with three bytes for each, the highest first."""
-    flat = bytearray(4 * width * height)
-    for place, byte in enumerate((2, 1, 0)):
-        flat[byte::4] = body[place::3]
-    return shaped(memoryview(flat), "I", (height, width))
-
-
-def colours(width: int, height: int, body: memoryview) -> Any:
-    """Its bytes as red, green and blue."""
-    return shaped(memoryview(bytearray(body)), "B", (height, width, 3))
+def scene_part(text: bytes) -> bytes:
+    """The lines up to the first whose one word is `end`."""
+    end = END.search(text)
+    return text[:end.end()] if end else text

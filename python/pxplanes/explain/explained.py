@@ -5,6 +5,7 @@ import operator
 from typing import Any, NamedTuple, Optional
 
 from ..apart import Progress
+from ..arrays import rows
 from ..calls import Text, content
 from ..errors import OverBudget, Refused
 from ..pictures import check, render
@@ -85,7 +86,7 @@ def judge_of(clocks: Optional[int], progress: Optional[Progress]) -> Any:
 
         def faces(self, text: bytes, scene: Any) -> tuple[Any, str]:
             try:
-                return memoryview(render(text, clocks, progress).faces).cast("B").cast("I").tolist(), ""
+                return [face for row in rows(render(text, clocks, progress).faces) for face in row], ""
             except OverBudget as error:
                 return None, "not drawn: %s" % error
 

@@ -5,11 +5,15 @@ import ctypes
 import operator
 from typing import NamedTuple, Optional
 
+from ..arrays import Buffer
 from ..calls import FoundOperation, Text, asked
 from ..errors import NoOperation
+from ..running import done
 
 KINDS = ("all", "keep-sign", "keep-bit", "load-linear", "keep-at-most", "add-linear", "load-const", "set-bit", "toggle", "copy",
          "keep-less")
+# An operation that is passed over takes as long as so many clocks that are.
+CLOCKS = 4
 ROLES = ("start", "open", "candidate", "drop", "clear", "front", "confirm", "begin", "turn", "close", "merge")
 
 
@@ -46,14 +50,18 @@ def told(found: FoundOperation) -> Operation:
 def course(text: Text, first: int = 0, count: Optional[int] = None) -> list[Operation]:
     """The operations of a scene or of a listing: `count` of them from operation `first` on, or all from there.
 
-    Raises `Malformed`, `Limit` and `MemoryError`, and `NoOperation` where the text has fewer."""
+    Raises `Malformed`, `Limit` and `MemoryError`, and `NoOperation` where the text has fewer.
+
+    >>> [str(each) for each in pxplanes.course(text, 0, 1)], len(pxplanes.course(text))
+    (['all'], 186)
+    """
     first, operations = operator.index(first), operations_of(text)
     count = operations - first if count is None else operator.index(count)
     if not (0 <= first and 0 <= count and first + count <= operations):
         raise NoOperation(operations)
-    room = (FoundOperation * count)()
-    asked("course", text, first, ctypes.cast(room, ctypes.c_void_p) if count else None, count)
-    return [told(found) for found in room]
+    room = Buffer("operations", count, ctypes.sizeof(FoundOperation))
+    done("course", text, (first,), [room], work=(CLOCKS * (first + count), 0))
+    return [told(found) for found in (FoundOperation * count).from_buffer(room.room)]
 
 
 def operations_of(text: Text) -> int:

@@ -10,7 +10,7 @@ from typing import Any, Iterable, Iterator, NamedTuple, Optional, Union
 from ..arrays import Buffer, spread, weighed
 from ..calls import Found, FoundState, Text, answered, asked
 from ..errors import NoClock
-from ..filling import filled
+from ..running import done, filled, pixels_of
 
 REGISTERS = ("enable", "carry", "latch", "leaf")
 ACTS = ("nop", "enable-all", "enable-carry", "enable-tree", "enable-bit", "set-carry", "fetch", "store-tree", "store-latch",
@@ -20,8 +20,6 @@ WITH_PLACE = frozenset(("enable-bit", "fetch", "store-tree", "store-latch", "sto
 WITH_VALUE = frozenset(("enable-carry", "enable-tree", "enable-bit", "set-carry", "store-const"))
 TREES = ("hold", "clear", "feed")
 ENDLESS = 1 << 64
-# Planes that a state has: the bits of memory, three registers, the leaves, and four that the nodes fill.
-PLANES = 80
 
 
 class Micro(NamedTuple):
@@ -89,6 +87,13 @@ class State:
     def __repr__(self) -> str:
         return "<pxplanes.State: clock %d of %d, %d by %d pixels of %d bits>" % (
             self.clock, self.clocks, self.grid_width, self.grid_height, self.bits)
+
+    def __eq__(self, other: object) -> bool:
+        """Whether both grids have one size and all bits are alike, whatever clock of which text either stands at."""
+        if not isinstance(other, State):
+            return NotImplemented
+        return ((self.grid_width, self.grid_height) == (other.grid_width, other.grid_height)
+                and bytes(self.words) == bytes(other.words))
 
     def __getstate__(self) -> dict[str, Any]:
         return dict(self.__dict__, words=bytes(self.words))
@@ -161,16 +166,22 @@ def state(text: Text, clock: int) -> State:
     """The state of a scene, or of a listing, after so many clocks, from 0 on.
 
     Raises `Malformed`, `Limit` and `MemoryError`, and `NoClock` for a clock that is below 0 or past the last. Ctrl-C ends it, as it
-    ends `render`."""
+    ends `render`.
+
+    >>> pxplanes.state(text, 1000)
+    <pxplanes.State: clock 1000 of 5396, 64 by 32 pixels of 72 bits>
+    >>> pxplanes.clocked(pxplanes.state(text, 1000), pxplanes.micros(text, 1000, 500)) == pxplanes.state(text, 1500)
+    True
+    """
     found, clock = FoundState(), operator.index(clock)
     if not 0 <= clock < ENDLESS:
         raise NoClock(clocks_of(text))
 
     def work(due: Found) -> tuple[int, int]:
-        return clock, 64 * due.room // PLANES
+        return clock, pixels_of(due.room)
 
     (words,), _ = filled("state", "Q", text, clock, behind=(ctypes.byref(found),), work=work)
-    return State(found, memoryview(words.room).cast("B").cast("Q"))
+    return State(found, words.numbers)
 
 
 def pixels(text: Text, x: int, y: int, first: int, count: int) -> list[Pixel]:
@@ -191,14 +202,15 @@ def clocked(before: State, micros: Iterable[Micro]) -> State:
     is a state that was kept. What comes next is not known of it: `operation`, `operation_clock` and `next` are None.
 
     Raises `NoMicro` for the first that names a place past the memory."""
+    if not isinstance(before, State):
+        raise TypeError("a State is wanted, and no %s" % type(before).__name__)
     count = list(micros)
     words, given = Buffer("Q", len(before.words)), Buffer("Q", len(count))
-    memoryview(words.room).cast("B").cast("Q")[:] = before.words
-    if count:
-        memoryview(given.room).cast("B").cast("Q")[:] = array.array("Q", map(packed, count))
+    words.numbers[:] = before.words
+    given.numbers[:] = array.array("Q", map(packed, count))
     answered("clocks", *words.given(), before.grid_width, before.grid_height, *given.given())
     after = copy.copy(before)
-    after.words = memoryview(words.room).cast("B").cast("Q")
+    after.words = words.numbers
     after.clock += len(count)
     after.operation = after.operation_clock = after.next = None
     return after
@@ -207,15 +219,19 @@ def clocked(before: State, micros: Iterable[Micro]) -> State:
 def micros(text: Text, first: int, count: int) -> list[Micro]:
     """The microinstructions of so many clocks of a scene or of a listing, those from `first` on.
 
-    Raises as `state` does, `NoClock` where the text has fewer clocks."""
+    Raises as `state` does, `NoClock` where the text has fewer clocks.
+
+    >>> str(pxplanes.micros(text, 0, 1)[0])
+    'hold enable-all'
+    """
     first, count = operator.index(first), operator.index(count)
     if not (0 <= first and 0 <= count and first + count < ENDLESS):
         raise NoClock(clocks_of(text))
     if first + count > (clocks := clocks_of(text)):
         raise NoClock(clocks)
     room = Buffer("Q", count)
-    asked("micros", text, first, *room.given())
-    return [micro for number in room.room or () if (micro := unpacked(number)) is not None]
+    done("micros", text, (first,), [room], work=(first + count, 0))
+    return [micro for number in room.numbers if (micro := unpacked(number)) is not None]
 
 
 def clocks_of(text: Text) -> int:

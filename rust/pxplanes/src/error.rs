@@ -1,8 +1,9 @@
 use pxplanes_sys as sys;
 use std::fmt;
 
-/// Why there is no answer.
+/// Why there is no answer. A later version may have more reasons, so a `match` has an arm for the others.
 #[derive(Clone, Debug, PartialEq, Eq)]
+#[non_exhaustive]
 pub enum Error {
     /// The text is no scene, or no listing: its first bad line, and the word of the cause.
     Malformed {

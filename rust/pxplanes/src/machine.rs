@@ -2,12 +2,23 @@ use crate::error::{filled, refusal, Result};
 use pxplanes_sys as sys;
 
 /// The machine after some clocks of a scene or of a listing: a value, to keep and to clone. Going back is a clone that was kept.
-#[derive(Clone, Debug, PartialEq, Eq)]
+///
+/// Two are equal if their grids have one size and all bits are alike, whatever clock of which text either stands at.
+#[derive(Clone, Debug)]
 pub struct State {
     /// Where the machine stood when it was asked for; clocks made since do not change it.
     pub moment: sys::Moment,
     words: Vec<u64>,
 }
+
+impl PartialEq for State {
+    fn eq(&self, other: &State) -> bool {
+        let size = |state: &State| (state.moment.grid_width, state.moment.grid_height);
+        size(self) == size(other) && self.words == other.words
+    }
+}
+
+impl Eq for State {}
 
 impl State {
     /// The machine after the first `clock` clocks of a text.
