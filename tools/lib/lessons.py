@@ -1,4 +1,4 @@
-"""The exercises of docs/LESSON.md with their answers, and at which scene and clock the studio opens each. It is no tool
+"""The exercises of docs/LESSON_HANDOUT.md with their answers, and at which scene and clock the studio opens each. It is no tool
 itself."""
 import os
 import re
@@ -7,7 +7,7 @@ from typing import Any
 from pxplanes import ends
 from pxplanes.machine import sessions
 
-LESSON, ANSWERS = (os.path.join(ends.TOP, "docs", leaf) for leaf in ("LESSON.md", "LESSON_ANSWERS.md"))
+HANDOUT, ANSWERS = (os.path.join(ends.TOP, "docs", leaf) for leaf in ("LESSON_HANDOUT.md", "LESSON_ANSWERS.md"))
 QUESTION = re.compile(r"^\*\*Exercise (\d+)\.\*\* (.*?)(?=\n\n|\n*\Z)", re.M | re.S)
 ANSWER = re.compile(r"^(\d+)\. (.*?)(?=^\d+\. |\Z)", re.M | re.S)
 HEADING = re.compile(r"^## (.*)$", re.M)
@@ -59,12 +59,12 @@ def shown(number: int | str, part: str, question: str, answer: str, place: Place
 
 def exercises() -> list[dict[str, Any]]:
     """What the page shows of each exercise that has a place; its own one is the first."""
-    lesson, answered = (ends.content(path).decode() for path in (LESSON, ANSWERS))
+    asked, answered = (ends.content(path).decode() for path in (HANDOUT, ANSWERS))
     answers = {int(number): re.sub(r"^   ", "", said, flags=re.M).strip() for number, said in ANSWER.findall(answered)}
     found = [shown("", OWN["part"], OWN["question"], OWN["answer"], Place(TRIANGLE, 271, "enable", (7, 8)))]
-    for match in QUESTION.finditer(lesson):
+    for match in QUESTION.finditer(asked):
         number = int(match.group(1))
         if number in PLACES:
-            part = HEADING.findall(lesson, 0, match.start())[-1]
+            part = HEADING.findall(asked, 0, match.start())[-1]
             found.append(shown(number, part, " ".join(match.group(2).split("\n")), answers[number], PLACES[number]))
     return found
