@@ -1,5 +1,4 @@
 """The diagrams of the documents as SVG, with the names that the sources and documents have. It is no tool itself."""
-import os
 import re
 
 from pxplanes import ends
@@ -14,7 +13,7 @@ HEAD = ('<svg xmlns="http://www.w3.org/2000/svg" viewBox="0 0 %d %d" width="%d" 
 
 
 def source(path: str) -> str:
-    return ends.content(os.path.join(ends.TOP, path)).decode()
+    return ends.content("%s/%s" % (ends.TOP, path)).decode()
 
 
 def found(pattern: str, path: str) -> list[str]:
