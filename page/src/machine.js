@@ -219,7 +219,7 @@ export class Machine {
       return Object.values(groups);
     };
     at("view").replaceChildren(...groupsOf());
-    at("beside").replaceChildren(new Option("nothing beside it", ""), ...groupsOf());
+    at("beside").replaceChildren(new Option("nothing next to it", ""), ...groupsOf());
   }
 
   // The bits of the memory that a text uses: the fields of a scene, or what the operations of a listing name.

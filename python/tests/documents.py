@@ -1,7 +1,8 @@
-"""The documents beside what they speak of: their links, the headings, places and options that they name, their tables of commands,
+"""The documents compared with what they speak of: their links, the headings, places and options that they name, their tables of commands,
 statuses, causes, limits and clocks, and which of their blocks are runs. Tests use it.
 
 Each check yields what is wrong, a line each. Sources are read as text, by the few forms that stand there."""
+import argparse
 import functools
 import math
 import os
@@ -57,6 +58,8 @@ OWN_TROUBLE = "1"
 # What a document names, and a command that stands beside it makes.
 MADE = ("examples/c/draw",)
 MOST_WORDS = 800
+# The words that a paragraph and a cell of a table may have.
+PARAGRAPH_WORDS, CELL_WORDS = 90, 30
 # Words that documents do without, each with the plain one. They may be quoted, and headings that sources name keep theirs.
 PLAIN = (
     (r"behind (?:a|the|its|their|each|every|that|this)? ?(?:end|gate|clock|scene|lines?|text|words?|feed|header|proofs?|step)\b", "after"),
@@ -67,8 +70,7 @@ PLAIN = (
     (r"\bno(?:ne| \w+) but\b", "only"), (r"\bgo(?:es)? by\b", "uses"), (r"\bwhat is left\b", "the rest"),
     (r"\bstands? (?:in|there|below|above|whole|as)\b", "is"), (r"\bat hand\b", "available"), (r"\bhands? (?:on|over)\b", "passes"))
 # Documents that are not yet held to it.
-NOT_YET_PLAIN = re.compile(r"(?:crates/px_\w+|debian|page|page/library|rtl|suite|tools)/README\.md|"
-                           r"docs/(?:COMPARE|DEBUGGER|INSTALL|LEAGUE|MODELLING|RTL|SCALE|STUDIO)\.md")
+NOT_YET_PLAIN = re.compile(r"rtl/README\.md|docs/(?:MODELLING|RTL)\.md")
 # Options of programs of others that documents name by themselves.
 OF_OTHERS = ("--projection=o", "--camera", "--sshlogin", "--viewall", "--autocenter", "--imgsize", "--preview", "--loader")
 
@@ -199,7 +201,7 @@ def options_of(tool):
 def options_in(parser):
     """The options of a parser and of those below it."""
     found = {option for action in parser._actions for option in action.option_strings}
-    below = [each for action in parser._actions if isinstance(action.choices, dict) for each in action.choices.values()]
+    below = [each for action in parser._actions if isinstance(action, argparse._SubParsersAction) for each in action.choices.values()]
     return found.union(*map(options_in, below))
 
 
@@ -426,8 +428,19 @@ def wrong_words():
                 yield "%s: %r; better is %r" % (leaf, found.group(), plain)
 
 
+def wrong_lengths():
+    """A paragraph, or an item of a list, or a cell of a table, that is too long to be read at once."""
+    for leaf in names():
+        for part in () if NOT_YET_PLAIN.fullmatch(leaf) else re.split(r"\n\s*\n|\n(?= *(?:[-*]|\d+\.) |\|)", prose(leaf)):
+            is_row = part.lstrip().startswith("|")
+            most = CELL_WORDS if is_row else PARAGRAPH_WORDS
+            for text in re.split(r"(?<!\\)\|", part) if is_row else [part]:
+                if len(text.split()) > most:
+                    yield "%s: %d words, and %d may be: %s .." % (leaf, len(text.split()), most, " ".join(text.split()[:8]))
+
+
 CHECKS = {"links of documents": wrong_links, "headings that are named": wrong_headings, "places in documents": wrong_places,
           "options in documents": wrong_options, "blocks of documents": wrong_blocks, "commands in documents": wrong_commands,
           "statuses in documents": wrong_statuses, "causes in documents": wrong_causes, "limits in documents": wrong_limits,
           "clocks of operations": wrong_clocks, "forms of lines": wrong_operations, "tools in their list": wrong_lists, "times in documents": wrong_times, "rooms of crates": wrong_rooms,
-          "words of README": wrong_size, "plain words": wrong_words}
+          "words of README": wrong_size, "plain words": wrong_words, "lengths of paragraphs": wrong_lengths}

@@ -97,19 +97,13 @@ def test_claps_of_the_lesson(built):
         assert (int(clap), tuple(shown)) == (number + 1, rows[number] + rows[number + 1])
 
 
-def test_exercises_of_the_lesson():
+def test_exercises_of_the_handout():
     """Each exercise has its number, and an answer."""
-    texts = [content(TOP, leaf).decode() for leaf in (LESSON, ANSWERS)]
+    texts = [content(TOP, leaf).decode() for leaf in (HANDOUT, ANSWERS)]
     numbers = [[int(number) for number in re.findall(pattern, text, re.M)]
                for pattern, text in zip((r"^\*\*Exercise (\d+)\.", r"^(\d+)\. "), texts)]
     wanted = list(range(1, len(EXERCISE.findall(texts[0])) + 1))
     assert wanted and numbers == [wanted, wanted]
-
-
-def test_exercises_of_the_handout():
-    """The handout has each exercise as the lesson has it."""
-    lesson, handout = ([found.group() for found in EXERCISE.finditer(content(TOP, leaf).decode())] for leaf in (LESSON, HANDOUT))
-    assert lesson and handout == lesson
 
 
 def quotes_of_the_gallery():

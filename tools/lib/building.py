@@ -172,7 +172,7 @@ def run(words, folder, copy):
     if status != 0:
         raise Trouble("%s: %s" % (os.path.basename(words[0]), (said.strip() or "status %d" % status).split("\n")[-1][:200]))
     if not kept:
-        raise Trouble("rattle handed no module to clang; this is another kit than web/README.md tells of")
+        raise Trouble("rattle handed no module to clang; this is not the kit that page/library/README.md describes")
     return said
 
 
@@ -242,7 +242,7 @@ class Proved:
             return None, "\n".join(line for line in said.splitlines() if not TOLD_ANYWAY.search(line))
         if status != 0 or found is None:
             trouble = next((line for line in said.splitlines() if "error" in line), None)
-            raise Trouble(trouble[:300] if trouble else "%s: no line of what rattle says tells that it is proved" % crate)
+            raise Trouble(trouble[:300] if trouble else "%s: rattle prints no line that says that it is proved" % crate)
         return self.accepted(crate, found[0]), ""
 
     @staticmethod

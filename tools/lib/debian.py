@@ -29,7 +29,7 @@ LIBRARIES = os.path.join("lib", MULTIARCH)
 SAME = ("--sort=name", "--owner=root:0", "--group=root:0", "--format=gnu")
 CHANGELOG = """pxplanes (%s) unstable; urgency=medium
 
-  * CHANGES.md tells what is new.
+  * CHANGES.md says what is new.
 
  -- %s  %s
 """

@@ -1,4 +1,4 @@
-"""The exercises of docs/LESSON.md with their answers, and at which scene and clock the studio opens each. It is no tool
+"""The exercises of docs/LESSON_HANDOUT.md with their answers, and at which scene and clock the studio opens each. It is no tool
 itself."""
 import os
 import re
@@ -7,7 +7,7 @@ from typing import Any
 from pxplanes import ends
 from pxplanes.machine import sessions
 
-LESSON, ANSWERS = (os.path.join(ends.TOP, "docs", leaf) for leaf in ("LESSON.md", "LESSON_ANSWERS.md"))
+HANDOUT, ANSWERS = (os.path.join(ends.TOP, "docs", leaf) for leaf in ("LESSON_HANDOUT.md", "LESSON_ANSWERS.md"))
 QUESTION = re.compile(r"^\*\*Exercise (\d+)\.\*\* (.*?)(?=\n\n|\n*\Z)", re.M | re.S)
 ANSWER = re.compile(r"^(\d+)\. (.*?)(?=^\d+\. |\Z)", re.M | re.S)
 HEADING = re.compile(r"^## (.*)$", re.M)
@@ -38,14 +38,14 @@ PLACES = {1: Place(case("lesson_one_line"), 205, "leaf", (2, 1)), 2: Place(case(
           19: Place(case("lesson_comparison"), 393, "carry"), 20: Place(case("one_solid"), 0, "enable")}
 
 OWN = {"number": "", "part": "On this page alone", "question":
-       "Draw a triangle with three edges, and watch enable. Its text is open here, and the machine stands before the candidate that "
+       "Draw a triangle with three edges, and watch enable. Its text is open here, and the machine is just before the candidate that "
        "is seen in the end, face 2. Step by whole operations (the key m), and say before each which pixels will stay. How many of "
        "the 256 are enabled after each of the three sides? Why do two more edges follow, and what do they take away? What is "
        "different with face 1, whose candidate comes before? Then turn a side about, by the other sign of its three numbers.",
        "answer":
        "`all` enables 256 pixels, and the three sides leave 207, 143 and 112. Of the two further edges one asks whether the front "
-       "stands behind the near face, and the other whether it stands before the far limit: at 5 it does both everywhere, so they take "
-       "nothing away. Face 1 is the near face, at 0. It has the same sides, but it does not stand at or behind the front: that edge "
+       "is behind the near face, and the other whether it is before the far limit: at 5 both hold everywhere, so they take "
+       "nothing away. Face 1 is the near face, at 0. It has the same sides, but it is not at or behind the front: that edge "
        "leaves no pixel, and so nothing of it is written. A side with its three signs turned keeps what it left out, and what lies on "
        "the edge itself, where the form is 0."}
 
@@ -59,12 +59,12 @@ def shown(number: int | str, part: str, question: str, answer: str, place: Place
 
 def exercises() -> list[dict[str, Any]]:
     """What the page shows of each exercise that has a place; its own one is the first."""
-    lesson, answered = (ends.content(path).decode() for path in (LESSON, ANSWERS))
+    asked, answered = (ends.content(path).decode() for path in (HANDOUT, ANSWERS))
     answers = {int(number): re.sub(r"^   ", "", said, flags=re.M).strip() for number, said in ANSWER.findall(answered)}
     found = [shown("", OWN["part"], OWN["question"], OWN["answer"], Place(TRIANGLE, 271, "enable", (7, 8)))]
-    for match in QUESTION.finditer(lesson):
+    for match in QUESTION.finditer(asked):
         number = int(match.group(1))
         if number in PLACES:
-            part = HEADING.findall(lesson, 0, match.start())[-1]
+            part = HEADING.findall(asked, 0, match.start())[-1]
             found.append(shown(number, part, " ".join(match.group(2).split("\n")), answers[number], PLACES[number]))
     return found

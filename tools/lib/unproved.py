@@ -109,7 +109,7 @@ def named(text):
     text = re.sub(r'(?m)^define (?!internal )', "define internal ", text)
     calls = sorted(set(re.findall(r'@"%s::\w+::(pxplanes_\w+)"' % CRATE, text)))
     if not calls:
-        raise Trouble("rt try handed clang no call of the library; this is another kit than tools/lib/unproved.py tells of")
+        raise Trouble("rt try handed clang no call of the library; this is not the kit that tools/lib/unproved.py describes")
     for call in calls:
         text = re.sub(r'define internal ([^@\n]*)@"%s::\w+::%s"' % (CRATE, call), r"define \1@%s" % call, text)
         text = re.sub(r'@"%s::\w+::%s"' % (CRATE, call), "@" + call, text)

@@ -31,7 +31,7 @@ MEANINGS = {"colours": "the colours", "depths": "the depths, near is light", "fa
             "lights": "the lights that reach each pixel", "distances": "the distances, near is light"}
 # The program's command that makes what is shown of a scene.
 COMMANDS = {"colours": "colour", "depths": "render", "faces": "render", "lights": "shadow", "distances": "render"}
-SHADE = 0.3        # what is left of a colour that no light reaches
+SHADE = 0.3        # the rest of a colour that no light reaches
 REDIRECT = """<!DOCTYPE html>
 <meta charset="utf-8"><title>pxplanes</title><meta http-equiv="refresh" content="0; url=%s">
 """
@@ -51,7 +51,7 @@ class Picture(NamedTuple):
 def add_options(parser: argparse.ArgumentParser) -> None:
     parser.add_argument("file", metavar="FILE", nargs="?", help="a scene, a model, a listing, or pixel maps; - is standard input")
     parser.add_argument("-o", "--out", metavar="PNG", help="write a PNG picture; of two maps, one with -depth and one with -faces "
-                        "in its name; with --show distances a PFM file beside it")
+                        "in its name; with --show distances a PFM file next to it")
     parser.add_argument("--show", choices=WHATS, help="what to show (default: a scene's colours; both of two maps)")
     parser.add_argument("--lights", metavar="LIGHTS", help="with a scene: its colours in the light of these light lines (docs/SCENES.md, \"Light lines\")")
     parser.add_argument("--scene", metavar="SCENE", help="the scene of the maps, whose camera gives the distances")
