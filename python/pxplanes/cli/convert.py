@@ -140,7 +140,7 @@ def choices_of(options: argparse.Namespace) -> modelling.Choices:
 
 
 def modelled(options: argparse.Namespace) -> int:
-    """Writes the scene of a model, or several."""
+    """Writes the scene of a model, or its picture."""
     choices = choices_of(options)
     bound(options.seconds)
     if options.draw:

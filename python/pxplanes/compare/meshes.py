@@ -2,13 +2,16 @@
 
 The expression is a model (.csg, .scad or a mesh) or a scene; the result is a mesh in the same axes; of a scene in those of
 `pxplanes convert`. The program draws the expression from several sides, whole and through cuts across the axis; rays pass through
-the mesh at each pixel. What is smaller than a pixel of every picture is not seen."""
+the mesh at each pixel. How much is inside along all rays is compared too. What is smaller than a pixel of every picture is not seen."""
 from __future__ import annotations
 
 import os
-from typing import Any, Optional
+from typing import Any, NamedTuple, Optional
+
+import numpy as np
 
 from pxplanes import ends, program
+from pxplanes.compare import picture
 from pxplanes.errors import Trouble
 from pxplanes.mesh import mesh_files, modelling, verifying
 from pxplanes.mesh.verifying import ALIKE, MISSING, ROUNDING, TOO_MUCH
@@ -39,6 +42,30 @@ def sides_of(path: str, mesh: Any, count: int, size: tuple[int, int]) -> Any:
     return verifying.of_tree(tree, mesh, count, size)
 
 
+class Volume(NamedTuple):
+    """How many cells are inside along the rays of a side, of the expression and of the mesh, and by how many these may differ:
+    at each end of what is inside on a ray by what is rounded there."""
+
+    ours: int
+    theirs: int
+    room: float
+
+    def plus(self, other: Volume) -> Volume:
+        return Volume(self.ours + other.ours, self.theirs + other.theirs, self.room + other.room)
+
+
+def volume_of(side: Any) -> Volume:
+    """The volume along the rays of a side."""
+    scene, ours = picture.of_scene(side.scene, side.name), 0
+    for row in range(scene.height):
+        x = np.arange(scene.width)
+        found = picture.ends(scene, picture.RIGHT, x, np.full_like(x, row))
+        marks = np.sort(np.concatenate([found.first, found.end]).clip(0, scene.far), 0)
+        ours += int(np.diff(marks, axis=0)[picture.fold(scene.show, found, marks[:-1], False)[0]].sum())
+    spans = [span for y in range(scene.height) for x in range(scene.width) for span in side.crossings.cells(x, y, scene.far)]
+    return Volume(ours, sum(end - first for first, end in spans), 2 * side.near * len(spans))
+
+
 def row_of(found: Any, counts: dict[str, int]) -> str:
     return "%-10s %5s  %s" % (found.side.name, found.cut or "-", " ".join("%8d" % counts[word] for word in COUNTS))
 
@@ -59,23 +86,28 @@ def is_mesh(path: str) -> bool:
 
 def report(expression: str, result: str, sides: int = verifying.SIDES, cuts: int = verifying.CUTS, size: tuple[int, int] = verifying.SIZE,
            out: Optional[str] = None) -> int:
-    """Prints a row for each picture and the verdict: right, within rounding, or wrong with the first such pixel; the exit status.
+    """Prints a row for each picture, the volumes, and the verdict: right, or wrong with the first such pixel or by the volume;
+    the exit status.
 
     A model is drawn from so many sides, 1 to 100, and so many cuts from each, 0 to 100, in pictures of `size` pixels, 8 to 512 a
     side. A PNG of each picture with something wrong goes into the folder `out`: ours, theirs, and where the result misses
     something (red) or has too much (blue)."""
     draw, mesh = verifying.drawer(program.needed(None)), mesh_of(result)
-    whole, first = dict.fromkeys(COUNTS, 0), None
+    first, volume = None, Volume(0, 0, 0)
     print("%-10s %5s  %s" % ("side", "cut", " ".join("%8s" % word for word in COUNTS)))
     for found in verifying.seen(sides_of(expression, mesh, sides, size), cuts, draw):
         counts = {word: found.words.count(word) for word in COUNTS}
         print(row_of(found, counts))
-        whole = {word: whole[word] + counts[word] for word in COUNTS}
-        if verifying.verdict(counts) == "wrong":
+        if verifying.is_wrong(counts):
             first = first or told(found)
             if out:
                 verifying.leave(out, found)
+        if not found.cut:
+            volume = volume.plus(volume_of(found.side))
+    print("the volume: %d cells of ours, %d of theirs, which may differ by %.0f" % volume)
     for note in mesh.notes():
         print("the mesh: " + note)
-    print("%s%s" % (verifying.verdict(whole), ": " + first if first else ""))
+    if not first and abs(volume.ours - volume.theirs) > volume.room:
+        first = "the volumes differ"
+    print("wrong: " + first if first else "right")
     return 1 if first else 0

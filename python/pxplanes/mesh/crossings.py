@@ -49,13 +49,15 @@ class Crossings:
             self.spans_at[x, y] = out + ([(start, FOREVER)] if count > 0 else [])
         return self.spans_at[x, y]
 
+    def cells(self, x: float, y: float, far: int, cut: int = 0, grow: float = 0) -> list[tuple[int, int]]:
+        """The cells from `cut` up to `far` that are inside, from and to, each span longer by `grow` at both ends."""
+        found = ((max(cut, math.ceil(low - grow - WHOLE)), min(far, math.ceil(high + grow - WHOLE)))
+                 for low, high in self.spans(x, y))
+        return [(first, end) for first, end in found if first < end]
+
     def depth(self, x: float, y: float, cut: int, far: int, grow: float = 0) -> int:
-        """The first cell from `cut` on that stands inside, each span longer by `grow` at both ends; `far` for none."""
-        for low, high in self.spans(x, y):
-            first = max(cut, math.ceil(low - grow - WHOLE))
-            if first < min(far, math.ceil(high + grow - WHOLE)):
-                return first
-        return far
+        """The first of these cells; `far` for none."""
+        return next((first for first, _ in self.cells(x, y, far, cut, grow)), far)
 
 
 def piece_of(corners: Any, y: float) -> Any:
@@ -72,16 +74,6 @@ def piece_of(corners: Any, y: float) -> Any:
         return None
     (left, depth), (right, other) = sorted(ends.values())
     return left, right, depth, (other - depth) / (right - left), 1 if ends[True][0] < ends[False][0] else -1
-
-
-def open_edges(sides: Any) -> int:
-    """How many edges are not passed as often one way as the other."""
-    ways: dict[tuple[int, int], int] = {}
-    for side in sides:
-        for i, at in enumerate(side):
-            edge = side[i - 1], at
-            ways[edge] = ways.get(edge, 0) + 1
-    return sum(ways.get((b, a), 0) < count for (a, b), count in ways.items() if a != b)
 
 
 def outwards(points: kinds.Points, sides: Any) -> tuple[Any, bool]:

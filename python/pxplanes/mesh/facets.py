@@ -3,6 +3,7 @@ that is not. A facet is a list of the numbers of its points; a plane is the norm
 out of the solid, and its distance from the origin. Points are as exact as the digits that their file has."""
 from __future__ import annotations
 
+import collections
 import math
 from fractions import Fraction
 from typing import Any, Optional, Sequence
@@ -228,24 +229,15 @@ def flat_facets(points: kinds.Points, facets: kinds.Facets) -> list[Sequence[int
 
 def closed(facets: kinds.Facets) -> None:
     """`Trouble` where an edge is not between two facets."""
-    edges: dict[frozenset[int], int] = {}
-    for facet in facets:
-        for i, at in enumerate(facet):
-            edge = frozenset((at, facet[(i + 1) % len(facet)]))
-            edges[edge] = edges.get(edge, 0) + (len(edge) == 2)
-    if any(count % 2 for count in edges.values()):
+    edges = collections.Counter(frozenset((facet[i - 1], at)) for facet in facets for i, at in enumerate(facet))
+    if any(count % 2 for edge, count in edges.items() if len(edge) == 2):
         raise Trouble("is not closed")
 
 
-def is_turned_alike(facets: kinds.Facets) -> bool:
-    """Whether each edge is passed as often one way as the other."""
-    ways: dict[tuple[int, int], int] = {}
-    for facet in facets:
-        for i, at in enumerate(facet):
-            edge = at, facet[(i + 1) % len(facet)]
-            if edge[0] != edge[1]:
-                ways[edge] = ways.get(edge, 0) + 1
-    return all(ways.get((b, a)) == count for (a, b), count in ways.items())
+def open_edges(facets: kinds.Facets) -> int:
+    """How many edges are not passed as often one way as the other."""
+    ways = collections.Counter((facet[i - 1], at) for facet in facets for i, at in enumerate(facet))
+    return sum(ways[b, a] < count for (a, b), count in ways.items() if a != b)
 
 
 def volume(points: kinds.Points, facets: kinds.Facets) -> float:
@@ -456,7 +448,7 @@ def cells(points: kinds.Points, facets: kinds.Facets) -> list[Any]:
     and what is behind a facet and before none is inside. `Trouble` where the facets do not close it, or pass through
     one another, or where there are more parts than a scene has solids."""
     closed(facets)
-    if not is_turned_alike(facets):
+    if open_edges(facets):
         raise Trouble("is not convex, and its facets are not turned alike, so that its inside cannot be told")
     turned = facets if volume(points, facets) > 0 else [facet[::-1] for facet in facets]
     size, wide = extent(points)

@@ -204,13 +204,6 @@ def placed(point: kinds.Vector, matrices: Sequence[Optional[str]]) -> Any:
     return point
 
 
-def of_triangles(corners: kinds.Points) -> Any:
-    numbers: dict[tuple[float, ...], int] = {}
-    facets = [[numbers.setdefault(tuple(corner), len(numbers)) for corner in corners[i:i + 3]]
-              for i in range(0, len(corners), 3)]
-    return [list(point) for point in numbers], facets
-
-
 def raw_triangles(data: bytes) -> int:
     """How many triangles a raw STL file has, whatever its header says and whatever follows them; 0 where it is one of
     words."""
@@ -218,6 +211,11 @@ def raw_triangles(data: bytes) -> int:
     is_whole = 0 < count and len(data) >= 84 + 50 * count
     is_words = data[:5].lower() == b"solid" and b"vertex" in data[:2000].lower()
     return count if is_whole and (len(data) == 84 + 50 * count or not is_words) else 0
+
+
+def vertex_rows(data: bytes) -> list[list[bytes]]:
+    """The words after each vertex of an STL file of words."""
+    return [line.split()[1:4] for line in data.split(b"\n") if line.lstrip()[:6].lower() == b"vertex"]
 
 
 def soup(kind: str, data: bytes) -> Any:
@@ -231,9 +229,8 @@ def soup(kind: str, data: bytes) -> Any:
         form = numpy.dtype([("normal", "<f4", 3), ("corners", "<f4", (3, 3)), ("more", "<u2")])
         found = numpy.frombuffer(data, form, raw_triangles(data), 84)["corners"].astype(float)
     elif kind == "stl":
-        words = [line.split()[1:4] for line in data.split(b"\n") if line.lstrip()[:6].lower() == b"vertex"]
         try:
-            found = numpy.array(words, dtype=float).reshape(-1, 3, 3)
+            found = numpy.array(vertex_rows(data), dtype=float).reshape(-1, 3, 3)
         except ValueError:
             return None
     elif kind == "off" and b"#" not in data:
@@ -261,20 +258,17 @@ def read_stl(data: bytes) -> Any:
     """The mesh of an STL file, of words or raw."""
     if raw_triangles(data):
         count = min(raw_triangles(data), LARGEST + 1)
-        corners: list[Any] = [struct.unpack("<3f", data[84 + 50 * i + 12 * k:96 + 50 * i + 12 * k])
-                   for i in range(count) for k in (1, 2, 3)]
-        corners = [floats(corner, "a corner") for corner in corners]
+        corners = [floats(row[i:i + 3], "a corner")
+                   for row in struct.iter_unpack("<12x9f2x", data[84:84 + 50 * count]) for i in (0, 3, 6)]
     else:
-        lines = [line.split() for line in data.decode("latin-1").split("\n")]
-        lines = [line for line in lines if line]
-        if not lines or lines[0][0].lower() != "solid":
+        if data.lower().split(None, 1)[:1] != [b"solid"]:
             raise Trouble("this is no STL file")
-        corners = [floats(line[1:4], "a corner") for line in lines if line[0].lower() == "vertex"]
+        corners = [floats(row, "a corner") for row in vertex_rows(data)]
     if not corners or len(corners) % 3 or any(len(corner) != 3 for corner in corners):
         raise Trouble("the file has no whole triangles")
     if len(corners) > 3 * LARGEST:
         raise Trouble("the file has more than %d triangles" % LARGEST)
-    return of_triangles(corners)
+    return merged(corners, [range(i, i + 3) for i in range(0, len(corners), 3)])
 
 
 def read_gltf(data: bytes, folder: Optional[str] = None) -> Any:

@@ -244,13 +244,14 @@ def as_one(tree: kinds.Tree, view: Any, choices: Any, is_seen: bool = False) -> 
                          count_of(laid), count_of(met), what, sum(own.parts for own in met.values())))
             return fewer, met
     if fewer and products(fewer, met) > limits.MAX_PRODUCTS:
-        parts = packed(several(fewer, met, view, choices), choices)
-        if len(parts) == 1:
+        parts = in_windows(fewer, met, view, choices)
+        whole = solids.joined("+", [part for part, _ in parts])
+        own = {key: each for _, laid in parts for key, each in laid.items()}
+        if whole and is_within(whole, own, choices):
             ends.say("pxplanes convert", "its %d products are too many for a scene, so that it is drawn as the union "
-                                         "of what it is in %d "
-                     "parts of the picture; the picture is the same, and finer or wider ones are not"
-                     % (products(fewer, met), len(parts[0][0])))
-            return solids.joined("+", parts[0][0]), parts[0][1]
+                                         "of what it is in %d parts of the picture; the picture is the same, and "
+                                         "finer or wider ones are not" % (products(fewer, met), len(parts)))
+            return whole, own
     raise Trouble("the model makes no scene: %s; fewer facets or a smaller picture take less, and `--draw MAPS` draws "
                   "it by columns" %
                      too_much(fewer or tree, met if fewer else laid, choices))
@@ -268,44 +269,31 @@ def count_of(laid: Any) -> int:
     return sum(len(own.planes) for own in laid.values())
 
 
-def several(tree: kinds.Tree, laid: Any, view: Any, choices: Any, columns: Any = None) -> list[Any]:
-    """The trees of scenes whose nearer depths are the picture of a tree, and how each is laid out: the operands of a
-    union one after another, and what is too much for a scene by the planes that bound what is seen, then by halves of
-    the picture."""
+def in_windows(tree: kinds.Tree, laid: Any, view: Any, choices: Any, columns: Any = None) -> list[Any]:
+    """Trees whose union has the picture of a tree, each with how it is laid out: the operands of a union, and what has
+    too many products by the planes that bound what is seen, then by halves of the picture."""
     if is_within(tree, laid, choices):
         return [(tree, {id(solid): laid[id(solid)] for solid, _ in solids.leaves(tree)})]
     if isinstance(tree, tuple) and tree[0] == "+" and not columns:
-        parts = [own for part in operands(tree) for own in several(part, laid, view, choices)]
-        return [(solids.joined("+", trees), own) for trees, own in packed(parts, choices)]
+        return [own for part in operands(tree) for own in in_windows(part, laid, view, choices)]
     low, high = columns or (0, choices.size[0] - 1)
     part, own = restricted(tree, laid, view, choices, (low, high), True)
     if part is None or is_within(part, own, choices):
         return [(part, own)] if part else []
     if high - low < LEAST_COLUMNS:
-        raise Trouble("the model makes no scenes: in columns %d to %d alone, %s; fewer facets or a smaller picture "
-                      "take less" % (
-            low, high, too_much(part, own, choices)))
+        raise Trouble("the model makes no scene: in columns %d to %d alone, %s; fewer facets or a smaller picture "
+                      "take less" % (low, high, too_much(part, own, choices)))
     middle = (low + high) // 2
-    return [each for half in ((low, middle), (middle + 1, high)) for each in several(tree, laid, view, choices, half)]
+    halves = ((low, middle), (middle + 1, high))
+    return [each for half in halves for each in in_windows(tree, laid, view, choices, half)]
 
 
-def packed(parts: Any, choices: Any) -> list[Any]:
-    """Trees with how they are laid out, one after another as many together as a scene may have."""
-    out: list[Any] = []
-    for tree, laid in parts:
-        if out and is_within(("+", out[-1][0] + [tree]), {**out[-1][1], **laid}, choices):
-            out[-1][0].append(tree)
-            out[-1][1].update(laid)
-        else:
-            out.append(([tree], dict(laid)))
-    return out
-
-
-def text_of(tree: kinds.Tree, laid: Any, view: Any, choices: Any, counts: Any) -> tuple[str, Any]:
-    """The text of a tree's scene, and the worst rounding; `counts` has how many solids of each kind have a name."""
+def text_of(tree: kinds.Tree, laid: Any, view: Any, choices: Any) -> tuple[str, Any]:
+    """The text of a tree's scene, and the worst rounding."""
     (width, height), (depth, fraction) = choices.size, choices.bits
     lines = view.notes() + ["pxscene 3" if fraction else "pxscene 1", "picture %d %d" % (width, height),
                             "depth %d %d" % (depth, fraction) if fraction else "depth %d" % depth]
+    counts: dict[str, int] = {}
     names, worst = {}, (0, "")
     for solid, _ in solids.leaves(tree):
         counts[solid.kind] = counts.get(solid.kind, 0) + 1
@@ -319,7 +307,7 @@ def text_of(tree: kinds.Tree, laid: Any, view: Any, choices: Any, counts: Any) -
 def scene_of(tree: kinds.Tree, view: Any, choices: Any) -> tuple[str, Any]:
     """The text of the scene, and the worst rounding."""
     tree, laid = as_one(tree, view, choices)
-    return text_of(tree, laid, view, choices, {})
+    return text_of(tree, laid, view, choices)
 
 
 def checked(text: str) -> Any:
@@ -496,7 +484,7 @@ def made(name: str, choices: Any) -> tuple[str, Any]:
     view, wanted = flatter(tree, choices)
     looked_at(whole, view, choices)
     tree, laid = as_one(tree, view, choices, True)
-    text, worst = text_of(tree, laid, view, choices, {})
+    text, worst = text_of(tree, laid, view, choices)
     return text, (checked(text), view, worst, choices, wanted)
 
 
@@ -585,7 +573,7 @@ def drawn_as_one(tree: kinds.Tree, choices: Choices) -> Optional[bytes]:
         return None
     if not is_within(tree, laid, choices):
         return None
-    text, worst = text_of(tree, laid, view, choices, {})
+    text, worst = text_of(tree, laid, view, choices)
     tell(checked(text), view, worst, choices, wanted)
     status, output, note = program.answer(program.needed(None), ["render"], text.encode())
     if status != 0:

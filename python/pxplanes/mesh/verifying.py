@@ -1,5 +1,5 @@
-"""Holds a mesh beside the expression that it was made of: the program's pictures of the expression, from
-several sides and through cuts, beside rays through the mesh. What `verify` and `dev/league` judge by."""
+"""Compares a mesh with the expression that it was made of: the program's pictures of the expression, from several sides
+and through cuts, with rays through the mesh. `pxplanes compare` and `tools/dev/league` judge by it."""
 from __future__ import annotations
 
 import collections
@@ -11,7 +11,7 @@ from pxplanes import program
 from pxplanes.errors import Trouble
 from pxplanes.image import netpbm
 from pxplanes.mesh import facets, kinds, modelling, solids, views
-from pxplanes.mesh.crossings import Crossings, open_edges, outwards
+from pxplanes.mesh.crossings import Crossings, outwards
 from pxplanes.scene import scenes, texts
 
 SIZE, BITS, SIDES, CUTS = (64, 48), (12, 6), 6, 3
@@ -34,7 +34,7 @@ class Mesh:
     def __init__(self, points: kinds.Points, sides: Any) -> None:
         self.points = points
         self.sides, self.is_inwards = outwards(points, sides)
-        self.open_edges = open_edges(sides)
+        self.open_edges = facets.open_edges(sides)
         self.digit = 2 * facets.digit_of(points) * facets.extent(points)[0] if points else 0
 
     def seen(self, place: Any, cells: float) -> tuple[Crossings, float]:
@@ -125,11 +125,9 @@ def seen(sides: Any, cuts: int, draw: Any) -> Iterator[Seen]:
             yield looked(side, cut, draw(through(side.text, cut, side.scene)))
 
 
-def verdict(counts: Any) -> str:
-    """`right`, `within rounding` or `wrong`."""
-    if counts[MISSING] or counts[TOO_MUCH]:
-        return "wrong"
-    return "within rounding" if counts[ROUNDING] else "right"
+def is_wrong(counts: Any) -> bool:
+    """Whether a pixel differs by more than rounding."""
+    return bool(counts[MISSING] or counts[TOO_MUCH])
 
 
 def picture(found: Any) -> Any:

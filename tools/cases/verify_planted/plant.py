@@ -68,7 +68,7 @@ def main():
         words = ["compare", "frame.csg", written(name, changed(name)), "--size", "32", "24"] + ["--cuts", "0"] * name.endswith("cuts")
         done = subprocess.run(["./pxplanes"] + words, capture_output=True, text=True)
         lines = done.stdout.strip().split("\n")
-        rows = [list(map(int, line.split()[-4:])) for line in lines[1:-1] if not line.startswith("the mesh")]
+        rows = [list(map(int, line.split()[-4:])) for line in lines[1:-1] if not line.startswith("the ")]
         missing, much = (any(row[at] for row in rows) for at in (2, 3))
         print("%s: %s%s%s%s, status %d" % (name, lines[-1].split(":")[0], ", missing" * missing, ", too much" * much, "".join(
             ", " + line.split(":")[1].split(",")[0].strip() for line in lines if line.startswith("the mesh")), done.returncode))
