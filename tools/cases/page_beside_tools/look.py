@@ -6,7 +6,7 @@ import os
 import sys
 import tarfile
 
-sys.path[:0] = [os.path.join(os.getcwd(), "tools", "lib"), os.path.join(os.getcwd(), "python")]
+sys.path[:0] = [os.path.realpath(folder) for folder in ("page/tests", "python/tests", "python")]
 from pxplanes.errors import Trouble
 from pxplanes import ends
 from pxplanes.explain import explaining
@@ -18,8 +18,7 @@ from pxplanes import program
 from pxplanes.image import maps as images
 from pxplanes.scene import rays, scenes
 from browser import Browser
-
-cases = ends.script("dev/run_cases")
+import run_cases as cases
 BUILT, CASES, SCENE = os.environ["PROGRAM"], os.path.join("tools", "cases"), "cases/drilled_block_and_post"
 # The forms that the page reads, and files of them that it refuses by name: woven, with a palette, of single bits, by columns.
 ON_THE_PAGE, NOT_ON_THE_PAGE = (".pgm", ".ppm", ".pfm", ".npy", ".png"), ("woven.png", "palette.png", "one.png", "fortran.npy")

@@ -3,7 +3,7 @@ import base64
 import os
 import sys
 
-sys.path[:0] = [os.path.join(os.getcwd(), "tools", "lib"), os.path.join(os.getcwd(), "python")]
+sys.path[:0] = [os.path.join(os.getcwd(), "page", "tests"), os.path.join(os.getcwd(), "python")]
 from pxplanes import ends
 from pxplanes.machine import passes
 from pxplanes import program

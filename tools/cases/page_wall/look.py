@@ -5,7 +5,7 @@ import random
 import re
 import sys
 
-sys.path[:0] = [os.path.join(os.getcwd(), "tools", "lib"), os.path.join(os.getcwd(), "python")]
+sys.path[:0] = [os.path.join(os.getcwd(), "page", "tests"), os.path.join(os.getcwd(), "python")]
 from pxplanes import ends
 from pxplanes.image import netpbm
 from pxplanes.machine import passes
