@@ -7,8 +7,8 @@ import importlib.machinery
 import importlib.util
 import os
 import re
-import shutil
 import sys
+import tempfile
 from collections.abc import Callable, Iterable, Iterator, Sequence
 from typing import Any, NoReturn
 
@@ -53,14 +53,22 @@ def content(path: str | os.PathLike[str]) -> bytes:
 
 
 def replaced(path: str, content: bytes) -> None:
-    """Puts a new content into a file at one stroke: written beside it, and then renamed."""
-    beside = os.path.realpath(path) + ".new"
-    with open(beside, "wb") as out:
-        out.write(content)
-        out.flush()
-        os.fsync(out.fileno())
-    shutil.copymode(path, beside)
-    os.replace(beside, os.path.realpath(path))
+    """Writes a file whole or not at all: next to it, down to the disk, and then in its place, with the rights that it had."""
+    place, mask = os.path.realpath(path), os.umask(0o077)
+    os.umask(mask)
+    mode = os.stat(place).st_mode & 0o7777 if os.path.exists(place) else 0o666 & ~mask
+    handle, beside = tempfile.mkstemp(prefix=".px-", dir=os.path.dirname(place))
+    os.close(handle)
+    try:
+        with open(beside, "wb") as file:
+            file.write(content)
+            file.flush()
+            os.fchmod(file.fileno(), mode)
+            os.fsync(file.fileno())
+        os.replace(beside, place)
+    except BaseException:
+        os.unlink(beside)
+        raise
 
 
 def drop_output() -> None:
@@ -103,7 +111,7 @@ def run(tool: str, help_text: str | None, main: Callable[[list[str]], int]) -> N
 
 
 def script(leaf: str) -> Any:
-    """A script of tools/, or of tools/dev/, as a module: `show`, or `dev/run_cases`."""
+    """A script of tools/, or of tools/dev/, as a module: `package`, or `dev/bench`."""
     loader = importlib.machinery.SourceFileLoader(leaf.replace("/", "_"), os.path.join(TOP, "tools", leaf))
     spec = importlib.util.spec_from_loader(loader.name, loader)
     assert spec is not None

@@ -28,8 +28,8 @@ import pytest
 TOP = os.path.dirname(os.path.dirname(os.path.dirname(os.path.abspath(__file__))))
 sys.path[:0] = [os.path.join(TOP, "tools", "lib"), os.path.join(TOP, "python")]
 from pxplanes import ends
-from pxplanes.batch import groups
 from pxplanes.image import netpbm
+import sessions_of_tests
 
 CASES = os.path.join(TOP, "tools", "cases")
 SHARED = "PXPLANES_LIBRARY"
@@ -44,7 +44,7 @@ SKIPPED = {"built": "it wants a program that is proved", "archive": NO_LIBRARY, 
            "states": "there is no library for C with the calls for states; .ci/run builds it"}
 # The needs that tools/dev/build makes.
 OF_BUILDS = {"archive", "shared", "states"}
-RUNNING = groups.Groups()
+RUNNING = sessions_of_tests.Groups()
 # What runs of documents need, by what is in them.
 NEEDS = (("rtl/rtl ", ("iverilog", "yosys")), ("simulate-board", ("verilator", "numpy")), ("pxplanes compare", ("numpy",)),
          ("pxplanes suite", ("numpy",)), ("play_two_sums/stdin; printf", ("states",)))

@@ -36,8 +36,8 @@ def tree(tmp_path, built):
     """A repository with tools/check, one case and two tests, whose program is the one that is tried."""
     for folder in ("tools/lib", "python/pxplanes", "cases/one_solid"):
         shutil.copytree(os.path.join(TOP, folder), tmp_path / folder, ignore=shutil.ignore_patterns("__pycache__"))
-    for leaf in ("tools/check", "tools/dev/run_cases", "pyproject.toml", "conftest.py", "python/tests/conftest.py",
-                 "python/tests/support.py"):
+    for leaf in ("tools/check", "python/tests/run_cases.py", "pyproject.toml", "conftest.py", "python/tests/conftest.py",
+                 "python/tests/support.py", "python/tests/sessions_of_tests.py"):
         os.makedirs((tmp_path / leaf).parent, exist_ok=True)
         shutil.copy(os.path.join(TOP, leaf), tmp_path / leaf)
     (tmp_path / "python/tests/test_one.py").write_text(TEST)

@@ -10,6 +10,7 @@ from pathlib import Path
 
 import counted
 import pytest
+import run_cases
 import support
 from pxplanes import ends
 
@@ -87,7 +88,7 @@ def files_below(folder: str) -> Iterator[tuple[str, bytes]]:
 
 
 def test_cases(under: counted.Counted) -> None:
-    read_case: Callable[[str], tuple[list[bytes], bytes, object]] = ends.script("dev/run_cases").read_case
+    read_case: Callable[[str], tuple[list[bytes], bytes, object]] = run_cases.read_case
     folders = [entry for entry in os.scandir(os.path.join(support.TOP, "cases")) if entry.is_dir()]
     cases = ((folder.name, read_case(folder.path)) for folder in folders)
     try_all(under, ((name, words, text) for name, (words, text, _) in cases))
@@ -116,7 +117,7 @@ def wrong_when_refused(under: counted.Counted, words: list[bytes], text: bytes) 
 
 @pytest.mark.parametrize("name", STARVED)
 def test_each_refusal_is_said(under: counted.Counted, name: str) -> None:
-    words, text, _ = ends.script("dev/run_cases").read_case(os.path.join(support.TOP, "cases", name))
+    words, text, _ = run_cases.read_case(os.path.join(support.TOP, "cases", name))
     assert list(wrong_when_refused(under, words, text)) == []
 
 

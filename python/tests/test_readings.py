@@ -5,13 +5,12 @@ import re
 import pytest
 from support import TOP
 
+import run_cases
 import textmate
-from pxplanes import ends
 from pxplanes.machine import sessions
 from pxplanes.scene import scenes
 
 SHORT = 20000
-CASES = ends.script("dev/run_cases")
 GRAMMARS = {"debug": "source.pxsession", "play": "source.pxlist"}
 OF_FORM = ("not-number", "bad-byte", "bad-name")
 
@@ -86,13 +85,13 @@ def wrong_colours(words, text, wanted):
     return None
 
 
-@pytest.mark.parametrize("name", CASES.names())
+@pytest.mark.parametrize("name", run_cases.names())
 def test_reading(name):
-    wrong = wrong_reading(name, *CASES.read_case(os.path.join(TOP, "cases", name)))
+    wrong = wrong_reading(name, *run_cases.read_case(os.path.join(TOP, "cases", name)))
     assert wrong is None, wrong
 
 
-@pytest.mark.parametrize("name", CASES.names())
+@pytest.mark.parametrize("name", run_cases.names())
 def test_colours(name):
-    wrong = wrong_colours(*CASES.read_case(os.path.join(TOP, "cases", name)))
+    wrong = wrong_colours(*run_cases.read_case(os.path.join(TOP, "cases", name)))
     assert wrong is None, wrong

@@ -3,11 +3,12 @@ import os
 import re
 
 import pytest
+import vcd_read
 from support import TOP, content
 
 from pxplanes import program
 from pxplanes.errors import Trouble
-from pxplanes.machine import sessions, vcd
+from pxplanes.machine import sessions
 from pxplanes.machine.waves import Window, waveforms
 
 WAVES = (("one_solid", ((0, 0),), (8, 9, 71), ((1, 0), (1, 1), (2, 3)), 0, 317),
@@ -56,7 +57,7 @@ def wrong_wave(wave, built):
     asked += ["tree %d %d" % node for node in nodes]
     commands = ["until %d" % last] + (asked + ["trace", "back 1"]) * (last - first + 1)
     try:
-        waves = vcd.Waves(waveforms(scene, Window(pixels, bits, nodes, first, last)))
+        waves = vcd_read.Waves(waveforms(scene, Window(pixels, bits, nodes, first, last)))
         listing = program.answer(built, ["list"], scene)[1].decode().split("\n")
         answers = sessions.held(built, scene, [command.encode() for command in commands])[1:]
         for turn, clock in enumerate(range(last, first - 1, -1)):

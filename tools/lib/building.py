@@ -38,14 +38,24 @@ KEEPS = "px-build-"
 # The module is compiled for some seconds.
 LOOKED_AFTER = 0.2
 RUNNING = set()
+# Which of Debian's packages has a command.
+PACKAGES = {command: "; Debian's %s has it" % package for command, package in (
+    ("dpkg-source", "dpkg-dev"), ("dpkg-buildpackage", "dpkg-dev"), ("dh", "debhelper"), ("dh_python3", "dh-python"))}
 
 
-def done(words, name, **more):
-    """What a command writes; its trouble is the tool's."""
+def need(command):
+    """Refuses to go on without a command."""
+    if shutil.which(command) is None:
+        raise Trouble("there is no command %s%s" % (command, PACKAGES.get(command, "")))
+
+
+def done(words, name=None, **more):
+    """What a command writes; its trouble is the tool's, under a name."""
+    need(more.get("executable", words[0]))
     run = subprocess.run(words, capture_output=True, text=True, errors="replace", **more)
     if run.returncode != 0:
         lines = (run.stderr.strip() or run.stdout.strip()).split("\n")
-        raise Trouble("%s: %s" % (name, lines[-1][:200] or "status %d" % run.returncode))
+        raise Trouble("%s: %s" % (name or words[0], lines[-1][:200] or "status %d" % run.returncode))
     return run.stdout
 
 

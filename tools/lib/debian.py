@@ -7,7 +7,6 @@ import functools
 import os
 import re
 import shutil
-import subprocess
 import tempfile
 
 import building
@@ -33,18 +32,11 @@ CHANGELOG = """pxplanes (%s) unstable; urgency=medium
 
  -- %s  %s
 """
-WANTED = (("dpkg-source", "dpkg-dev"), ("dpkg-buildpackage", "dpkg-dev"), ("dh", "debhelper"), ("dh_python3", "dh-python"))
 
 
-def done(words, place, **more):
+def done(words, place):
     """Runs a command in a folder; its trouble is the tool's."""
-    package = dict(WANTED).get(words[0])
-    if shutil.which(words[0]) is None:
-        raise Trouble("there is no command %s; Debian's %s has it" % (words[0], package))
-    run = subprocess.run(words, cwd=place, capture_output=True, text=True, errors="replace", env=dict(os.environ, LC_ALL="C", **more))
-    if run.returncode != 0:
-        lines = run.stderr.strip().split("\n")
-        raise Trouble("%s: %s" % (words[0], lines[-1][:200] or "status %d" % run.returncode))
+    building.done(words, cwd=place, env=dict(os.environ, LC_ALL="C"))
 
 
 @functools.lru_cache(maxsize=1)
@@ -139,9 +131,8 @@ def taken(place, leaves, out):
 
 def package(files, held, out):
     """Makes the packages of files of the checkout and of what is built; answers where they are, a line each."""
-    for command, _ in WANTED:
-        if shutil.which(command) is None:
-            done([command], None)
+    for command in building.PACKAGES:
+        building.need(command)
     with tempfile.TemporaryDirectory(prefix="px-deb-") as place:
         top = tree(place, files)
         add_built(top, held)

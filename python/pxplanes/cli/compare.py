@@ -12,7 +12,7 @@ from __future__ import annotations
 import argparse
 import json
 import re
-from typing import TYPE_CHECKING, Any, Callable, Optional
+from typing import TYPE_CHECKING, Any, Callable
 
 from pxplanes.cli.frame import whole_number
 from pxplanes.errors import Trouble
@@ -21,7 +21,6 @@ if TYPE_CHECKING:
     from pxplanes.compare.comparing import Comparison
     from pxplanes.compare.report import Maps
     from pxplanes.compare.verdict import Allowed
-    from pxplanes.image.maps import Map
 
 HELP = "compare two renderers' maps, and find the cause of what differs"
 
@@ -79,16 +78,6 @@ def of_mesh(options: argparse.Namespace) -> int:
     return compared(options.ours, options.theirs, **said)
 
 
-def maps_of(found: list[Map], only: Optional[str], times: float) -> Maps:
-    """Depths and faces of a file's maps, as far as they are compared."""
-    from pxplanes.compare.report import Maps
-    depths, faces = found[0].numbers, found[-1].numbers
-    if found[0].kind == "real" and times != 1:
-        depths = depths * times
-    has_faces = only == "faces" or len(found) == 2 and only is None
-    return Maps(None if only == "faces" else depths, faces if has_faces else None)
-
-
 def allowed_by(options: argparse.Namespace) -> Allowed:
     from pxplanes.compare.verdict import Allowed
     number_of, in_cells = options.epsilon
@@ -130,12 +119,12 @@ class Pair:
             self.names, self.words, self.colours = names_of(named)
         our_maps = maps.read(options.ours)
         self.their_maps = maps.read(options.theirs, (our_maps[0].width, our_maps[0].height), options.channel)
-        self.ours = maps_of(our_maps, options.only, 1)
+        self.ours = report.maps_of(our_maps, options.only, 1)
         their_maps = self.their_maps
         if their_maps[0].is_grey_picture and options.only != "faces":
             self.notes.append("theirs has three like bytes at each pixel: it is taken for greys, and not for three bytes a number")
             their_maps = [maps.Map(their_maps[0].numbers & 255, "grey")]
-        self.theirs = maps_of(their_maps, options.only, options.times)
+        self.theirs = report.maps_of(their_maps, options.only, options.times)
         if self.theirs.depths is not None and self.scene is not None:
             self.theirs = report.Maps(self.depths_of(self.theirs.depths, options), self.theirs.faces)
         self.is_ours = self.scene is not None and report.is_picture_of(self.ours, self.scene)

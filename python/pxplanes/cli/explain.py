@@ -17,7 +17,7 @@ from pxplanes.cli import frame
 from pxplanes.errors import Trouble
 from pxplanes.explain import explaining, kinds, list_cures, looks, readings
 from pxplanes.image import netpbm
-from pxplanes.machine import listings, micros, sessions
+from pxplanes.machine import listings, micros, sessions, states
 from pxplanes.scene import scenes
 
 HELP = "say why a scene is refused or what it has; mend it; a pixel's ray; what it costs"
@@ -141,9 +141,8 @@ def is_scene(text: bytes) -> bool:
 
 def of_listing(text: bytes) -> tuple[list[str], int]:
     """The lines about a listing, and the status."""
-    library = listings.library()
     try:
-        library.state(text, 0)
+        states.state(text, 0)
     except errors.Refused as refusal:
         shown = []
         if refusal.line:

@@ -20,7 +20,7 @@ import sys
 import traceback
 from typing import IO, Any, NoReturn, Optional, Protocol, Sequence
 
-from pxplanes import errors, program, running
+from pxplanes import ends, errors, program, running
 from pxplanes.errors import Trouble
 
 WORDS = ("view", "explain", "trace", "convert", "compare", "suite", "batch")
@@ -194,11 +194,6 @@ def unwritten(error: OSError) -> str:
     return "standard output: " if stat.S_ISREG(mode) or stat.S_ISCHR(mode) else ""
 
 
-def drop_output() -> None:
-    """What could not be written is not tried again at the end of the process."""
-    os.dup2(os.open(os.devnull, os.O_WRONLY), 1)
-
-
 def main(words: Optional[list[str]] = None) -> int:
     """Runs the command line; trouble is one line on standard error and status 2, and never a traceback."""
     words = sys.argv[1:] if words is None else words
@@ -208,11 +203,11 @@ def main(words: Optional[list[str]] = None) -> int:
     except (Trouble, errors.NoLibrary) as trouble:
         print("%s: %s" % (name, trouble), file=sys.stderr)
     except BrokenPipeError:
-        drop_output()
+        ends.drop_output()
     except OSError as error:
         file = unwritten(error)
         if error.errno in NO_ROOM:
-            drop_output()
+            ends.drop_output()
         print("%s: %s%s" % (name, file, error.strerror or error), file=sys.stderr)
     except SystemExit as ended:
         return int(ended.code or SUCCESS)

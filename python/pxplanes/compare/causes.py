@@ -19,6 +19,7 @@ import numpy as np
 from pxplanes.compare.picture import (
     KINDS, RIGHT, Bools, Node, Picture, Plane, Reading, Reals, Scene, Solid, Whole, ends, picture)
 from pxplanes.compare.verdict import FACES, Sample
+from pxplanes.scene.rays import folded
 
 PIXELS, SCENES = 20, 3     # so many pixels must differ, in so many scenes, to name a cause;
 ALONE, PAIRS = 200, 16     # in fewer scenes so many, without an error, in which theirs has so many pairs of a depth and a
@@ -157,16 +158,8 @@ def pairs(samples: Sequence[Sample]) -> int:
 
 # ---- what is read of a scene otherwise
 
-def folded(show: list[Node], join: Callable[[str, list[Node], list[Node]], list[Node]]) -> list[Node]:
-    """An expression made again from the inside out."""
-    stack: list[list[Node]] = []
-    for node in show:
-        if isinstance(node, int):
-            stack.append([node])
-        else:
-            right, left = stack.pop(), stack.pop()
-            stack.append(join(node, left, right))
-    return stack.pop()
+def alone(at: int) -> list[Node]:
+    return [at]
 
 
 def sign_as(sign: str, other: str) -> Change:
@@ -175,10 +168,11 @@ def sign_as(sign: str, other: str) -> Change:
         if found != sign:
             return left + right + [found]
         return {"left": left, "right": right, "turned": right + left + [sign]}.get(other, left + right + [other])
-    return lambda scene: replace(scene, show=folded(scene.show, join)) if sign in scene.show else scene
+    return lambda scene: replace(scene, show=folded(scene.show, alone, join)) if sign in scene.show else scene
 
 
 Products = list[tuple[frozenset[int], frozenset[int]]]
+Both = tuple[Products, Products]      # those of an expression, and of all that is outside of it
 
 
 def products(show: list[Node]) -> Products:
@@ -187,21 +181,21 @@ def products(show: list[Node]) -> Products:
     def each(p: Products, q: Products) -> Products:
         found = [(a | c, b | d) for a, b in p[:PRODUCTS] for c, d in q[:PRODUCTS]]
         return list(dict.fromkeys(product for product in found if not product[0] & product[1]))[:PRODUCTS]
-    stack: list[tuple[Products, Products]] = []
-    for node in show:
-        if isinstance(node, int):
-            stack.append(([(frozenset([node]), frozenset())], [(frozenset(), frozenset([node]))]))
-            continue
-        (r, not_r), (l, not_l) = stack.pop(), stack.pop()
-        if node == "+":
-            stack.append((l + r, each(not_l, not_r)))
-        elif node == "*":
-            stack.append((each(l, r), not_l + not_r))
-        elif node == "-":
-            stack.append((each(l, not_r), not_l + r))
-        else:
-            stack.append((each(l, not_r) + each(not_l, r), each(l, r) + each(not_l, not_r)))
-    return stack.pop()[0]
+
+    def leaf(at: int) -> Both:
+        return [(frozenset([at]), frozenset())], [(frozenset(), frozenset([at]))]
+
+    def join(sign: str, left: Both, right: Both) -> Both:
+        (l, not_l), (r, not_r) = left, right
+        if sign == "+":
+            return l + r, each(not_l, not_r)
+        if sign == "*":
+            return each(l, r), not_l + not_r
+        if sign == "-":
+            return each(l, not_r), not_l + r
+        return each(l, not_r) + each(not_l, r), each(l, r) + each(not_l, not_r)
+
+    return folded(show, leaf, join)[0]
 
 
 def without_product(which: int) -> Change:

@@ -12,6 +12,7 @@ from pxplanes.compare import causes
 from pxplanes.compare.comparing import Comparison
 from pxplanes.compare.picture import RIGHT, Scene, grid, picture
 from pxplanes.compare.verdict import WRONG, Allowed, Sample, filled
+from pxplanes.image.maps import Map
 
 Numbers = NDArray[Any]
 # So many pixels times the ends of solids there are judged for a cause; of a larger picture so many that differ, and so
@@ -32,6 +33,15 @@ class Maps:
         found = self.depths if self.depths is not None else self.faces
         assert found is not None
         return int(found.shape[0]), int(found.shape[1])
+
+
+def maps_of(found: Sequence[Map], only: Optional[str], times: float) -> Maps:
+    """Depths and faces of a file's maps, as far as they are compared."""
+    depths, faces = found[0].numbers, found[-1].numbers
+    if found[0].kind == "real" and times != 1:
+        depths = depths * times
+    has_faces = only == "faces" or len(found) == 2 and only is None
+    return Maps(None if only == "faces" else depths, faces if has_faces else None)
 
 
 def is_picture_of(maps: Maps, scene: Scene) -> bool:

@@ -189,45 +189,31 @@ def bracketed(said: str, known: set[str]) -> Optional[str]:
 
 
 def joined(tokens: list[str]) -> Optional[str]:
-    """The tokens as an expression, its open brackets closed; * binds before + and -."""
-    values: list[str] = []
-    signs: list[str] = []
+    """The tokens as an expression, its open brackets closed; * binds before + and -. None if they are none, or nest too deep."""
+    left = tokens[::-1]
 
-    def join() -> None:
-        sign, right, left = signs.pop(), values.pop(), values.pop()
-        values.append("(%s %s %s)" % (left, sign, right))
-
-    wants = True
-    for token in tokens + ["end"]:
+    def operand() -> str:
+        token = left.pop()
         if token in OPENED:
-            if not wants:
-                return None
-            signs.append("(")
-        elif token in BINDS:
-            if wants:
-                return None
-            while signs and signs[-1] != "(" and BINDS[signs[-1]] >= BINDS[token]:
-                join()
-            signs.append(token)
-            wants = True
-        elif token in CLOSED or token == "end":
-            if wants:
-                return None
-            while signs and (signs[-1] != "(" or token == "end"):
-                if signs[-1] == "(":
-                    signs.pop()
-                else:
-                    join()
-            if token != "end":
-                if not signs:
-                    return None
-                signs.pop()
-        else:
-            if not wants:
-                return None
-            values.append(token)
-            wants = False
-    return values[0] if len(values) == 1 else None
+            token = whole(1)
+            if left and left.pop() not in CLOSED:
+                raise IndexError
+        elif token in BINDS or token in CLOSED:
+            raise IndexError
+        return token
+
+    def whole(least: int) -> str:
+        found = operand()
+        while left and BINDS.get(left[-1], 0) >= least:
+            sign = left.pop()
+            found = "(%s %s %s)" % (found, sign, whole(BINDS[sign] + 1))
+        return found
+
+    try:
+        found = whole(1)
+        return None if left else found
+    except (IndexError, RecursionError):
+        return None
 
 
 def of_picture(text: bytes, number: int, line: str, word: str) -> Optional[str]:

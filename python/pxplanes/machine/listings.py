@@ -1,36 +1,21 @@
-"""Listings for the tools (docs/LISTINGS.md): what one has, and a session over one. It is no tool itself.
+"""Listings (docs/LISTINGS.md): what one has, and a session over one.
 
-`pxplanes debug` holds sessions over scenes. Over a listing `held` answers the same lines in the same words, by the states
-and the microinstructions that the library gives (python/pxplanes); but for `field`, as a listing has no keys."""
+`pxplanes debug` holds sessions over scenes. Over a listing `held` answers the same lines in the same words, by what the
+library says of its states and microinstructions; all but `field`, as a listing has no keys."""
 from __future__ import annotations
 
 import bisect
-import os
 import re
-import sys
-from typing import Any, Callable, Optional, Sequence
+from typing import Callable, Optional, Sequence
 
-from pxplanes.errors import Trouble
-from pxplanes import ends
 from pxplanes import program
-from pxplanes.machine import sessions
+from pxplanes.errors import NoLibrary, Refused, Trouble
+from pxplanes.machine import operations, sessions, states
 
 NUMBER = re.compile(rb"\d{1,18}\Z")
 # The line of a listing that `list` writes in which its first operation stands.
 FIRST_LINE = 3
 Told = Optional[list[str]]
-
-
-def library() -> Any:
-    """The Python module, which a tool for scenes does without."""
-    sys.path.insert(0, os.path.join(ends.TOP, "python"))
-    try:
-        import pxplanes
-    except ImportError:
-        raise Trouble("there is no python/pxplanes beside the tools")
-    finally:
-        del sys.path[0]
-    return pxplanes
 
 
 def is_listing(text: bytes) -> bool:
@@ -46,13 +31,13 @@ class Listing:
     """A listing that the program accepts: its grid, its operations, and at which clock each ends."""
 
     def __init__(self, text: bytes):
-        self.text, self.library = text, library()
+        self.text = text
         try:
-            first = self.library.state(text, 0)
-        except (self.library.Refused, self.library.NoLibrary) as error:
-            raise Trouble(error)
+            first = states.state(text, 0)
+        except (Refused, NoLibrary) as error:
+            raise Trouble(error) from None
         self.nx, self.ny = (side.bit_length() - 1 for side in (first.grid_width, first.grid_height))
-        course = self.library.course(text)
+        course = operations.course(text)
         self.operations = [(each.kind, list(each.numbers)) for each in course]
         lines = [number for number, line in enumerate(text.split(b"\n"), 1) if sessions.words_of(line.split(b"#")[0])]
         self.lines = lines[2:2 + len(self.operations)]
@@ -68,9 +53,6 @@ class Listing:
             return None
         number = bisect.bisect_right(self.ends, clock)
         return number, clock - (self.ends[number - 1] if number else 0)
-
-    def state(self, clock: int) -> Any:
-        return self.library.state(self.text, clock)
 
     def bits(self) -> int:
         """How many memory bits its operations name, from bit 0 on."""
@@ -95,7 +77,7 @@ class Session:
 
     def __init__(self, text: bytes):
         self.listing, self.now, self.count = Listing(text), 0, 0
-        self.seen: Any = None
+        self.seen: Optional[states.State] = None
 
     def answer(self, line: bytes) -> list[bytes]:
         """The lines that answer one, as the program writes them."""
@@ -111,9 +93,9 @@ class Session:
                 return [line.encode() for line in told]
         return [b"? line %d" % self.count]
 
-    def state(self) -> Any:
+    def state(self) -> states.State:
         if self.seen is None or self.seen.clock != self.now:
-            self.seen = self.listing.state(self.now)
+            self.seen = states.state(self.listing.text, self.now)
         return self.seen
 
     def to(self, clock: int) -> Told:
@@ -147,7 +129,8 @@ class Session:
         if x >= 1 << self.listing.nx or y >= 1 << self.listing.ny:
             return None
         found = self.state().pixel(x, y)
-        return ["pixel %d %d m %s e %d k %d l %d t %d" % (x, y, found.memory, found.enable, found.carry, found.latch, found.leaf)]
+        registers = found.enable, found.carry, found.latch, found.leaf
+        return ["pixel %d %d m %s e %d k %d l %d t %d" % (x, y, found.memory, *registers)]
 
     def tree(self, level: int, index: int) -> Told:
         if not 1 <= level <= self.listing.nx + self.listing.ny or index >= 1 << level:
@@ -156,14 +139,15 @@ class Session:
 
     def trace(self) -> Told:
         first = max(0, self.now - sessions.KEPT)
-        made = self.listing.library.micros(self.listing.text, first, self.now - first)
+        made = states.micros(self.listing.text, first, self.now - first)
         return ["%d: %s" % told for told in enumerate(map(str, made), first)]
 
 
 # Of each line how many numbers it has, and what answers it.
-FORMS: dict[str, tuple[int, Callable[..., Told]]] = {"step": (1, Session.step), "macro": (1, Session.macro), "run": (0, Session.run), "until": (1, Session.until),
-         "back": (1, Session.back), "at": (0, Session.at), "pixel": (2, Session.pixel), "tree": (2, Session.tree),
-         "trace": (0, Session.trace)}
+FORMS: dict[str, tuple[int, Callable[..., Told]]] = {
+    "step": (1, Session.step), "macro": (1, Session.macro), "run": (0, Session.run), "until": (1, Session.until),
+    "back": (1, Session.back), "at": (0, Session.at), "pixel": (2, Session.pixel), "tree": (2, Session.tree),
+    "trace": (0, Session.trace)}
 
 
 def held(path: Optional[str], text: bytes, commands: Sequence[bytes]) -> list[list[bytes]]:

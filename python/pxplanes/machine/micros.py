@@ -5,12 +5,8 @@ from __future__ import annotations
 from typing import Any, Callable, Iterator, Sequence
 
 from pxplanes.errors import Trouble
+from pxplanes.machine.states import ACTS as ACTS, WITH_PLACE as HAVE_A_PLACE, WITH_VALUE as HAVE_A_VALUE
 
-ACTS = ("nop", "enable-all", "enable-carry", "enable-tree", "enable-bit", "set-carry", "fetch", "store-tree",
-        "store-latch", "store-const", "toggle", "carry-tree", "carry-latch", "add-tree")
-HAVE_A_PLACE = frozenset(("enable-bit", "fetch", "store-tree", "store-latch", "store-const", "toggle", "carry-tree",
-                          "carry-latch", "add-tree"))
-HAVE_A_VALUE = frozenset(("enable-carry", "enable-tree", "enable-bit", "set-carry", "store-const"))
 OPERATIONS = ("all", "keep-sign", "keep-bit", "keep-at-most", "keep-less", "set-bit", "toggle", "load-linear", "add-linear", "load-const",
               "copy")
 SIGN_BIT = 40

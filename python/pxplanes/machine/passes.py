@@ -4,7 +4,7 @@ part of the program; it is written by itself, to hold others beside: `tools/case
 from __future__ import annotations
 
 import itertools
-from typing import Iterable, Iterator, Optional, Sequence
+from typing import Iterator, Optional, Sequence
 
 from pxplanes.machine import micros
 from pxplanes.scene import scenes
@@ -183,16 +183,6 @@ def products_of(scene: scenes.Scene, plan: bytes) -> Products:
     return found
 
 
-def starts(scene: scenes.Scene, products: Products, levels: int) -> list[int]:
-    """The clocks at which the passes begin, in an array whose tree has so many levels, and behind them the end of the last."""
-    clock = 0
-    found: list[int] = []
-    for number, name, numbers, _ in operations(scene, products)[0]:
-        found += [clock] if number == len(found) else []
-        clock += micros.clocks_of(name, numbers, levels)
-    return found + [clock]
-
-
 def operations(scene: scenes.Scene, products: Products) -> tuple[list[Row], list[str]]:
     """Of each operation in order: the number of its pass, its name, its numbers, and what it is for; and the passes' words."""
     found: list[Row] = []
@@ -202,11 +192,6 @@ def operations(scene: scenes.Scene, products: Products) -> tuple[list[Row], list
         found += [(len(said), name, numbers, words) for name, numbers, words in each]
         said.append(says)
     return found, said
-
-
-def steps(scene: scenes.Scene, products: Products) -> list[Step]:
-    """The step of each pass (`Passes`)."""
-    return [step for step, _, _ in Passes(scene, products)]
 
 
 class Keys:
@@ -228,8 +213,3 @@ def of_listing(found: Sequence[tuple[str, Sequence[int]]]) -> tuple[list[Row], l
     numbers = itertools.accumulate(int(name == "all" and at > 0) for at, (name, _) in enumerate(found))
     rows = [(number, name, tuple(given), micros.spoken(name, given)) for number, (name, given) in zip(numbers, found)]
     return rows, ["pass %d of the listing" % (each + 1) for each in range(rows[-1][0] + 1 if rows else 0)]
-
-
-def line(name: str, numbers: Iterable[int]) -> str:
-    """An operation as a line of a listing."""
-    return " ".join([name, *map(str, numbers)])

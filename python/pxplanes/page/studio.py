@@ -2,7 +2,6 @@
 All else the page answers by itself (page/pxplanes.html)."""
 import hashlib
 import os
-import tempfile
 from typing import Any, Callable, NoReturn
 
 from pxplanes.errors import Trouble
@@ -43,30 +42,6 @@ def needed_text(text: bytes | None, path: str) -> str:
         return (text or b"").decode("utf-8")
     except UnicodeDecodeError:
         raise Trouble("%s is no text of UTF-8, and the page would change it" % path)
-
-
-def written(path: str, content: bytes) -> None:
-    """Writes a file whole or not at all: beside it, down to the disk, and then in its place, with the rights that it
-    had."""
-    place = os.path.realpath(path)
-    mode = os.stat(place).st_mode & 0o7777 if os.path.exists(place) else 0o666 & ~umask()
-    handle, beside = tempfile.mkstemp(prefix=".px-", dir=os.path.dirname(place))
-    try:
-        with os.fdopen(handle, "wb") as file:
-            file.write(content)
-            file.flush()
-            os.fchmod(file.fileno(), mode)
-            os.fsync(file.fileno())
-        os.replace(beside, place)
-    except BaseException:
-        os.unlink(beside)
-        raise
-
-
-def umask() -> int:
-    mask = os.umask(0o077)
-    os.umask(mask)
-    return mask
 
 
 class Alone(csg.Reader):
@@ -119,7 +94,7 @@ class Studio:
         now = read(self.path)
         if sum_of(now) != asked.get("sum"):
             return {"changed": needed_text(now, self.path), "sum": sum_of(now)}
-        written(self.path, text)
+        ends.replaced(self.path, text)
         return {"saved": os.path.basename(self.path), "sum": sum_of(text)}
 
     def answer(self, name: str, asked: Asked, body: bytes) -> Answer:

@@ -219,12 +219,7 @@ class NotStarted(Exception):
 
 def theirs_of(found: list[maps.Map], settings: Settings) -> Maps:
     """What is compared of their maps."""
-    depths, faces = found[0].numbers, found[-1].numbers if len(found) == 2 or settings.only == "faces" else None
-    if settings.colours:
-        return Maps(None, depths)
-    if found[0].kind == "real" and settings.times != 1:
-        depths = depths * settings.times
-    return Maps(None if settings.only == "faces" else depths, None if settings.only == "depths" else faces)
+    return Maps(None, found[0].numbers) if settings.colours else report.maps_of(found, settings.only, settings.times)
 
 
 def judge(rows: list[Row], settings: Settings) -> None:

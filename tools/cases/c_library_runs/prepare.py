@@ -4,10 +4,9 @@ import os
 import subprocess
 import sys
 
-sys.path[:0] = [os.path.join(os.getcwd(), "tools", "lib"), os.path.join(os.getcwd(), "python")]
+sys.path[:0] = [os.path.realpath(folder) for folder in ("python/tests", "python")]
 from pxplanes import ends
-
-cases = ends.script("dev/run_cases")
+import run_cases as cases
 FIRST = cases.content(os.path.join(ends.TOP, "docs", "scenes"), "first.scene")
 LONG = FIRST + b"# and more\n" * 300000
 

@@ -4,7 +4,7 @@ import re
 import subprocess
 import sys
 
-sys.path[:0] = [os.path.join(os.getcwd(), "tools", "lib"), os.path.join(os.getcwd(), "python")]
+sys.path[:0] = [os.path.join(os.getcwd(), "page", "tests"), os.path.join(os.getcwd(), "python")]
 from pxplanes.machine import micros
 from pxplanes.image import netpbm
 from pxplanes import program

@@ -3,7 +3,7 @@ import os
 import re
 import sys
 
-sys.path[:0] = [os.path.join(os.getcwd(), "tools", "lib"), os.path.join(os.getcwd(), "python")]
+sys.path[:0] = [os.path.join(os.getcwd(), "page", "tests"), os.path.join(os.getcwd(), "python")]
 from pxplanes.image import netpbm
 import pages
 from pxplanes import program

@@ -6,7 +6,7 @@ import os
 import sys
 import tarfile
 
-sys.path[:0] = [os.path.join(os.getcwd(), "tools", "lib"), os.path.join(os.getcwd(), "python")]
+sys.path[:0] = [os.path.realpath(folder) for folder in ("page/tests", "python/tests", "python")]
 from pxplanes.errors import Trouble
 from pxplanes import ends
 from pxplanes.explain import explaining
@@ -18,8 +18,8 @@ from pxplanes import program
 from pxplanes.image import maps as images
 from pxplanes.scene import rays, scenes
 from browser import Browser
-
-cases = ends.script("dev/run_cases")
+import passes_read
+import run_cases as cases
 BUILT, CASES, SCENE = os.environ["PROGRAM"], os.path.join("tools", "cases"), "cases/drilled_block_and_post"
 # The forms that the page reads, and files of them that it refuses by name: woven, with a palette, of single bits, by columns.
 ON_THE_PAGE, NOT_ON_THE_PAGE = (".pgm", ".ppm", ".pfm", ".npy", ".png"), ("woven.png", "palette.png", "one.png", "fortran.npy")
@@ -102,10 +102,10 @@ def due_of(text):
     own = [ray_of(scene, (scene.width - 1) * at // 3, (scene.height - 1) * over // 8) for at, over in RAYS]
     listed = [line for line in program.answer(BUILT, ["list"], text)[1].decode().split("\n")[2:-2]]
     operations, said = passes.operations(scene, passes.products_of(scene, program.answer(BUILT, ["plan"], text)[1]))
-    assert [passes.line(name, numbers) for _, name, numbers, _ in operations] == listed
+    assert [passes_read.line(name, numbers) for _, name, numbers, _ in operations] == listed
     clock, rows, (wide, high) = 0, [], program.grid(scene.width, scene.height)
     for number, name, numbers, words in operations:
-        rows.append("%d %d %s: %s" % (number, clock, passes.line(name, numbers), words))
+        rows.append("%d %d %s: %s" % (number, clock, passes_read.line(name, numbers), words))
         clock += micros.clocks_of(name, numbers, (wide * high).bit_length() - 1)
     return {"rays": own, "rows": rows, "passes": said}
 

@@ -2,7 +2,7 @@
 import os
 import sys
 
-sys.path[:0] = [os.path.join(os.getcwd(), "tools", "lib"), os.path.join(os.getcwd(), "python")]
+sys.path[:0] = [os.path.join(os.getcwd(), "page", "tests"), os.path.join(os.getcwd(), "python")]
 from pxplanes.image import netpbm
 from pxplanes import program
 from browser import Browser

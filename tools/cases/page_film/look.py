@@ -3,7 +3,7 @@ import base64
 import os
 import sys
 
-sys.path[:0] = [os.path.join(os.getcwd(), "tools", "lib"), os.path.join(os.getcwd(), "python")]
+sys.path[:0] = [os.path.join(os.getcwd(), folder) for folder in ("page/tests", "python/tests", "python")]
 from pxplanes import ends
 from pxplanes.machine import passes
 from pxplanes import program
@@ -11,6 +11,7 @@ from pxplanes.scene import scenes
 from pxplanes.machine import sessions
 from browser import Browser
 from pages import FIRST, alone, called, changed, link, text_of, view
+import passes_read
 
 BUILT, WIDE, HIGH, FACTOR = os.environ["PROGRAM"], 48, 32, 10
 PLACES = [(x, y) for x in range(0, WIDE, 5) for y in range(0, HIGH, 7)]
@@ -78,7 +79,7 @@ def compared(page, text, clocks, pace, due):
 with Browser() as page:
     text = ends.content(FIRST)
     scene = scenes.read(text)
-    keys, starts = passes.Keys(scene), passes.starts(scene, passes.products_of(scene, program.answer(BUILT, ["plan"], text)[1]), 11)
+    keys, starts = passes.Keys(scene), passes_read.starts(scene, passes.products_of(scene, program.answer(BUILT, ["plan"], text)[1]), 11)
     alone(page, behind=link(FIRST, "machine", clock=0))
     page.until("document.body.dataset.shown")
     called(page, TAKEN)

@@ -3,7 +3,7 @@ import os
 import random
 import sys
 
-sys.path[:0] = [os.path.join(os.getcwd(), "tools", "lib"), os.path.join(os.getcwd(), "python")]
+sys.path[:0] = [os.path.join(os.getcwd(), folder) for folder in ("page/tests", "python/tests", "python")]
 from pxplanes import ends
 from pxplanes.machine import micros
 from pxplanes.image import netpbm
@@ -13,6 +13,7 @@ from pxplanes.scene import scenes
 from pxplanes.machine import sessions
 from browser import Browser
 from pages import alone, asked, called, click, go, link, text_of
+import passes_read
 
 BUILT, LOT = os.environ["PROGRAM"], 55
 SCENES = (("docs/scenes/triangle.scene", (7, 8)), ("docs/scenes/two_fronts.scene", (1, 1)), ("docs/scenes/first.scene", (24, 16)), ("docs/scenes/first.scene", (50, 3)))
@@ -191,7 +192,7 @@ def lights(page, text):
     scene, lines = scenes.read(text), text.decode().split("\n")
     products = passes.products_of(scene, program.answer(BUILT, ["plan"], text)[1])
     said, (_, clocks, levels) = passes.operations(scene, products)[1], operations_of(text)
-    starts = passes.starts(scene, products, levels)
+    starts = passes_read.starts(scene, products, levels)
     middles = [(one + other) / 2 / clocks for one, other in zip(starts, starts[1:])]
     shown = netpbm.images(program.answer(BUILT, ["render"], text)[1])[1].numbers()
     named = {face.number: (solid, face) for solid in scene.solids for faces in passes.faces_of(scene, solid) for face in faces if face.number}

@@ -3,15 +3,13 @@ import os
 import random
 import sys
 
-sys.path[:0] = [os.path.join(os.getcwd(), "tools", "lib"), os.path.join(os.getcwd(), "python")]
-from pxplanes import ends
+sys.path[:0] = [os.path.realpath(folder) for folder in ("page/tests", "python/tests", "python")]
 import pages
 from pxplanes import program
 from pxplanes.scene import scenes
 from pxplanes.machine import sessions
 from browser import Browser
-
-cases = ends.script("dev/run_cases")
+import run_cases as cases
 BUILT, LOT, PAIRS, OF_A_SCENE, MOST = os.environ["PROGRAM"], 54, 1000, 40, 6000
 # The lines of the debugger to some questions at some clocks, by the states of the page.
 TOLD = """async (text, asked) => {

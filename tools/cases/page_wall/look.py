@@ -5,7 +5,7 @@ import random
 import re
 import sys
 
-sys.path[:0] = [os.path.join(os.getcwd(), "tools", "lib"), os.path.join(os.getcwd(), "python")]
+sys.path[:0] = [os.path.join(os.getcwd(), folder) for folder in ("page/tests", "python/tests", "python")]
 from pxplanes import ends
 from pxplanes.image import netpbm
 from pxplanes.machine import passes
@@ -15,6 +15,7 @@ from pxplanes.scene import scenes
 from pxplanes.machine import sessions
 from browser import Browser
 from pages import FIRST, PAGE, alone, called, click, go, link, pixels, text_of
+import passes_read
 
 BUILT, OPENING = os.environ["PROGRAM"], "gallery/letters.scene"
 LOT, CLOCKS, PLACES, WHITE = 55, 200, 12, [255, 255, 255]
@@ -86,7 +87,7 @@ def starts_of(text):
     """The clocks at which the passes of a scene begin, and its end."""
     scene = scenes.read(text)
     wide, high = program.grid(scene.width, scene.height)
-    return passes.starts(scene, passes.products_of(scene, program.answer(BUILT, ["plan"], text)[1]), (wide * high).bit_length() - 1)
+    return passes_read.starts(scene, passes.products_of(scene, program.answer(BUILT, ["plan"], text)[1]), (wide * high).bit_length() - 1)
 
 
 def timeline(page, text):

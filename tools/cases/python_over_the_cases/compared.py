@@ -5,12 +5,10 @@ import sys
 
 if sys.argv[1:] == ["plain"]:
     sys.modules["numpy"] = None
-sys.path[:0] = [os.path.join(os.getcwd(), "tools", "lib"), os.path.join(os.getcwd(), "python")]
-from pxplanes import ends
+sys.path[:0] = [os.path.realpath(folder) for folder in ("python/tests", "python")]
 import pxplanes
 from pxplanes.scene import scenes
-
-cases = ends.script("dev/run_cases")
+import run_cases as cases
 
 
 def note_of(call):

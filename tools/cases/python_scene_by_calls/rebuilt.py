@@ -5,14 +5,12 @@ import os
 import subprocess
 import sys
 
-sys.path[:0] = [os.path.realpath(os.path.join("tools", "lib")), "python"]
-from pxplanes import ends
+sys.path[:0] = [os.path.realpath(folder) for folder in ("python/tests", "python")]
 import pxplanes
 from pxplanes.scene import scenes
+import run_cases as cases
 
 SIGNS = {"+": operator.add, "*": operator.mul, "-": operator.sub, "^": operator.xor}
-cases = ends.script("dev/run_cases")
-
 
 def tidied(text):
     """The canonical text of a scene, or None."""

@@ -7,7 +7,7 @@ import sys
 import time
 import urllib.parse
 
-sys.path[:0] = [os.path.join(os.getcwd(), "tools", "lib"), os.path.join(os.getcwd(), "python")]
+sys.path[:0] = [os.path.join(os.getcwd(), "page", "tests"), os.path.join(os.getcwd(), "python")]
 from browser import Browser
 from pages import called, choose, text_of, written
 

@@ -6,7 +6,7 @@ import shutil
 import sys
 import threading
 
-sys.path[:0] = [os.path.join(os.getcwd(), "tools", "lib"), os.path.join(os.getcwd(), "python")]
+sys.path[:0] = [os.path.join(os.getcwd(), folder) for folder in ("page/tests", "tools/lib", "python")]
 from pxplanes import ends
 import web_page
 from browser import Browser

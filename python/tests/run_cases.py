@@ -1,7 +1,7 @@
 #!/usr/bin/env python3
 """Runs the cases of cases/ over the built program, and compares what it answers byte for byte.
 
-Use: tools/dev/run_cases [--jobs N] [PROGRAM]   (default: crates/px_program/out/px_program)
+Use: python/tests/run_cases.py [--jobs N] [PROGRAM]   (default: crates/px_program/out/px_program)
 
 A case is a folder cases/NAME with these files; one that is not there is empty, and `status` then 0:
   args    the program's words, one a line, any bytes
@@ -19,7 +19,7 @@ import subprocess
 import sys
 
 sys.dont_write_bytecode = True
-sys.path[:0] = [os.path.join(os.path.dirname(os.path.realpath(__file__)), folder) for folder in ("../lib", "../../python")]
+sys.path[:0] = [os.path.join(os.path.dirname(os.path.realpath(__file__)), folder) for folder in ("../../tools/lib", "..")]
 from pxplanes.errors import Trouble
 from pxplanes import ends
 from pxplanes import program
@@ -97,4 +97,4 @@ def main(words):
 
 
 if __name__ == "__main__":
-    ends.run("dev/run_cases", __doc__, main)
+    ends.run("run_cases", __doc__, main)
