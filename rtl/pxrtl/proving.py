@@ -520,7 +520,7 @@ OPERATIONS = ("all", "keep-sign", "keep-bit", "keep-at-most", "keep-less", "load
               "toggle", "wipe")
 STEPWISE = {
     "sequencer": Stepwise(
-        "px_same_sequencer", ("px_micro_at.v", "px_same_sequencer.v"), tuple({"NX": nx, "NY": ny, "N": BITS} for nx,
+        "px_same_sequencer", ("px_same_sequencer.v",), tuple({"NX": nx, "NY": ny, "N": BITS} for nx,
                 ny in SEQUENCED),
         lambda size: "sequencer of an array of %s, every clock of every operation:" % pixels_of(size),
         lambda size: {name: "its_" + name for name in ("i", "count", "doing", "from", "into", "left_a", "left_b",
