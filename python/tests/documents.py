@@ -67,8 +67,8 @@ PLAIN = (
     (r"\bno(?:ne| \w+) but\b", "only"), (r"\bgo(?:es)? by\b", "uses"), (r"\bwhat is left\b", "the rest"),
     (r"\bstands? (?:in|there|below|above|whole|as)\b", "is"), (r"\bat hand\b", "available"), (r"\bhands? (?:on|over)\b", "passes"))
 # Documents that are not yet held to it.
-NOT_YET_PLAIN = re.compile(r"(?:crates/px_\w+|debian|page|page/library|rtl|suite|tools)/README\.md|"
-                           r"docs/(?:COMPARE|DEBUGGER|INSTALL|LEAGUE|MODELLING|RTL|SCALE|STUDIO)\.md")
+NOT_YET_PLAIN = re.compile(r"(?:crates/px_\w+|debian|page|page/library|suite|tools)/README\.md|"
+                           r"docs/(?:COMPARE|DEBUGGER|INSTALL|LEAGUE|MODELLING|SCALE|STUDIO)\.md")
 # Options of programs of others that documents name by themselves.
 OF_OTHERS = ("--projection=o", "--camera", "--sshlogin", "--viewall", "--autocenter", "--imgsize", "--preview", "--experimental-wasm-memory64")
 
