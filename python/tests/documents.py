@@ -69,8 +69,6 @@ PLAIN = (
     (r"\blikewise\b", "also"), (r"\bfor good\b", "permanently"), (r"\bof the same\b(?=[,.;:])", "the same"),
     (r"\bno(?:ne| \w+) but\b", "only"), (r"\bgo(?:es)? by\b", "uses"), (r"\bwhat is left\b", "the rest"),
     (r"\bstands? (?:in|there|below|above|whole|as)\b", "is"), (r"\bat hand\b", "available"), (r"\bhands? (?:on|over)\b", "passes"))
-# Documents that are not yet held to it.
-NOT_YET_PLAIN = re.compile(r"rtl/README\.md|docs/(?:MODELLING|RTL)\.md")
 # Options of programs of others that documents name by themselves.
 OF_OTHERS = ("--projection=o", "--camera", "--sshlogin", "--viewall", "--autocenter", "--imgsize", "--preview", "--loader")
 
@@ -423,7 +421,7 @@ def wrong_words():
     """A word that a plain one can replace, outside of quotes, code and headings."""
     for leaf in names():
         text = re.sub(r'(?m)^#.*$|`[^`\n]*`|"[^"]*"|\]\([^)]*\)', " ", prose(leaf))
-        for form, plain in () if NOT_YET_PLAIN.fullmatch(leaf) else PLAIN:
+        for form, plain in PLAIN:
             for found in re.finditer(form, " ".join(text.split()), re.I):
                 yield "%s: %r; better is %r" % (leaf, found.group(), plain)
 
@@ -431,7 +429,7 @@ def wrong_words():
 def wrong_lengths():
     """A paragraph, or an item of a list, or a cell of a table, that is too long to be read at once."""
     for leaf in names():
-        for part in () if NOT_YET_PLAIN.fullmatch(leaf) else re.split(r"\n\s*\n|\n(?= *(?:[-*]|\d+\.) |\|)", prose(leaf)):
+        for part in re.split(r"\n\s*\n|\n(?= *(?:[-*]|\d+\.) |\|)", prose(leaf)):
             is_row = part.lstrip().startswith("|")
             most = CELL_WORDS if is_row else PARAGRAPH_WORDS
             for text in re.split(r"(?<!\\)\|", part) if is_row else [part]:

@@ -62,7 +62,7 @@ def part_of_chip(module: str, values: dict[str, int], proofs: tuple[str, ...]) -
 
 
 RUNS = {"pixel": pixel, "node": node, "tree": tree, "column": array, "array": array,
-        "sequencer": part_of_chip("sequencer", {"NX": 3, "NY": 4, "N": BITS}, ("px_same_sequencer.v", "px_micro_at.v")),
+        "sequencer": part_of_chip("sequencer", {"NX": 3, "NY": 4, "N": BITS}, ("px_same_sequencer.v",)),
         "word": part_of_chip("word", {"W": 16}, ("px_same_word.v", "px_acts.v"))}
 
 

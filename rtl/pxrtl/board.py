@@ -10,13 +10,12 @@ from typing import Any, Iterable, Iterator
 import numpy as np
 import numpy.typing as npt
 
-from pxrtl import ports, programs, simulation
+from pxrtl import ports, programs, proving, simulation
 from pxrtl.shared import RTL, Bad, listings, micros, program, scenes, sessions, texts
 from pxplanes.image import maps, shades, show
 
 BITS = 72
-OPERATIONS = ("all", "keep-sign", "keep-bit", "keep-at-most", "keep-less", "load-linear", "add-linear", "load-const",
-              "copy", "set-bit", "toggle", "wipe", "scan", "paint")
+OPERATIONS = proving.OPERATIONS + ("scan", "paint")
 FORMED = ("keep-sign", "keep-at-most", "load-linear", "add-linear")
 SHOWN_BITS, TRIES, SECONDS, CLOCKS_A_BIT = 7, 5, 1.0, 8
 MEMORY = re.compile(rb"^pixel (\d+) (\d+) m ([01]+) e ([01])$", re.M)

@@ -1,8 +1,7 @@
 """Directed and random runs of one module in a simulator, compared with its table.
 
-A pixel is given each act at each place, enabled and not, with both carries and both bits of all that the act reads,
-and it is
-opened in between. After each such act comes a clock in which nothing is done, so that a late result is seen."""
+A pixel is given each act at each place, enabled and not, with both carries and both bits of all that the act reads, and
+it is opened in between. After each such act comes a clock in which nothing is done, so that a late result is seen."""
 import itertools
 import os
 import random
@@ -11,19 +10,14 @@ import re
 from pxrtl import ports, simulation
 from pxrtl.shared import micros
 
-BITS = 72
+BITS, AROUND, WIDE = 72, 12, 8
 BETWEEN = "no clock"
 ROWS = micros.ACTS + ("open",)
 MOVES = ("hold", "clear", "feed")
-AROUND = 12
-WIDE = 8
-# What of a pixel's state an act reads or may spoil: e(nable), c(arry), s(tored), l(atch), and t(ree), v(alue) of the
-# inputs.
+# What an act reads or may spoil of a pixel: e(nable), c(arry), s(tored) bit, l(atch), and its inputs t(ree) and v(alue).
 READS = {"nop": "ecst", "enable-all": "ec", "enable-carry": "ecv", "enable-tree": "etv", "enable-bit": "esv",
-         "set-carry": "ecv",
-         "fetch": "es", "store-tree": "et", "store-latch": "el", "store-const": "ev", "toggle": "es",
-         "carry-tree": "ects",
-         "carry-latch": "ecls", "add-tree": "ects"}
+         "set-carry": "ecv", "fetch": "es", "store-tree": "et", "store-latch": "el", "store-const": "ev",
+         "toggle": "es", "carry-tree": "ects", "carry-latch": "ecls", "add-tree": "ects"}
 ANSWER = re.compile(r"^clock (\d+) row (\d+) found (\S+) due (\S+) before (\S+) late ([01x])$", re.M)
 MOVED = re.compile(r"^moved ([01]+)$", re.M)
 NODE_ANSWER = re.compile(r"^clock (\d+) row (\d+) node (\d+) found (\S+) due (\S+) before (\S+)$", re.M)
@@ -36,8 +30,8 @@ class Input:
         self.act, self.place, self.value, self.tree, self.opens = act, place, value, tree, opens
 
     def code(self):
-        return "%04x" % (self.tree << 14 | self.value << 13 | self.opens << 12 | micros.ACTS.index(self.act) << 8 |
-        self.place)
+        act = micros.ACTS.index(self.act)
+        return "%04x" % (self.tree << 14 | self.value << 13 | self.opens << 12 | act << 8 | self.place)
 
     def text(self):
         return "open" if self.opens else micros.Micro(self.act, self.place, self.value).text().split(" ", 1)[1]
@@ -161,22 +155,25 @@ def shown(bench, faults, waves):
     """Has the bench write the waveforms of the clocks around the first fault."""
     if faults and waves:
         first = min(fault.clock for fault in faults)
-        bench.run("answers.txt", "+vcd=" + os.path.abspath(waves), "+from=%d" % max(0, first - AROUND), "+to=%d" %
-                  (first + 3))
+        around = "+from=%d" % max(0, first - AROUND), "+to=%d" % (first + 3)
+        bench.run("answers.txt", "+vcd=" + os.path.abspath(waves), *around)
+
+
+def written(folder, codes, texts):
+    """Writes what a bench reads: the inputs, and what the waveforms say of each."""
+    for leaf, lines in (("inputs.hex", codes), ("texts.hex", [simulation.in_hex(text, 24) for text in texts])):
+        with open(os.path.join(folder, leaf), "w") as file:
+            file.writelines(line + "\n" for line in lines)
 
 
 def pixel(folder, files, simulator, seconds, count, seed, waves=None, only_random=False):
-    """How many clocks were run, the first fault of each act that has one, and the acts that never had anything to
-    change."""
+    """How many clocks were run, the first fault of each act that has one, and the acts that had nothing to change."""
     draw = random.Random(seed)
     told = begun(draw) + list(at_random(draw, count)) if only_random else inputs(seed, count)
-    with open(os.path.join(folder, "inputs.hex"), "w") as file:
-        file.writelines(step.code() + "\n" for step in told)
-    with open(os.path.join(folder, "texts.hex"), "w") as file:
-        file.writelines(simulation.in_hex(step.text(), 24) + "\n" for step in told)
-    bench = simulation.Simulation(folder, "px_pixel_bench", [simulation.proof("px_acts.v"),
-            simulation.bench("px_pixel_bench.v"), files["pixel"]],
-                           {"N": BITS, "CLOCKS": len(told)}, simulator, seconds=seconds, has_waves=not only_random)
+    written(folder, [step.code() for step in told], [step.text() for step in told])
+    texts = [simulation.proof("px_acts.v"), simulation.bench("px_pixel_bench.v"), files["pixel"]]
+    bench = simulation.Simulation(folder, "px_pixel_bench", texts, {"N": BITS, "CLOCKS": len(told)}, simulator,
+                                  seconds=seconds, has_waves=not only_random)
     answers = bench.run("answers.txt")
     faults = [fault_of(match, told) for match in ANSWER.findall(answers)]
     moved = MOVED.search(answers).group(1)[::-1]
@@ -187,8 +184,7 @@ def pixel(folder, files, simulator, seconds, count, seed, waves=None, only_rando
 
 def moves(draw, count, levels=1):
     """Inputs of a node or a tree: a clear, feeds until the last level has bits of its own, then any, mostly feeds;
-    line, parent, feed,
-    clear from the top."""
+    line, parent, feed, clear from the top."""
     yield 1
     for _ in range(2 * levels):
         yield draw.randrange(4) << 2 | 2
@@ -203,12 +199,8 @@ def move_text(code, above):
 
 
 def run_tree(folder, files, simulator, seconds, levels, told, above, has_waves):
-    """The bench of a tree that was told so much, and of its first differences clock, row, node, what was found, due and
-    before."""
-    for leaf, lines in (("inputs.hex", ["%x" % it for it in told]),
-                        ("texts.hex", [simulation.in_hex(move_text(it, above), 24) for it in told])):
-        with open(os.path.join(folder, leaf), "w") as file:
-            file.writelines(line + "\n" for line in lines)
+    """The bench of a tree, and of its first differences clock, row, node, what was found, due and before."""
+    written(folder, ["%x" % it for it in told], [move_text(it, above) for it in told])
     texts = [simulation.bench("px_tree_bench.v"), simulation.proof("px_nodes.v"), files["node"], files["tree"]]
     bench = simulation.Simulation(folder, "px_tree_bench", texts, {"LEVELS": levels, "CLOCKS": len(told)}, simulator,
                                   seconds=seconds, has_waves=has_waves)
@@ -225,9 +217,8 @@ def node(folder, files, simulator, seconds, seed, waves=None, count=400):
     for clock, row, which, got, due, before in found:
         wrong = ["%s is %s, and %s is expected" % it for it in zip(("its output", "its carry"), got[1:], due[1:])
                  if it[1] != it[2]]
-        faults.append(Fault("%s %s" % ("odd" if which % 2 else "even", MOVES[row]), clock,
-                            "parent %d, line %d, output %s, carry %s: %s" % (
-            told[clock] >> 2 & 1, told[clock] >> 3, before[0], before[1], "; ".join(wrong))))
+        text = "parent %d, line %d, output %s, carry %s: " % (told[clock] >> 2 & 1, told[clock] >> 3, *before)
+        faults.append(Fault("%s %s" % (("even", "odd")[which % 2], MOVES[row]), clock, text + "; ".join(wrong)))
     shown(bench, faults, waves)
     return len(told), faults
 

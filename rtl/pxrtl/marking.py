@@ -8,10 +8,8 @@ from pxrtl import directed, ports, programs, proving, simulation, sources
 from pxrtl.shared import Bad
 
 SHORT = {"enable-all": "enA", "enable-carry": "enC", "enable-tree": "enT", "enable-bit": "enB", "set-carry": "set",
-         "fetch": "fet",
-         "store-tree": "stT", "store-latch": "stL", "store-const": "stC", "toggle": "tog", "carry-tree": "caT",
-         "carry-latch": "caL",
-         "add-tree": "add", "nop": "nop", "open": "opn"}
+         "fetch": "fet", "store-tree": "stT", "store-latch": "stL", "store-const": "stC", "toggle": "tog",
+         "carry-tree": "caT", "carry-latch": "caL", "add-tree": "add", "nop": "nop", "open": "opn"}
 SIGNS = {"right": ".", "wrong": "X", "unseen": "?"}
 SEED = 1
 HEAD = """<!doctype html>
@@ -34,9 +32,8 @@ An act is unseen where it had nothing to change in any state that the pixel reac
 
 
 class Mark:
-    """What came of a file: the faults by their acts, trouble in a line, what tools read differently, and the lines of
-    its proof, None if
-    it was not asked for."""
+    """What came of a file: the faults by their acts, trouble in a line, what tools read differently, and the lines
+    of its proof, None if it was not asked for."""
 
     def __init__(self, name, faults, still=(), trouble=None, proof=None, notes=()):
         self.name, self.faults, self.still, self.trouble = name, {fault.row: fault for fault in faults}, still, trouble
@@ -78,8 +75,8 @@ class Mark:
         """A line for each thing that is wrong, in the order of the clocks."""
         if self.trouble:
             return [self.trouble]
-        ran = ["clock %d, %s" % (fault.clock, fault.text) for fault in sorted(self.faults.values(),
-                key=lambda fault: fault.clock)]
+        faults = sorted(self.faults.values(), key=lambda fault: fault.clock)
+        ran = ["clock %d, %s" % (fault.clock, fault.text) for fault in faults]
         return ran + self.notes + ["proof: " + line.text.strip() for line in self.proof or []
                                    if line.status != proving.PROVED]
 
@@ -120,15 +117,14 @@ def page_rows(found, is_asked):
             cells = '<td class="none" colspan="%d">not run</td>' % (len(directed.ROWS) + is_asked)
         else:
             cells = "".join('<td class="%s">%s</td>' % (mark.of(row), mark.of(row)) for row in directed.ROWS)
-            cells += "<td class=\"%s\">%s</td>" % (("wrong", "no") if mark.not_proved else ("right",
-                    "yes")) if is_asked else ""
+            proved = ("wrong", "no") if mark.not_proved else ("right", "yes")
+            cells += '<td class="%s">%s</td>' % proved if is_asked else ""
         yield "<tr><td>%s</td>%s</tr>" % (link, cells)
     yield "</table>\n<dl>"
     for mark in found:
         if not mark.is_right:
             name = html.escape(mark.name)
-            yield '<dt id="%s">%s</dt>%s' % (name, name,
-                                             "".join("<dd>%s</dd>" % html.escape(line) for line in mark.told()))
+            yield '<dt id="%s">%s</dt>' % (name, name) + "".join("<dd>%s</dd>" % html.escape(it) for it in mark.told())
     yield "</dl>\n</html>"
 
 

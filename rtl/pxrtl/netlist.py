@@ -1,8 +1,8 @@
 """How modules are connected, from the netlist that Yosys writes.
 
 A net is a number, or the text "0", "1" or "x". The modules that are taken as known (a pixel, a node ..) are closed
-boxes: an output of
-one is a name of its own, and an input must be connected to a port of the whole or to the right output of another."""
+boxes: an output of one is a name of its own, and an input must be connected to a port of the whole or to the right
+output of another."""
 import itertools
 
 
@@ -53,8 +53,8 @@ class Netlist:
         if bit in self.drivers:
             name, port, at = self.drivers[bit]
             cell = self.cells[name]
-            return "the %s of %s" % (port,
-                                     name) if cell["type"] in self.known else "what a %s makes" % cell["type"].lstrip("$")
+            is_known = cell["type"] in self.known
+            return "the %s of %s" % (port, name) if is_known else "what a %s makes" % cell["type"].lstrip("$")
         return {"0": "0", "1": "1"}.get(bit, "driven by nothing")
 
     def parameter(self, cell, name):
@@ -204,8 +204,8 @@ def pixels(net, count, bits, named):
     found = []
     for number_ in range(count):
         what = named(number_)
-        cells = [net.driver(net.port(vector, number_), "pixel", port, "the %s of %s" % (port, what))[0] for vector,
-                 port in REGISTERS]
+        cells = [net.driver(net.port(vector, number_), "pixel", port, "the %s of %s" % (port, what))[0]
+                 for vector, port in REGISTERS]
         if len(set(cells)) > 1:
             raise Wrong("%s shows registers of %s" % (what, " and ".join(sorted(set(cells)))))
         if net.parameter(cells[0], "N") not in (bits, None):
@@ -223,23 +223,23 @@ def pixels(net, count, bits, named):
     return found
 
 
+def under_one_tree(net, levels, bits, named, line_at, root):
+    """Pixels, each under the leaf with its number; and the nodes above them."""
+    done, found = {}, pixels(net, 1 << levels, bits, named)
+    for p, cell in enumerate(found):
+        way_up(net, net.into(cell, "tree")[0], p, levels, line_at, root, named(p), done)
+    return found, done
+
+
 def column(net, levels, bits):
     """A column: pixel y under leaf y of a tree on line b, whose root is the column's."""
-    done = {}
-    for y, cell in enumerate(pixels(net, 1 << levels, bits, "pixel {}".format)):
-        way_up(net, net.into(cell, "tree")[0], y, levels, lambda _: "line_b", "root", "pixel %d" % y, done)
+    under_one_tree(net, levels, bits, "pixel {}".format, lambda level: "line_b", "root")
 
 
 def array(net, nx, ny, bits):
-    """An array: pixel (x, y) under leaf x * 2^ny + y of one tree, on line a at the levels 1 to nx and on line b
-    below."""
-    done, high = {}, (1 << ny) - 1
-    named = lambda p: "pixel (%d, %d)" % (p >> ny, p & high)
-    found = pixels(net, 1 << nx + ny, bits, named)
-    line_at = lambda level: "line_a" if level <= nx else "line_b"
-    for p, cell in enumerate(found):
-        way_up(net, net.into(cell, "tree")[0], p, nx + ny, line_at, "line_c", named(p), done)
-    return found, done
+    """An array: pixel (x, y) under leaf x * 2^ny + y of one tree, on line a at levels 1 to nx and on line b below."""
+    return under_one_tree(net, nx + ny, bits, lambda p: "pixel (%d, %d)" % (p >> ny, p & (1 << ny) - 1),
+                          lambda level: "line_a" if level <= nx else "line_b", "line_c")
 
 
 def array_of_columns(net, nx, ny, bits):
@@ -247,13 +247,12 @@ def array_of_columns(net, nx, ny, bits):
     tree_cell, high = None, 1 << ny
     for x in range(1 << nx):
         what = "column %d" % x
-        shown = [net.driver(net.port(vector, x * high + y), "column", vector, "bit %d of %s" % (x * high + y,
-                vector)) + (vector, y)
-                 for vector in ("plane", "enables", "carries", "latches") for y in range(high)]
-        cell = shown[0][0]
-        for other, at, vector, y in shown:
+        cell, _ = net.driver(net.port("plane", x * high), "column", "plane", "bit %d of plane" % (x * high))
+        for vector, y in itertools.product(("plane", "enables", "carries", "latches"), range(high)):
+            bit = "bit %d of %s" % (x * high + y, vector)
+            other, at = net.driver(net.port(vector, x * high + y), "column", vector, bit)
             if (other, at) != (cell, y):
-                raise Wrong("bit %d of %s is bit %d of %s" % (x * high + y, vector, at, other))
+                raise Wrong("%s is bit %d of %s" % (bit, at, other))
         if (net.parameter(cell, "NY"), net.parameter(cell, "N")) != (ny, bits):
             raise Wrong("%s has other parameters" % what)
         net.must_be_ports(cell, ("clk", "open", "clear", "feed", "line_b", "act", "place", "value", "scan"), what)

@@ -2,7 +2,6 @@
 every lawful input.
 
 A proof is a stream of `Line`s, each with a status, so that a line can be printed as soon as it is known."""
-import concurrent.futures
 import functools
 import itertools
 import os
@@ -17,7 +16,7 @@ from pxrtl.yosys import Model
 PROVED, WRONG, TROUBLE, UNDECIDED = 0, 1, 2, 3
 ACTS = micros.ACTS + ("open",)
 MOVES = ("hold", "clear", "feed")
-DEPTH, BITS, JOBS = 5, 72, 2
+DEPTH, BITS = 5, 72
 FEW, FIRST = 7, 6
 LEVELS, SMALL, ALONE = 9, 5, 7
 SECOND = ((1, 1, 8), (2, 1, 8), (1, 2, 8), (2, 2, 4))
@@ -112,12 +111,10 @@ def values(**widths: int) -> list[str]:
 
 
 # What the solver must find an example of, under what a proof assumes: of the inputs, and of the state.
-COVERS_OF_PIXEL = (values(place=BITS, act=1) + values(act=14, place=1, open=1) + values(act=1, open=2, value=2,
-        tree=2) +
-                   ["-set act %d -set open 0 -set place %d" % (act, place) for act in range(14) for place in (0,
-                           BITS - 1)],
-                   ["-set memory %d'b%s -set enable %s -set carry %s -set latch %s" % (BITS, bit * BITS, bit, bit,
-                           bit) for bit in "01"])
+COVERS_OF_PIXEL = (
+    values(place=BITS, act=1) + values(act=14, place=1, open=1) + values(act=1, open=2, value=2, tree=2) +
+    ["-set act %d -set open 0 -set place %d" % (act, place) for act in range(14) for place in (0, BITS - 1)],
+    ["-set memory {0}'b{1} -set enable {2} -set carry {2} -set latch {2}".format(BITS, it * BITS, it) for it in "01"])
 COVERS_OF_NODE = values(clear=2, feed=2, parent=2, line=2), values(out=2)
 COVERS_OF_TREE = values(clear=2, feed=2, root=2, line=2), []
 
@@ -137,8 +134,7 @@ class Question:
         self.folder, self.table, self.seconds = folder, TABLES[kind], seconds
         self.rows = self.table.rows
         yosys.alone(folder, kind, files, values)
-        bits = {name: value for name, value in values.items()}
-        self.module = yosys.under_a_table(folder, self.table.top, bits, self.table.files)
+        self.module = yosys.under_a_table(folder, self.table.top, values, self.table.files)
         names = self.module["netnames"]
         self.has_claim = CLAIM in names
         self.leaf = "whole" if self.has_claim else "asked"
@@ -175,13 +171,11 @@ class Question:
         return found
 
     def asked(self, clocks: int, left_out: Iterable[str], more: Iterable[str] = (), before: Iterable[str] = (),
-              claim: bool = False,
-              mutant: bool = False) -> Model | None:
+              claim: bool = False, mutant: bool = False) -> Model | None:
         """A case in which what is asked after so many lawful clocks does not hold; None if there is none.
 
         The rows of `left_out` are not asked in the last clock; those of `before` do not come in the clocks before it.
-        A `mutant` table
-        is wrong in each row."""
+        A `mutant` table is wrong in each row."""
         masks = [list(before)] * (clocks - 1) + [list(left_out)] * 2
         words = ["-seq %d -prove same 1 -prove-skip %d -set mutant %d" % (clocks + 1, clocks, mutant)]
         words += ["-prove %s 1" % CLAIM] * claim
@@ -217,22 +211,13 @@ class Question:
         except yosys.NoAnswer:
             return False
 
-    def ask(self, row: str, is_right: bool) -> tuple[str, Model | str | None]:
-        """A row with a case, a reason why it is not decided, or None if it is proved."""
+    def ask(self, row: str, is_right: bool) -> Model | str | None:
+        """A case of a row, a reason why it is not decided, or None if it is proved."""
         try:
-            with tempfile.TemporaryDirectory(dir=self.folder) as own:
-                mine = self.in_folder(own)
-                case = None if is_right else mine.first_case(row)
-                return row, case if case else None if mine.is_seen(row) else VACUOUS
+            case = None if is_right else self.first_case(row)
+            return case or (None if self.is_seen(row) else VACUOUS)
         except yosys.NoAnswer as why:
-            return row, "not decided: %s" % why
-
-    def in_folder(self, own: str) -> "Question":
-        """The same question in a folder of its own, so that several can be asked at once."""
-        other = object.__new__(Question)
-        other.__dict__.update(self.__dict__, folder=own)
-        other.leaf = os.path.join("..", self.leaf)
-        return other
+            return "not decided: %s" % why
 
     def cases(self, clocks: int, left_out: Iterable[str], **how: Iterable[str]) -> dict[str, Model]:
         """A case for each row that is not left out and has one."""
@@ -269,38 +254,37 @@ class Question:
         inputs, state = ("".join("%s %s\n" % (assumed, words) for words in covers) for covers in self.table.covers)
         script = "read_rtlil %s.il\n%sdelete -output o:* w:asked %%d\nsetattr -set keep 1 w:%s\nopt_clean\n%s" % (
             self.leaf, state, CLAIM, inputs)
-        found = re.findall(r"^SAT solving finished - (no )?model found", yosys.run(self.folder, script, self.seconds),
-                           re.M)
-        missing = sum(map(len, self.table.covers)) - found.count("")
-        return missing
+        printed = yosys.run(self.folder, script, self.seconds)
+        found = re.findall(r"^SAT solving finished - (no )?model found", printed, re.M)
+        return sum(map(len, self.table.covers)) - found.count("")
 
 
 def case_lines(question: Question, row: str, case: Model, reached: bool, clocks: int) -> Iterator[Line]:
     """The lines of a row that is not right."""
     status = WRONG if reached else UNDECIDED
     before, after = question.table.case(case, clocks)
-    hidden = ["%s %s" % (name, case[clocks]["one." + name]) for name in question.hidden if "one." +
-              name in case[clocks]]
+    state = {name: case[clocks].get("one." + name) for name in question.hidden}
+    hidden = ["%s %s" % it for it in state.items() if it[1] is not None]
     since = ", in clock %d from `%s` on" % (clocks, question.table.opened) if question.hidden and reached else ""
     yield Line("  %-13s %s" % (row, "WRONG" if reached else UNSURE), status)
     yield Line("    %s%s%s: %s" % (", ".join(before), "; hidden " + ", ".join(hidden) if hidden else "", since,
                                    "; ".join(after) or "what always holds does not hold after it"), status)
 
 
-def row_lines(question: Question, jobs: int) -> Iterator[Line]:
+def row_lines(question: Question) -> Iterator[Line]:
     """The lines of each row, as it ends."""
     unsure: dict[str, Model] = {}
     is_right = question.all_right()
-    with concurrent.futures.ThreadPoolExecutor(jobs) as pool:
-        for row, answer in pool.map(lambda row: question.ask(row, is_right), question.rows):
-            if isinstance(answer, str):
-                yield Line("  %-13s %s" % (row, answer), UNDECIDED)
-            elif answer is None:
-                yield Line("  %-13s right" % row)
-            elif question.hidden:
-                unsure[row] = answer
-            else:
-                yield from case_lines(question, row, answer, True, 1)
+    for row in question.rows:
+        answer = question.ask(row, is_right)
+        if isinstance(answer, str):
+            yield Line("  %-13s %s" % (row, answer), UNDECIDED)
+        elif answer is None:
+            yield Line("  %-13s right" % row)
+        elif question.hidden:
+            unsure[row] = answer
+        else:
+            yield from case_lines(question, row, answer, True, 1)
     if unsure:
         found = question.reached(unsure)
         for row in unsure:
@@ -315,12 +299,12 @@ def row_lines(question: Question, jobs: int) -> Iterator[Line]:
         yield Line("  not decided: %d states or inputs that must be asked about cannot occur" % missing, UNDECIDED)
 
 
-def of_table(folder: str, kind: str, values: dict[str, int], files: list[str], title: str, seconds: int,
-             jobs: int = JOBS) -> Iterator[Line]:
+def of_table(folder: str, kind: str, values: dict[str, int], files: list[str], title: str,
+             seconds: int) -> Iterator[Line]:
     """A question about a module at one size, row by row."""
     yield Line(title)
     try:
-        yield from row_lines(Question(folder, kind, values, files, seconds), jobs)
+        yield from row_lines(Question(folder, kind, values, files, seconds))
     except structure.Refused as why:
         yield Line("  REFUSED: %s" % why, WRONG)
     except yosys.NoAnswer as why:
@@ -334,9 +318,8 @@ def pixel(folder: str, files: Files, seconds: int) -> Iterator[Line]:
 
 def node(folder: str, files: Files, seconds: int) -> Iterator[Line]:
     for odd in (0, 1):
-        yield from of_table(folder, "node", {"ODD": odd}, [files["node"]], "%s node, every state and input:" %
-                            ("odd" if odd else "even"),
-                            seconds)
+        yield from of_table(folder, "node", {"ODD": odd}, [files["node"]],
+                            "%s node, every state and input:" % ("odd" if odd else "even"), seconds)
 
 
 def is_right(lines: list[Line]) -> bool:
@@ -357,8 +340,8 @@ def wired_some(folder: str, files: list[str], top: str, boxes: tuple[str, ...], 
     script = yosys.read_of(files) + "read_verilog stubs.v\ndesign -save read\n"
     for number, size in enumerate(sizes):
         chosen = " ".join("-chparam %s %d" % it for it in size.items())
-        script += "design -load read\nhierarchy -check -top %s %s\n%scheck\nwrite_json wired%d.json\n" % (top, chosen,
-                yosys.FLAT, number)
+        script += "design -load read\nhierarchy -check -top %s %s\n%scheck\nwrite_json wired%d.json\n" % (
+            top, chosen, yosys.FLAT, number)
     conflicts = yosys.CONFLICT.search(yosys.run(folder, script))
     for number, size in enumerate(sizes):
         design = yosys.top_of(folder, "wired%d.json" % number)
@@ -371,8 +354,8 @@ def wired_some(folder: str, files: list[str], top: str, boxes: tuple[str, ...], 
     return (sizes[0], "a net is driven twice") if conflicts else None
 
 
-def wired_lines(found: tuple[dict[str, int], str] | None, title: str, named: Callable[[dict[str, int]],
-        str]) -> Iterator[Line]:
+def wired_lines(found: tuple[dict[str, int], str] | None, title: str,
+                named: Callable[[dict[str, int]], str]) -> Iterator[Line]:
     if found is None:
         yield Line("%s right" % title)
     else:
@@ -442,22 +425,26 @@ def second_text(folder: str, files: Files, size: dict[str, int], seconds: int) -
         return
     try:
         yosys.alone(folder, "array", [files[name] for name in ("pixel", "node", "tree", "column", "array")], size)
-        yosys.under_a_table(folder, "px_same_array", size, ("px_acts.v", "px_whole.v", "px_same_array.v"))
+        yosys.under_a_table(folder, "px_same_array", size, ("px_acts.v", "px_nodes.v", "px_whole.v", "px_same_array.v"))
         words = ["-seq 2 -prove-skip 1 -prove same 1 -set-at 1 asked 1"]
         words += ["-set-at 1 %s %s" % pair for pair in state] + ["-prove %s %s" % pair for pair in state]
         if yosys.solved(folder, "whole", words + ["-set mutant 0"], seconds):
             wrong = size, "another state than that of the second text"
             yield from wired_lines(wrong, title, pixels_of)
             return
-        rows = list(rows_of_array()) if size == dict(zip(size, SECOND[0])) else list(rows_of_array())[-1:]
-        unseen = [row for row, chosen in rows if not yosys.solved(folder, "whole", words + ["-set mutant 1", chosen],
-                seconds)]
-        yield Line("%s right" % title) if not unseen else Line("%s %s: %s" % (title, VACUOUS, ", ".join(unseen)),
-                UNDECIDED)
+        rows = dict(rows_of_array() if size == dict(zip(size, SECOND[0])) else list(rows_of_array())[-1:])
+        yield seen_line(folder, title, words, rows, seconds)
     except structure.Refused as why:
         yield Line("%s REFUSED: %s" % (title, why), WRONG)
     except yosys.NoAnswer as why:
         yield Line("%s not decided: %s" % (title, why), UNDECIDED)
+
+
+def seen_line(folder: str, title: str, words: list[str], rows: dict[str, str], seconds: int) -> Line:
+    """The line of a question that has no case: right, unless it accepts a text that is wrong in some row too."""
+    unseen = [row for row, chosen in rows.items()
+              if not yosys.solved(folder, "whole", words + ["-set mutant 1", chosen], seconds)]
+    return Line("%s %s: %s" % (title, VACUOUS, ", ".join(unseen)), UNDECIDED) if unseen else Line(title + " right")
 
 
 def rows_of_array() -> Iterator[tuple[str, str]]:
@@ -476,17 +463,15 @@ def of_columns(folder: str, files: Files) -> Iterator[Line]:
         yield Line("array of more than %d pixels: not asked, since it is not made of columns" % (1 << FEW), UNDECIDED)
         return
     sizes = [{"NX": nx, "NY": ny, "N": BITS} for nx in range(1, LEVELS + 1) for ny in range(1, LEVELS + 1)]
-    yield from wired_lines(wired(folder, [files["array"]], "array", ("tree", "column"), sizes,
-                                 netlist.array_of_columns),
-                           "array of 2 by 2 to 512 by 512 pixels, each column under its leaf:", pixels_of)
+    wrong = wired(folder, [files["array"]], "array", ("tree", "column"), sizes, netlist.array_of_columns)
+    yield from wired_lines(wrong, "array of 2 by 2 to 512 by 512 pixels, each column under its leaf:", pixels_of)
 
 
 def array(folder: str, files: Files, seconds: int) -> Iterator[Line]:
     sizes = [{"NX": nx, "NY": ny, "N": BITS} for nx in range(1, FEW) for ny in range(1, FEW - nx + 1)]
-    lines = list(wired_lines(wired(folder, [files[name] for name in ("tree", "column", "array")], "array", ("pixel",
-            "node"), sizes,
-                                   netlist.array), "array of 2 by 2 to %d pixels, each under its leaf:" % (1 << FEW),
-                                   pixels_of))
+    parts = [files[name] for name in ("tree", "column", "array")]
+    wrong = wired(folder, parts, "array", ("pixel", "node"), sizes, netlist.array)
+    lines = list(wired_lines(wrong, "array of 2 by 2 to %d pixels, each under its leaf:" % (1 << FEW), pixels_of))
     if is_right(lines):
         lines += of_columns(folder, files)
     yield from lines
@@ -516,11 +501,10 @@ def ties_of_word(size: dict[str, int]) -> dict[str, str]:
 
 HOLDS = "-seq 2 -prove holds 1 -prove-skip 1 -set-at 1 "
 OPERATIONS = ("all", "keep-sign", "keep-bit", "keep-at-most", "keep-less", "load-linear", "add-linear", "load-const",
-              "copy", "set-bit",
-              "toggle", "wipe")
+              "copy", "set-bit", "toggle", "wipe")
 STEPWISE = {
     "sequencer": Stepwise(
-        "px_same_sequencer", ("px_micro_at.v", "px_same_sequencer.v"), tuple({"NX": nx, "NY": ny, "N": BITS} for nx,
+        "px_same_sequencer", ("px_same_sequencer.v",), tuple({"NX": nx, "NY": ny, "N": BITS} for nx,
                 ny in SEQUENCED),
         lambda size: "sequencer of an array of %s, every clock of every operation:" % pixels_of(size),
         lambda size: {name: "its_" + name for name in ("i", "count", "doing", "from", "into", "left_a", "left_b",
@@ -566,10 +550,7 @@ def stepwise_at(folder: str, module: str, path: str, size: dict[str, int], secon
             seconds)]
     if wrong:
         return Line("%s WRONG: %s" % (title, "; ".join(wrong)), WRONG)
-    unseen = [row for row, chosen in proof.rows.items()
-              if not yosys.solved(folder, "whole", [proof.steps[0][0], "-set mutant 1", chosen] + ties, seconds)]
-    return Line("%s right" % title) if not unseen else Line("%s %s: %s" % (title, VACUOUS, ", ".join(unseen)),
-                                                            UNDECIDED)
+    return seen_line(folder, title, [proof.steps[0][0]] + ties, proof.rows, seconds)
 
 
 PROOFS: dict[str, Callable[..., Iterator[Line]]] = {

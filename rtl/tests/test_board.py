@@ -16,7 +16,7 @@ pytest.importorskip("numpy")
 from pxrtl import board, programs, yosys  # noqa: E402
 from pxrtl.shared import TOP, program  # noqa: E402
 
-NX, NY = 2, 3
+NX, NY = 4, 2  # a row of 16 pixels is read in more clocks than a monitor waits
 SCENE = pathlib.Path(TOP, "cases/lesson_comparison/stdin")
 LISTING = pathlib.Path(TOP, "cases/play_an_adder/stdin")
 needs = pytest.mark.skipif(not (shutil.which("verilator") and program.find(None)), reason="there is no verilator or program")
@@ -48,15 +48,15 @@ def drawn(text: pathlib.Path, link: board.Simulated) -> board.Pixels:
 
 def holds_what_is_played(opened: Board) -> None:
     """By hand: the wall shows where x + 2y + 5 is at most its depth, 6, the slope elsewhere, and nothing past depth 15. Of
-    a colour four bits are shown. Squares are 58 lines high."""
+    a colour four bits are shown. Squares are 38 lines high."""
     drawn(LISTING, opened(board.Simulated))
     picture = drawn(SCENE, opened(board.Simulated))
-    left, top, side = (305 - 29 * 4) // 2 * 2, (480 - 58 * 8) // 2, 58
+    top, side = (480 - 38 * 4) // 2, 38
     wall, slope, black = (12 * 17, 11 * 17, 10 * 17), (5 * 17, 7 * 17, 12 * 17), (0, 0, 0)
-    for x, y, colour in ((0, 0, wall), (1, 0, wall), (2, 0, slope), (0, 1, slope), (3, 2, slope), (3, 7, black)):
+    for x, y, colour in ((0, 0, wall), (1, 0, wall), (2, 0, slope), (0, 1, slope), (0, 2, slope), (3, 2, slope), (15, 3, black)):
         for at in (0, side - 1):
-            assert tuple(picture[top + side * y + at, left + side * x + at]) == colour, (x, y)
-    assert not picture[:top].any() and not picture[:, :left].any() and not picture[:, left + 4 * side:].any()
+            assert tuple(picture[top + side * y + at, side * x + at]) == colour, (x, y)
+    assert not picture[:top].any() and not picture[top + 4 * side:].any() and not picture[:, 16 * side:].any()
 
 
 def survives_lost_bytes(opened: Board) -> None:
@@ -71,7 +71,7 @@ def drops_bytes_while_busy(opened: Board) -> None:
     link.send("all", [])
     link.send("load-const", [0, 8, 0xa5])
     held = link.scan(NX, NY)
-    link.write(board.frame("scan", 0) + 15 * board.frame("load-const", 0, 0, 8, form=(0, 0, 0)))
+    link.write(board.frame("scan", 0) + 15 * board.frame("load-const", 1, 0, 8, form=(0, 0, 0)))
     link.read(1 << 16)
     assert link.scan(NX, NY) == held and held[0] == ("10100101" + 64 * "0", "1")
     link.close()
@@ -81,7 +81,7 @@ def does_a_frame_once(opened: Board) -> None:
     link = opened(board.Simulated)
     link.begin({}, 0)
     link.echoed(board.frame("all", 1))
-    for turn, count in ((0, 3), (1, 1), (0, 1)):
+    for turn, count in ((0, 2), (1, 1), (0, 1)):
         for _ in range(count):
             link.echoed(board.frame("toggle", turn, 4))
     assert link.scan(NX, NY)[0][0][4] == "1"
@@ -97,7 +97,31 @@ def takes_no_broken_frame(opened: Board) -> None:
     link.close()
 
 
-CHECKS = (holds_what_is_played, survives_lost_bytes, drops_bytes_while_busy, does_a_frame_once, takes_no_broken_frame)
+def loses_one_frame_by_a_lost_byte(opened: Board) -> None:
+    link = opened(board.Simulated)
+    link.begin({}, 0)
+    whole = board.frame("all", 1)
+    link.write(whole[:7] + whole[8:])
+    link.write(whole)
+    assert link.read(2) == whole[-1:] and link.scan(NX, NY)[0][1] == "1"
+    link.close()
+
+
+def sends_a_scan_that_can_be_checked(opened: Board) -> None:
+    """By hand: x + y is at least 18 at one pixel of 64 only, (15, 3), which is bit 7 of a place's byte 7."""
+    link = opened(board.Simulated)
+    link.begin({}, 0)
+    link.send("all", [])
+    link.send("keep-sign", [1, 1, -18])
+    link.write(board.frame("scan", 0))
+    found = link.read(1 << 10)
+    assert found[1:] == bytes(8 * 72) + bytes(7) + b"\x80" + b"\x80"
+    link.close()
+
+
+CHECKS = {check.__name__: check for check in (
+    holds_what_is_played, survives_lost_bytes, drops_bytes_while_busy, does_a_frame_once, takes_no_broken_frame,
+    loses_one_frame_by_a_lost_byte, sends_a_scan_that_can_be_checked)}
 
 
 def opened_in(folder: pathlib.Path) -> Board:
@@ -106,7 +130,7 @@ def opened_in(folder: pathlib.Path) -> Board:
 
 
 @needs
-@pytest.mark.parametrize("check", CHECKS)
+@pytest.mark.parametrize("check", CHECKS.values())
 def test_board(check: Callable[[Board], None], tmp_path: pathlib.Path, monkeypatch: pytest.MonkeyPatch) -> None:
     monkeypatch.setattr(board, "SECONDS", 0.1)
     check(opened_in(tmp_path))
@@ -132,15 +156,8 @@ def test_mutant_dies(killer: str, mutant: Edited, tmp_path: pathlib.Path, monkey
     leaf = mutant.module + ".v"
     monkeypatch.setattr(board, "SOURCES", [path if own.endswith(leaf) else own for own in board.SOURCES])
     monkeypatch.setattr(board, "SECONDS", 0.1)
-    opened = opened_in(tmp_path)
-    for check in CHECKS:
-        try:
-            check(opened)
-        except (AssertionError, programs.Bad):
-            break
-    else:
-        pytest.fail("it lives")
-    assert check.__name__ == killer
+    with pytest.raises((AssertionError, programs.Bad)):
+        CHECKS[killer](opened_in(tmp_path))
 
 
 @needs

@@ -13,7 +13,8 @@ PARTS = [ports.file_of(module) for module in simulation.MODULES]
 
 
 def difference(path: pathlib.Path, folder: pathlib.Path) -> str:
-    texts = [str(TESTS / "px_tt_bench.v"), simulation.proof("px_whole.v"), simulation.proof("px_acts.v"), str(path)]
+    proofs = [simulation.proof(leaf) for leaf in ("px_whole.v", "px_acts.v", "px_nodes.v")]
+    texts = [str(TESTS / "px_tt_bench.v"), *proofs, str(path)]
     bench = simulation.Simulation(str(folder), "px_tt_bench", texts + PARTS, {"CLOCKS": 10000}, "iverilog", has_waves=False)
     return str(bench.run("answers.txt"))
 
