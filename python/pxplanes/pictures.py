@@ -8,7 +8,8 @@ from .apart import Progress
 from .arrays import Buffer, rows
 from .calls import Found, Text, asked, word_of
 from .errors import OverBudget
-from .filling import filled
+from .filling import filled, given
+from .scene.limits import MAX_PICTURE_SIZE, MAX_WIDE_PICTURE_SIZE
 
 
 class Cost(NamedTuple):
@@ -76,6 +77,20 @@ def render(text: Text, clocks: Optional[int] = None, progress: Optional[Progress
     (depths, faces), found = drawn("render", "II", text, clocks, progress)
     shape = found.height, found.width
     return Picture(depths.shaped(*shape), faces.shaped(*shape), found.width, found.height)
+
+
+def window(text: Text, x: int, y: int, width: int, height: int) -> Picture:
+    """A part of a picture, `width` by `height` pixels from column `x` and row `y` on, in about the time and memory of a picture of its
+    size: strips one after another show progress, and threads draw one each. It may lie outside of the scene's picture, in the wider one
+    that `tile` draws. Raises as `check` does; `Limit` too where a plane's constant at (x, y) is past its limit; `ValueError` where a
+    side is not 1 to 512, or the window does not end within 4096 by 4096 pixels."""
+    first_x, first_y, columns, rows_ = (operator.index(number) for number in (x, y, width, height))
+    for first, count in ((first_x, columns), (first_y, rows_)):
+        if first < 0 or not 1 <= count <= MAX_PICTURE_SIZE or first + count > MAX_WIDE_PICTURE_SIZE:
+            raise ValueError("there is no window of %d by %d pixels at (%d, %d)" % (columns, rows_, first_x, first_y))
+    depths, faces = buffers = [Buffer("I", columns * rows_) for _ in range(2)]
+    asked("window", text, first_x, first_y, columns, rows_, *given(buffers))
+    return Picture(depths.shaped(rows_, columns), faces.shaped(rows_, columns), columns, rows_)
 
 
 def colour(text: Text, clocks: Optional[int] = None, progress: Optional[Progress] = None) -> Any:
