@@ -3,7 +3,7 @@
  *
  * A scene is a text (docs/SCENES.md). Its picture has, for each pixel, the depth of the first cell that
  * belongs to the shown expression, and the number of the face that shows there (docs/PICTURE.md). These calls
- * read a scene and give its size, its cost, its picture, its colours, or the products that are drawn; and, of a
+ * read a scene and give its size, its cost, its picture or a window of it, its colours, or the products that are drawn; and, of a
  * scene or of a listing of operations (docs/LISTINGS.md), the machine after any number of clocks, what is
  * broadcast to it, and what each operation is for; they make clocks of a state (docs/MACHINE.md); and one does what any
  * command of the program does. What each answers is proved (docs/PROMISES.md).
@@ -87,15 +87,17 @@ extern "C" {
 #define PXPLANES_NO_GRID 10  /* a grid has not so many columns or rows */
 #define PXPLANES_NO_MICRO 11 /* a word packs no microinstruction: found.number is its index */
 #define PXPLANES_NO_OPERATION 12 /* what is asked lies past the last operation: found.operations is how many there are */
+#define PXPLANES_NO_WINDOW 13 /* a window has not so many columns or rows, or lies past PXPLANES_MAX_WIDE_SIDE */
 
 /* The version of this header; pxplanes_version gives that of the library. */
 #define PXPLANES_VERSION_MAJOR 1
 #define PXPLANES_VERSION_MINOR 0
 #define PXPLANES_VERSION_PATCH 0
 
-/* A text has at most so many bytes, and a picture at most so many columns and rows. */
+/* A text has at most so many bytes, a picture at most so many columns and rows, and one that is drawn in parts so many. */
 #define PXPLANES_MAX_TEXT 1048576
 #define PXPLANES_MAX_SIDE 512
+#define PXPLANES_MAX_WIDE_SIDE 4096
 
 /*
  * What a call found. Each call writes all fields on every return; what is not named for its status is 0.
@@ -105,6 +107,7 @@ extern "C" {
  *   LIMIT      kind, number, and line where the limit is passed in one line
  *   MEMORY     (none)
  *   NO_ROOM    as OK, and room
+ *   NO_WINDOW  (none)
  *
  * Of pxplanes_state, pxplanes_micros and pxplanes_course, which look at no picture:
  *
@@ -162,6 +165,27 @@ uint32_t pxplanes_check(const uint8_t *text, size_t text_len, struct pxplanes_fo
  */
 uint32_t pxplanes_render(const uint8_t *text, size_t text_len, uint32_t *depths, size_t depths_len,
                          uint32_t *faces, size_t faces_len, struct pxplanes_found *found);
+
+/*
+ * Draws a window of a picture, of `width` by `height` pixels: pixel (x + i, y + j) of the picture is element
+ * j * width + i of each buffer. Depths and faces are those of pxplanes_render, and each buffer has width * height elements
+ * or more.
+ *
+ * The window is drawn as a scene of its own, so time and memory are those of a picture of its size: draw a picture in
+ * strips to report progress, to stop between two of them, or to let each thread draw one. found has the size of the
+ * window, and what its passes cost.
+ *
+ * x, y: its first column and row. The window may lie right of the scene's picture or below it: there it shows what
+ *       the program's `tile` draws, whose widest picture is PXPLANES_MAX_WIDE_SIDE pixels wide and high.
+ * width, height: 1 to PXPLANES_MAX_SIDE.
+ *
+ * The text is refused as by pxplanes_check. Then come, in this order: NO_WINDOW; LIMIT, with line 0, if the constant of a
+ * plane at pixel (x, y) is past 2^33 ("coefficient", whatever pxplanes_render answers), and for "pixel-memory" and
+ * "products" of the window; and NO_ROOM.
+ */
+uint32_t pxplanes_window(const uint8_t *text, size_t text_len, uint32_t x, uint32_t y, uint32_t width, uint32_t height,
+                         uint32_t *depths, size_t depths_len, uint32_t *faces, size_t faces_len,
+                         struct pxplanes_found *found);
 
 /*
  * Draws a picture in colour: bytes 3 * (y * found.width + x) and the two behind it are red, green and blue of the

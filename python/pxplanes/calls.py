@@ -52,7 +52,7 @@ LIST: list[Any] = [c_void_p, c_size_t]
 TEXT: list[Any] = [c_char_p, c_size_t]
 FOUND: list[Any] = [POINTER(Found)]
 CALLS: dict[str, list[Any]] = {"check": TEXT + FOUND, "render": TEXT + LIST + LIST + FOUND, "colour": TEXT + LIST + FOUND,
-         "products": TEXT + LIST + FOUND, "state": TEXT + [c_uint64] + LIST + [POINTER(FoundState)] + FOUND,
+         "window": TEXT + [c_uint32] * 4 + LIST + LIST + FOUND, "products": TEXT + LIST + FOUND, "state": TEXT + [c_uint64] + LIST + [POINTER(FoundState)] + FOUND,
          "micros": TEXT + [c_uint64] + LIST + FOUND, "course": TEXT + [c_uint64] + LIST + FOUND,
          "clocks": LIST + [c_uint32] * 2 + LIST + FOUND, "run": TEXT + TEXT + LIST + FOUND}
 NAMES: dict[str, list[Any]] = {"cause_name": [c_uint32] + LIST, "kind_name": [c_uint32] + LIST, "version": LIST}

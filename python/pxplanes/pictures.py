@@ -9,7 +9,8 @@ from .apart import Progress
 from .arrays import Buffer, rows, shaped
 from .calls import Found, Text, asked, word_of
 from .errors import OverBudget
-from .running import filled
+from .running import done, filled
+from .scene.limits import MAX_PICTURE_SIZE, MAX_WIDE_PICTURE_SIZE
 
 if TYPE_CHECKING:
     import numpy as np
@@ -122,6 +123,20 @@ def render(text: Text, clocks: Optional[int] = None, progress: Optional[Progress
     (depths, faces), found = drawn("render", "II", text, clocks, progress)
     shape = found.height, found.width
     return Picture(depths.shaped(*shape), faces.shaped(*shape), found.width, found.height)
+
+
+def window(text: Text, x: int, y: int, width: int, height: int) -> Picture:
+    """A part of a picture, `width` by `height` pixels from column `x` and row `y` on, in about the time and memory of a picture of its
+    size: strips one after another show progress, and threads draw one each. It may lie outside of the scene's picture, in the wider one
+    that `tile` draws. Raises as `check` does; `Limit` too where a plane's constant at (x, y) is past its limit; `ValueError` where a
+    side is not 1 to 512, or the window does not end within 4096 by 4096 pixels."""
+    x, y, width, height = (operator.index(number) for number in (x, y, width, height))
+    for first, count in ((x, width), (y, height)):
+        if first < 0 or not 1 <= count <= MAX_PICTURE_SIZE or first + count > MAX_WIDE_PICTURE_SIZE:
+            raise ValueError("there is no window of %d by %d pixels at (%d, %d)" % (width, height, x, y))
+    depths, faces = buffers = [Buffer("I", width * height) for _ in range(2)]
+    done("window", text, (x, y, width, height), buffers)
+    return Picture(depths.shaped(height, width), faces.shaped(height, width), width, height)
 
 
 def colour(text: Text, clocks: Optional[int] = None, progress: Optional[Progress] = None) -> NDArray[np.uint8]:

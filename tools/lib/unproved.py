@@ -49,6 +49,7 @@ fn main(rt: HostRuntime) {
     };
     let _ = pxplanes_check(alloc, text, &mut found);
     let _ = pxplanes_render(alloc, text, &mut depths, &mut faces, &mut found);
+    let _ = pxplanes_window(alloc, text, 0, 0, 1, 1, &mut depths, &mut faces, &mut found);
     let _ = pxplanes_colour(alloc, text, &mut rgb, &mut found);
     let _ = pxplanes_products(alloc, text, &mut literals, &mut found);
     let _ = pxplanes_state(alloc, text, 0, &mut words, &mut state, &mut found);

@@ -2,3 +2,4 @@ pub mod AnswerLemmas
 pub mod BufferLemmas
 pub mod RunLemmas
 pub mod StateLemmas
+pub mod WindowLemmas

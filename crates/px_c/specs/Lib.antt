@@ -25,3 +25,4 @@ pub mod Numbers
 pub mod RunAnswers
 pub mod RunStops
 pub mod StateAnswers
+pub mod Windows

@@ -16,6 +16,7 @@ mod render;
 mod run;
 mod state;
 mod status;
+mod window;
 
 pub use check::pxplanes_check;
 pub use clocks::pxplanes_clocks;
@@ -28,3 +29,4 @@ pub use products::pxplanes_products;
 pub use render::pxplanes_render;
 pub use run::pxplanes_run;
 pub use state::{State, pxplanes_state};
+pub use window::pxplanes_window;

@@ -64,7 +64,12 @@ fn render(alloc: Global, text: &[u8], depths: &mut [u32], faces: &mut [u32]) -> 
 }
 
 #[tactic(auto, using(crate::proofs::AnswerLemmas::roomy))]
-fn render_scene(alloc: Global, scene: &Scene, depths: &mut [u32], faces: &mut [u32]) -> Answer
+pub(crate) fn render_scene(
+    alloc: Global,
+    scene: &Scene,
+    depths: &mut [u32],
+    faces: &mut [u32],
+) -> Answer
     ensures answer { Answers (drawn_answer (min (length depths.old) (length faces.old))
         (pixels_of scene.now) scene.now) result }
     ensures depths { result.status ≡ OK → HoldsNumbers scene.now.width scene.now.height

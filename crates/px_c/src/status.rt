@@ -32,6 +32,9 @@ pub const NO_MICRO: u32 = 11;
 /// The operations that are asked for lie past the last.
 pub const NO_OPERATION: u32 = 12;
 
+/// A window has not so many columns or rows, or lies past the widest picture.
+pub const NO_WINDOW: u32 = 13;
+
 /// The memory bits of a pixel of the array that draws, as of the program's own but for `shadow`.
 pub const BITS: usize = PIXEL_BITS;
 

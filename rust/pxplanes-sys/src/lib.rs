@@ -11,6 +11,7 @@ pub const NO_CLOCK: u32 = 9;
 pub const NO_GRID: u32 = 10;
 pub const NO_MICRO: u32 = 11;
 pub const NO_OPERATION: u32 = 12;
+pub const NO_WINDOW: u32 = 13;
 
 /// Memory bits of a pixel.
 pub const BITS: u32 = 72;
@@ -68,6 +69,19 @@ extern "C" {
     pub fn pxplanes_render(
         text: *const u8,
         text_len: usize,
+        depths: *mut u32,
+        depths_len: usize,
+        faces: *mut u32,
+        faces_len: usize,
+        found: *mut Found,
+    ) -> u32;
+    pub fn pxplanes_window(
+        text: *const u8,
+        text_len: usize,
+        x: u32,
+        y: u32,
+        width: u32,
+        height: u32,
         depths: *mut u32,
         depths_len: usize,
         faces: *mut u32,

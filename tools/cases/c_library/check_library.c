@@ -7,7 +7,7 @@
  * NAME.COMMAND, NAME.COMMAND.note and NAME.COMMAND.status, where COMMAND is render, colour, plan, cost and play.
  *
  * Each buffer ends where a page begins that nobody may touch, and is filled before a call. For each text: check,
- * render, colour and products with buffers of no element, one too few, as many as are due, and one more; state,
+ * render, window (of the whole picture), colour and products with buffers of no element, one too few, as many as are due, and one more; state,
  * micros and course so too, at the first, a middle and the last clock or operation, and past it; each with each allocation refused in turn
  * (some of the later ones); and all of it in four threads at once. No call may want more bytes at once than its text
  * and, where it draws or clocks, its array explain. Linked with --wrap for malloc, realloc and free. Prints a line for each difference, and last how much was compared.
@@ -32,12 +32,12 @@ struct text {
 
 /* The calls, in one form: two buffers where there are two, else one. */
 
-enum call { CHECK, DRAW, PAINT, LIST, CALLS, STATE = CALLS, MICROS, COURSE, ALL };
+enum call { CHECK, DRAW, WINDOW, PAINT, LIST, CALLS, STATE = CALLS, MICROS, COURSE, ALL };
 static const struct {
     const char *name;
     int command, buffers;
     size_t each;
-} kinds[ALL] = {{"check", RENDER, 0, 0}, {"render", RENDER, 2, 4}, {"colour", COLOUR, 1, 1}, {"products", PLAN, 1, 4},
+} kinds[ALL] = {{"check", RENDER, 0, 0}, {"render", RENDER, 2, 4}, {"window", RENDER, 2, 4}, {"colour", COLOUR, 1, 1}, {"products", PLAN, 1, 4},
                 {"state", COST, 1, 8}, {"micros", COST, 1, 8}, {"course", COST, 1, sizeof(struct pxplanes_operation)}};
 
 /* What the calls of the machine take beside: a clock, or an operation, and where the state is told. */
@@ -50,7 +50,7 @@ struct moment {
  * which with its four slots has 75 rows of 32 KiB and a tree of 128 KiB, five times, for 512 by 512 pixels. */
 static size_t most_due(enum call call, const struct text *text, uint32_t status)
 {
-    int is_open = call == STATE || ((call == DRAW || call == PAINT) && (status == PXPLANES_OK || status == PXPLANES_MEMORY));
+    int is_open = call == STATE || (kinds[call].buffers > 0 && call < LIST && (status == PXPLANES_OK || status == PXPLANES_MEMORY));
     return 128 * text->bytes.len + (1 << 20) + (is_open ? 14 << 20 : 0);
 }
 
@@ -58,6 +58,9 @@ static uint32_t called(enum call call, const struct text *text, struct buffer *b
                        struct pxplanes_found *found, long refuse)
 {
     uint32_t status = 0;
+    struct pxplanes_found whole = {0};
+    if (call == WINDOW)
+        pxplanes_check(text->bytes.at, text->bytes.len, &whole);
     memset(found, FILL, sizeof *found);
     atomic_fetch_add(&calls, 1);
     asked = held = 0;
@@ -71,6 +74,10 @@ static uint32_t called(enum call call, const struct text *text, struct buffer *b
     case DRAW:
         status = pxplanes_render(text->bytes.at, text->bytes.len, (uint32_t *) b[0].at, b[0].len, (uint32_t *) b[1].at, b[1].len,
                                  found);
+        break;
+    case WINDOW:
+        status = pxplanes_window(text->bytes.at, text->bytes.len, 0, 0, whole.width, whole.height, (uint32_t *) b[0].at, b[0].len,
+                                 (uint32_t *) b[1].at, b[1].len, found);
         break;
     case PAINT:
         status = pxplanes_colour(text->bytes.at, text->bytes.len, b[0].at, b[0].len, found);
@@ -232,7 +239,7 @@ static uint32_t tried(enum call call, const struct text *text, size_t due, const
     if (status == PXPLANES_OK && due > 0) {
         size_t pixels = (size_t) found.width * found.height;
         const struct bytes *output = &answer->output;
-        if (call == DRAW) {
+        if (kinds[call].buffers == 2) {
             compare_numbers(text, "the depth", &b[0], map_at(output, 0, found.width, found.height), pixels);
             compare_numbers(text, "the face", &b[1], map_at(output, 1, found.width, found.height), pixels);
         }
@@ -264,7 +271,7 @@ static void compare(const struct text *text)
     for (enum call call = CHECK; call < CALLS; call++) {
         size_t due = due_of(call, text);
         for (size_t i = 0; i < sizeof sizes / sizeof *sizes; i++)
-            if (call == DRAW || sizes[i][1] == sizes[i][0] || (sizes[i][0] == -1))
+            if (kinds[call].buffers == 2 || sizes[i][1] == sizes[i][0] || (sizes[i][0] == -1))
                 tried(call, text, due, sizes[i], 0);
         long all = asked;
         for (long at = 1; at <= all; at += 1 + at / 8)

@@ -29,6 +29,7 @@ int main()
     pxplanes_moment moment{};
     c.note(pxplanes_check(c.text, c.text_len, &c.found));
     c.note(pxplanes_render(c.text, c.text_len, &depth, 1, &face, 1, &c.found));
+    c.note(pxplanes_window(c.text, c.text_len, 0, 0, 1, 1, &depth, 1, &face, 1, &c.found));
     c.note(pxplanes_colour(c.text, c.text_len, rgb, 3, &c.found));
     c.note(pxplanes_products(c.text, c.text_len, literals, 2, &c.found));
     c.note(pxplanes_state(c.text, c.text_len, 0, nullptr, 0, &moment, &c.found));
