@@ -1,5 +1,5 @@
 -- What the passes of a scene come to, by the rates of their steps.
-use Rattle.px_num.proofs.Basics.{false, ◌≡◌, ◌==◌, ◌<◌, ◌≤◌, ◌∙◌, ℕ, All, List, length, get_or, refl, ap, sym, arith}
+use Rattle.px_num.proofs.Basics.{◌≡◌, ◌==◌, ◌<◌, ◌≤◌, ◌∙◌, ℕ, All, List, length, get_or, refl, ap, sym, arith}
 use Rattle.px_num.proofs.Basics.{inl, inr, sum_by, cases_Bool, length-flat_map}
 use Rattle.px_control.proofs.Words.{all_micros, AreRates, bare, bare_worth, but_edges, Candidate, columns_of}
 use Rattle.px_control.proofs.Words.{cycles_in, depths_of, Drop, edges_count, first_face_step, flat_sum, Front, HasFace}

@@ -1,10 +1,10 @@
 -- The ends of operations before and after a clock.
-use Rattle.px_num.proofs.Basics.{◌≡◌, ℕ, zero, suc, ◌+◌, ◌-◌, ◌<◌, ◌≤◌, List, [], ◌∷◌, ◌++◌, length, take, drop}
-use Rattle.px_num.proofs.Basics.{filter, Option, Some, None, refl, ap, ◌∙◌, arith, length-append, add-one, flat_map}
+use Rattle.px_num.proofs.Basics.{◌≡◌, ℕ, zero, suc, ◌+◌, ◌-◌, ◌<◌, ◌≤◌, List, [], ◌∷◌, length, take, drop}
+use Rattle.px_num.proofs.Basics.{filter, Option, Some, None, refl, ap, ◌∙◌, arith, length-append, add-one}
 use Rattle.px_num.proofs.Basics.{slice_get, nat_lt, nat_le, drop-cons, lt-ltb, slice_get_within, get_or_from_slice_get}
-use Rattle.px_num.proofs.Basics.{take_all, take-append-drop, flat_map-cons}
-use Rattle.px_control.proofs.Words.{all_micros, columns_of, cycles_in, ends_after, ends_from, flat_map-append}
-use Rattle.px_control.proofs.Words.{le_false, le_true, length-tabulate, lt_false, Macro, Micro, micros, passes}
+use Rattle.px_num.proofs.Basics.{take_all, flat_map-cons}
+use Rattle.px_control.proofs.Words.{all_micros, columns_of, cycles_in, ends_after, ends_from}
+use Rattle.px_control.proofs.Words.{le_false, le_true, length-tabulate, lt_false, Macro, passes}
 use Rattle.px_control.proofs.Words.{rows_of, SceneView, total}
 use Rattle.px_control.specs.Program.{operation_ends, program}
 
@@ -16,9 +16,6 @@ IsMicroOf scene micro (Some m) = micro < cycles_in scene m
 -- where operation k of a list begins
 abbrev pub start_in : SceneView → List Macro → (k : ℕ) → ℕ
 start_in scene ms k = length (all_micros (take k ms) (columns_of scene) (rows_of scene))
-
-abbrev micros_in : SceneView → Macro → List Micro
-micros_in scene m = micros m (columns_of scene) (rows_of scene)
 
 start_cons : (scene : SceneView) (x : Macro) (xs : List Macro) (k : ℕ) → start_in scene (x ∷ xs) (suc k)
     ≡ cycles_in scene x + start_in scene xs k
@@ -67,14 +64,6 @@ operation_here scene (x ∷ xs) (suc k) i b n o e w h l =
 pub start_all : (scene : SceneView) (ms : List Macro) (k : ℕ) → length ms ≤ k →
     start_in scene ms k ≡ length (all_micros ms (columns_of scene) (rows_of scene))
 start_all scene ms k h = rw (take_all k ms h) refl
-
-pub start_within : (scene : SceneView) (ms : List Macro) (k : ℕ) →
-    start_in scene ms k ≤ length (all_micros ms (columns_of scene) (rows_of scene))
-start_within scene ms k =
-    let f : Macro → List Micro = micros_in scene in
-    let t : take k ms ++ drop k ms ≡ ms = take-append-drop k ms in
-    let e = rw t at (flat_map-append f (take k ms) (drop k ms)) in
-    omega (arith, ap length e, length-append (flat_map f (take k ms)) (flat_map f (drop k ms)))
 
 -- the next end is that of the operation that runs
 pub next_end_here : (scene : SceneView) (ms : List Macro) (k i n e : ℕ) (m : Macro) → slice_get ms k ≡ Some m

@@ -9,8 +9,9 @@ use Rattle.std.specs.Prelude.{OnSome}
 use Rattle.px_sched.specs.declared.cursor.Cursor.{Cursor}
 use Rattle.px_control.specs.Program.{array_after, operation_ends, program}
 use Rattle.px_control.specs.ProgramLaws.{HaveLawfulPasses, HaveClocks}
-use Rattle.px_control.proofs.EndLemmas.{next_end_here, operation_here, start_all, start_within}
-use Rattle.px_control.proofs.StepLemmas.{below_total, lawful_here, micro_here, start_more}
+use Rattle.px_control.proofs.EndLemmas.{next_end_here, operation_here, start_all}
+use Rattle.px_control.proofs.StepLemmas.{below_total, micro_here, start_more, start_within}
+use Rattle.px_sched.proofs.LawfulLaws.{lawful_here}
 
 pub record Here (scene : SceneView) (p : Place) (m : Macro) : Type 0 where
   pub at : slice_get (passes scene) p.operation ≡ Some m
@@ -120,7 +121,7 @@ pub next_end_within : (scene : SceneView) (p : Place) (m : Macro) (e : ℕ) → 
 unfolding program
 next_end_within scene p m e lawful stands c is =
     let h = here_of scene p m lawful stands c
-    in let b = start_within scene (passes scene) (p.operation + 1)
+    in let b = start_within (passes scene) (columns_of scene) (rows_of scene) (p.operation + 1)
     in omega (arith, stands.clock, h.next, h.micro, b)
 
 pub clocks_at : (bits : ℕ) (scene : SceneView) (n : ℕ) (device : Device) → IsAt bits scene n device → device.clocks ≡ n

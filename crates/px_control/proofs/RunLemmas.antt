@@ -9,10 +9,9 @@ use Rattle.px_control.proofs.Words.{zero_state}
 use Rattle.std.proofs.lemmas.List.Edits.{get_or-between, length-between}
 use Rattle.px_control.specs.Program.{array_after, program}
 use Rattle.px_control.specs.ProgramLaws.{HaveLawfulPasses}
-use Rattle.px_control.proofs.EndLemmas.{start_within}
 use Rattle.px_control.proofs.PlaceLemmas.{here_of}
 use Rattle.px_control.proofs.ArrayLaws.{columns_at, rows_at}
-use Rattle.px_control.proofs.StepLemmas.{micro_here}
+use Rattle.px_control.proofs.StepLemmas.{micro_here, start_within}
 
 -- the front of a list up to a place, and what follows up to another
 take_further : {X : Type 0} (xs : List X) (n k : ℕ) → n ≤ k → take k xs ≡ take n xs ++ between n k xs
@@ -89,7 +88,7 @@ at_run bits scene p m to before now lawful stands e low within at is =
     let made = between p.micro to (micros m nx ny) in
     let end : p.clock + (to - p.micro) ≡ start + to = omega (arith, stands.clock) in
     let inside : start + to ≤ total scene =
-    omega (arith, here.next, start_within scene (passes scene) (p.operation + 1)) in
+    omega (arith, here.next, start_within (passes scene) nx ny (p.operation + 1)) in
     let columns = columns_are bits scene p.clock before at in
     let rows = rows_are bits scene p.clock before at in
     let list : take (start + to) (program scene) ≡ take (start + p.micro) (program scene) ++ made =

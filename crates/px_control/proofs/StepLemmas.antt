@@ -1,9 +1,9 @@
 -- One broadcast of a program after another.
-use Rattle.px_num.proofs.Basics.{◌≡◌, ℕ, ◌+◌, ◌<◌, ◌≤◌, List, [], ◌∷◌, length, take, get_or, Some, ap, ◌∙◌, arith}
-use Rattle.px_num.proofs.Basics.{length-append, slice_get, All, All-get_or, take_more, slice_get_within}
+use Rattle.px_num.proofs.Basics.{◌≡◌, ℕ, ◌+◌, ◌<◌, ◌≤◌, List, [], ◌∷◌, length, take, drop, get_or, Some, ap, sym, ◌∙◌, arith}
+use Rattle.px_num.proofs.Basics.{length-append, slice_get, take_more, slice_get_within, flat_map, take-append-drop}
 use Rattle.px_num.proofs.Basics.{get_or_from_slice_get, flat_map-cons, get_or-flat_map, length-flat_map-take}
 use Rattle.px_control.proofs.Words.{all_micros, columns_of, cycles, Device, flat_map-append, get_or-tabulate, IsAt}
-use Rattle.px_control.proofs.Words.{IsLawful, layout_of, length-tabulate, Macro, Micro, micro_at, micros, need_of}
+use Rattle.px_control.proofs.Words.{layout_of, length-tabulate, Macro, Micro, micro_at, micros, need_of}
 use Rattle.px_control.proofs.Words.{opened, rows_of, SceneView}
 use Rattle.px_control.specs.Program.{array_after}
 
@@ -42,10 +42,13 @@ micro_here ms nx ny k i m d e h =
     in get_or-flat_map f ms k i m d (slice_get_within ms k m e) w
     ∙ rw g (get_or-tabulate (cycles m nx ny) (micro_at m nx ny) i d h)
 
-pub lawful_here : (bits : ℕ) (ms : List Macro) (k : ℕ) (m : Macro) → slice_get ms k ≡ Some m
-    → All (λ m. IsLawful m bits) ms → IsLawful m bits
-lawful_here bits ms k m e h =
-    rw (get_or_from_slice_get ms k m m e) at (All-get_or (λ m. IsLawful m bits) ms k m (slice_get_within ms k m e) h)
+-- an operation begins within the micros of all
+pub start_within : (ms : List Macro) (nx ny k : ℕ)
+    → length (all_micros (take k ms) nx ny) ≤ length (all_micros ms nx ny)
+start_within ms nx ny k =
+    let f : Macro → List Micro = λ m. micros m nx ny
+    in let parts = sym (ap (flat_map f) (take-append-drop k ms)) ∙ flat_map-append f (take k ms) (drop k ms)
+    in omega (arith, ap length parts, length-append (all_micros (take k ms) nx ny) (all_micros (drop k ms) nx ny))
 
 -- an array that was opened for a scene
 pub at_opened : (bits : ℕ) (scene : SceneView) (device : Device) → need_of (layout_of scene) ≤ bits →

@@ -4,6 +4,7 @@ ghost use Rattle.std.specs.Bool.{MatchBool};
 ghost use Rattle.circular_buffer.specs.Buffer.{buffer, keep_last};
 ghost use Rattle.px_control.specs.Program.{program, total};
 ghost use Rattle.px_debug.specs.Courses.{IsAlmostOnCourse, IsKeptBySession, IsOnCourse, IsSameCourse, IsTraced};
+ghost use Rattle.px_debug.specs.Moves.{quarter_of};
 
 use circular_buffer::HeapCircularBuffer;
 use px_array::{Array, Micro};
@@ -158,7 +159,7 @@ impl<'s> Course<'s> {
         requires course { IsOnCourse A.BITS self.old (A.view array.old) }
         requires forth { self.old.job.place.clock ≤ target }
         requires within { target ≤ total self.old.job.scene }
-        requires small { self.old.quarter ≤ 2 ^ 43 }
+        requires quarter { self.old.quarter ≡ quarter_of self.old.job.scene }
         requires capacity { self.old.trace.capacity ≡ 32 }
         requires trace { IsTraced self.old ⊎ (self.old.job.place.clock + 32 ≤ target) }
         ensures course { IsOnCourse A.BITS self.new (A.view array.new) }
@@ -181,8 +182,7 @@ impl<'s> Course<'s> {
     pub(crate) fn back<A: Operating>(&mut self, array: &mut A, target: u64)
         requires course { IsOnCourse A.BITS self.old (A.view array.old) }
         requires before { target ≤ self.old.job.place.clock }
-        requires small { self.old.quarter ≤ 2 ^ 43 }
-        requires quarter { total self.old.job.scene < 4 * self.old.quarter + 4 }
+        requires quarter { self.old.quarter ≡ quarter_of self.old.job.scene }
         requires capacity { self.old.trace.capacity ≡ 32 }
         ensures course { IsOnCourse A.BITS self.new (A.view array.new) }
         ensures same { IsSameCourse self.old self.new }

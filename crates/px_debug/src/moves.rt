@@ -26,17 +26,17 @@ impl<'s> Course<'s> {
         match command {
             Command::Step(n) => {
                 let target = self.ahead(n);
-                self.go_to(array, target);
+                self.forward(array, target);
             }
             Command::Macro(n) => self.go_ends(array, n),
             Command::Run => {
                 let target = self.job.total_clocks();
                 let _now = self.job.now();
-                self.go_to(array, target);
+                self.forward(array, target);
             }
             Command::Until(n) => {
                 let target = self.until(n);
-                self.go_to(array, target);
+                self.forward(array, target);
             }
             Command::Back(n) => self.go_back(array, n),
             Command::At
@@ -69,23 +69,6 @@ impl<'s> Course<'s> {
         self.job.now().max(clock.min(self.job.total_clocks()))
     }
 
-    /// Goes on to a clock.
-    fn go_to<A: Operating>(&mut self, array: &mut A, target: u64)
-        requires course { IsOnCourse A.BITS self.old (A.view array.old) }
-        requires quarter { self.old.quarter ≡ quarter_of self.old.job.scene }
-        requires trace { IsTraced self.old }
-        requires forth { self.old.job.place.clock ≤ target }
-        requires within { target ≤ total self.old.job.scene }
-        ensures course { IsOnCourse A.BITS self.new (A.view array.new) }
-        ensures same { IsSameCourse self.old self.new }
-        ensures clock { self.new.job.place.clock ≡ target }
-        ensures trace { IsTraced self.new }
-        ensures work { (A.view array.new).work ≤ (A.view array.old).work + (target - self.old.job.place.clock) }
-    {
-        let _total = self.job.total_clocks();
-        self.forward(array, target);
-    }
-
     /// Goes so many times to the end of the operation that runs.
     fn go_ends<A: Operating>(&mut self, array: &mut A, count: u64)
         requires course { IsOnCourse A.BITS self.old (A.view array.old) }
@@ -106,7 +89,7 @@ impl<'s> Course<'s> {
                 return;
             }
             let end = self.job.next_end();
-            self.go_to(array, end);
+            self.forward(array, end);
         }
     }
 
@@ -122,7 +105,6 @@ impl<'s> Course<'s> {
         ensures work { (A.view array.new).work ≤ (A.view array.old).work + back_clocks self.old.job.scene
             self.old.job.place.clock (self.old.job.place.clock - clocks) }
     {
-        let _total = self.job.total_clocks();
         let now = self.job.now();
         let target = now.saturating_sub(clocks);
         if target < now {

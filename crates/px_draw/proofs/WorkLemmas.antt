@@ -1,115 +1,92 @@
 -- What was made of a text that was read, it was made of the input.
-use Rattle.std.proofs.Common.{ℕ, ◌≡◌, ◌≤◌, ◌^◌, inl, inr, List, length, take, true, nat_lt, Option, Some, None, Result}
-use Rattle.std.proofs.Common.{Err, refl, ap, sym, ◌∙◌, arith, length-take}
-use Rattle.std.proofs.lemmas.Bool.{cases_lt}
-use Rattle.std.proofs.lemmas.Bool.Decides.{nat_tests}
-use Rattle.std.proofs.lemmas.List.{take_all}
-use Rattle.std.specs.Io.KnownBytes.{Consumes}
+use Rattle.px_num.proofs.Basics.{ℕ, ◌≡◌, ◌≤◌, inl, List, length, Some, None, Result, Err, refl, sym, ◌∙◌, Consumes}
 use Rattle.px_io.specs.Told.{ConsumesAtMost, IsFrontOf}
 use Rattle.px_io.specs.declared.reading.ReadError.{ReadError}
 use Rattle.px_array.specs.Slots.{ArrayView}
 use Rattle.px_scene.specs.Scenes.{SceneView}
 use Rattle.px_scene.specs.Text.{worded}
 use Rattle.px_scene.specs.Reading.{scene_of}
+use Rattle.px_frame.specs.Drawn.{IsDrawn}
 use Rattle.px_frame.specs.Finer.{fine_scene}
 use Rattle.px_frame.specs.Refined.{doublings}
 use Rattle.px_commands.specs.declared.command.Work.{Work}
 use Rattle.px_commands.specs.declared.refusal.Refusal.{Refusal}
+use Rattle.px_commands.specs.declared.status.Status.{Status}
 use Rattle.px_commands.specs.declared.stop.Stop.{Stop}
 use Rattle.px_commands.specs.declared.stop.SceneStop.{SceneStop}
-use Rattle.px_commands.specs.Outcomes.{unless_refused}
-use Rattle.px_commands.specs.Refusals.{text_refusal}
+use Rattle.px_commands.specs.Outcomes.{refused, unless_refused}
+use Rattle.px_commands.specs.Refusals.{text_refusal, too_long}
 use Rattle.px_commands.specs.Ends.{Ends, IsUntouched}
 use Rattle.px_commands.specs.Results.{status_in, status_of}
 use Rattle.px_commands.specs.Stops.{DoesWork, StopsAt, read_stop, stopped}
-use Rattle.px_draw.specs.Workings.{WorksOn}
 use Rattle.px_draw.specs.Works.{LeavesArray, PerformsWork, made, worked_out}
-use Rattle.px_commands.proofs.RunLaws.{bytes_of, of_known, performs_over}
-use Rattle.px_commands.proofs.StopLaws.{read_draws, read_meets, read_writes, stop_draws, stop_serves}
+use Rattle.px_commands.proofs.FrontLaws.{LeavesAlike, ServesText, performs_served, performs_unread, text_serves}
+use Rattle.px_commands.proofs.LimitLaws.{past_limit}
+use Rattle.px_commands.proofs.RunLaws.{bytes_of}
+use Rattle.px_commands.proofs.StopLaws.{read_leaves, stop_leaves, stop_serves}
 use Rattle.px_io.specs.declared.reading.ReadError.TheVariants as read
 use Rattle.px_commands.specs.declared.command.Work.TheVariants as w
 use Rattle.px_commands.specs.declared.refusal.Refusal.TheVariants as r
 use Rattle.px_commands.specs.declared.stop.SceneStop.TheVariants as halted
 
-long : (text : List ℕ) → 1048577 ≤ length text → nat_lt (2 ^ 20) (length text) ≡ true
-long text le = grind (arith, nat_tests)
-
--- a text's front of one byte past the limit is refused as it is
-pub refusal_front : (bytes : List ℕ) → text_refusal (take 1048577 bytes) ≡ text_refusal bytes
-refusal_front bytes = elim (cases_lt (length bytes) 1048577) [
-  | inl short ↦ ap (λ text. text_refusal text) (take_all 1048577 bytes (omega arith))
-  | inr past ↦ rw (long bytes past, long (take 1048577 bytes) (omega (arith, length-take 1048577 bytes))) refl
-]
-
--- a text of which no more than its front was read is its front, where that is a scene's
-pub whole_text : (bytes : List ℕ) → text_refusal (take 1048577 bytes) ≡ None → take 1048577 bytes ≡ bytes
-whole_text bytes good = elim (cases_lt (length bytes) 1048577) [
-  | inl short ↦ take_all 1048577 bytes (omega arith)
-  | inr past ↦ let too_long = rw (long (take 1048577 bytes) (omega (arith, length-take 1048577 bytes))) at good in cc
-]
-
--- a text's front answers for it
-work_front : (work : Work) (bytes : List ℕ) (bits : ℕ) → worked_out work (take 1048577 bytes) bits
-    ≡ worked_out work bytes bits
-work_front work bytes bits = by_refusal (text_refusal (take 1048577 bytes)) refl
+-- the array is left as by the scene of a text; a refused text leaves what it would of any scene
+pub record LeavesWorked (work : Work) (found : Status) (bits : ℕ) (text : List ℕ) (before now : ArrayView) : Type 0
   where
-    by_refusal : (reason : Option Refusal) → text_refusal (take 1048577 bytes) ≡ reason
-        → worked_out work (take 1048577 bytes) bits ≡ worked_out work bytes bits
-    by_refusal None good = ap (λ text. worked_out work text bits) (whole_text bytes good)
-    by_refusal (Some reason) bad = rw (bad, sym (refusal_front bytes) ∙ bad) refl
+    pub array : LeavesArray work found bits (scene_of (worded text)) before now
+    pub refused : (reason : Refusal) → text_refusal text ≡ Some reason → (scene : SceneView)
+        → LeavesArray work found bits scene before now
 
-array_front : (work : Work) (result : Result (Unit {0}) Stop) (bytes : List ℕ) (bits : ℕ) (before after : Ends)
-    → WorksOn result work (take 1048577 bytes) bits before after
-    → LeavesArray work (status_in result) bits (scene_of (worded bytes)) before.array after.array
-array_front work result bytes bits before after works = by_refusal (text_refusal (take 1048577 bytes)) refl
-  where
-    by_refusal : (reason : Option Refusal) → text_refusal (take 1048577 bytes) ≡ reason
-        → LeavesArray work (status_in result) bits (scene_of (worded bytes)) before.array after.array
-    by_refusal None good = rw (← whole_text bytes good) works.array
-    by_refusal (Some reason) bad = works.refused reason bad (scene_of (worded bytes))
+-- something is made of a scene, where a text was read
+abbrev pub WorksText : Result (Unit {0}) Stop → Work → (bits : ℕ) → (before after : Ends) → (text : List ℕ) → Type 0
+WorksText result work bits before after text =
+    ServesText result (λ text. worked_out work text bits)
+    (λ text old new. LeavesWorked work (status_in result) bits text old new) before after text
 
--- what is made of the front of a text is made of the text
-works_front : (result : Result (Unit {0}) Stop) (work : Work) (bits : ℕ) (before after : Ends) (bytes : List ℕ)
-    → WorksOn result work (take 1048577 bytes) bits before after → WorksOn result work bytes bits before after
-works_front result work bits before after bytes works = record {
-  meets = rw (← work_front work bytes bits) works.meets;
-  writes = rw (← work_front work bytes bits) works.writes;
-  array = array_front work result bytes bits before after works;
-  refused = λ reason bad scene. works.refused reason (refusal_front bytes ∙ bad) scene;
+-- a text past the limit is refused for it
+long_refused : (text : List ℕ) → 1048577 ≤ length text → text_refusal text ≡ Some too_long
+long_refused text le = rw (past_limit (length text) le) refl
+
+long_worked : (work : Work) (bits : ℕ) (text : List ℕ) → 1048577 ≤ length text
+    → worked_out work text bits ≡ refused too_long
+long_worked work bits text le = rw (long_refused text le) refl
+
+works_alike : (result : Result (Unit {0}) Stop) (work : Work) (bits : ℕ)
+    → LeavesAlike result (λ text old new. LeavesWorked work (status_in result) bits text old new)
+works_alike result work bits one other before now long meets is = record {
+  array = is.refused too_long (long_refused one long) (scene_of (worded other));
+  refused = λ reason bad scene. is.refused too_long (long_refused one long) scene;
 }
-
--- what is made of the whole input is what the command does
-performs : (result : Result (Unit {0}) Stop) (work : Work) (taken : List ℕ) (bits : ℕ) (before after : Ends)
-    → Consumes before.rest after.rest taken → WorksOn result work (bytes_of before.rest taken) bits before after
-    → PerformsWork work result bits before after
-performs result work taken bits before after consumed works = grind (arith, performs_over)
 
 -- a text that was read answers for the input
 pub performs_text : (result : Result (Unit {0}) Stop) (work : Work) (text : List ℕ) (bits : ℕ) (before after : Ends)
     → IsFrontOf before.rest 1048577 text → Consumes before.rest after.rest text
-    → WorksOn result work text bits before after → PerformsWork work result bits before after
+    → WorksText result work bits before after text → PerformsWork work result bits before after
 performs_text result work text bits before after front consumed works =
-    performs result work text bits before after consumed
-    (of_known (λ bytes. WorksOn result work bytes bits before after) before.rest text
-    (works_front result work bits before after) front works)
+    let whole : WorksText result work bits before after (bytes_of before.rest text) =
+    text_serves result (λ text. worked_out work text bits)
+    (λ text old new. LeavesWorked work (status_in result) bits text old new) before after text (long_worked work bits)
+    (works_alike result work bits) front works in
+    performs_served result (λ text. worked_out work text bits)
+    (λ text old new. LeavesArray work (status_in result) bits (scene_of (worded text)) old new) before after text
+    consumed (record { serves = whole.serves; array = whole.array.array })
 
 -- an array that is as before is what a read that failed leaves, and a scene that is not served
 read_array : (work : Work) (bits : ℕ) (scene : SceneView) (array : ArrayView) (fault : ReadError)
     → LeavesArray work (status_of (read_stop fault)) bits scene array array
-read_array w.Render bits scene array fault = read_draws fault bits scene array
-read_array w.Colour bits scene array fault = read_draws fault bits scene array
+read_array w.Render bits scene array fault = read_leaves fault (IsDrawn bits scene) array
+read_array w.Colour bits scene array fault = read_leaves fault (IsDrawn bits scene) array
 read_array (w.Refine fineness) bits scene array fault =
-    read_draws fault bits (fine_scene (doublings fineness) scene) array
+    read_leaves fault (IsDrawn bits (fine_scene (doublings fineness) scene)) array
 read_array (w.Tile size) bits scene array read.Failed = refl
 read_array (w.Tile size) bits scene array (read.Memory _) = inl refl
 read_array other bits scene array fault = refl
 
 stop_array : (work : Work) (bits : ℕ) (scene : SceneView) (array : ArrayView) (stop : SceneStop)
     → LeavesArray work (status_of (stopped stop)) bits scene array array
-stop_array w.Render bits scene array stop = stop_draws stop bits scene array
-stop_array w.Colour bits scene array stop = stop_draws stop bits scene array
+stop_array w.Render bits scene array stop = stop_leaves stop (IsDrawn bits scene) array
+stop_array w.Colour bits scene array stop = stop_leaves stop (IsDrawn bits scene) array
 stop_array (w.Refine fineness) bits scene array stop =
-    stop_draws stop bits (fine_scene (doublings fineness) scene) array
+    stop_leaves stop (IsDrawn bits (fine_scene (doublings fineness) scene)) array
 stop_array (w.Tile size) bits scene array (halted.Refused (r.Malformed line cause)) = refl
 stop_array (w.Tile size) bits scene array (halted.Refused (r.Limit line kind found)) = refl
 stop_array (w.Tile size) bits scene array (halted.Memory _) = inl refl
@@ -118,27 +95,37 @@ stop_array other bits scene array stop = refl
 -- the work stops at a read, whatever the text is
 pub performs_read : (work : Work) (bits : ℕ) (fault : ReadError) (before after : Ends) → IsUntouched before after
     → ConsumesAtMost before.rest after.rest 1048577 → PerformsWork work (Err (read_stop fault)) bits before after
-performs_read work bits fault before after idle (taken, consumed, few) =
-    performs (Err (read_stop fault)) work taken bits before after consumed (record {
-      meets = read_meets fault _;
-      writes = read_writes fault _ before.out after.out idle.out;
-      array = rw idle.array (read_array work bits _ before.array fault);
-      refused = λ reason bad scene. rw idle.array (read_array work bits scene before.array fault);
-    })
+performs_read work bits fault before after idle took =
+    performs_unread fault (λ text. worked_out work text bits)
+    (λ text old new. LeavesArray work (status_of (read_stop fault)) bits (scene_of (worded text)) old new) before after
+    idle took (λ text. read_array work bits (scene_of (worded text)) before.array fault)
 
 -- the work stops at its text
 pub works_text : (work : Work) (bytes lent : List ℕ) (bits : ℕ) (stop : SceneStop) (before after : Ends)
     → lent ≡ bytes → StopsAt (unless_refused (text_refusal lent)) stop → after.out ≡ before.out
-    → after.array ≡ before.array → WorksOn (Err (stopped stop)) work bytes bits before after
-works_text work bytes lent bits stop before after same stops out array =
-    let serves = stop_serves stop (unless_refused (text_refusal bytes)) (made work (scene_of (worded bytes)) bits)
-    before.out (rw same at stops) in
-    grind (arith, stop_array)
+    → after.array ≡ before.array → WorksText (Err (stopped stop)) work bits before after bytes
+works_text work bytes lent bits stop before after same stops out array = record {
+  serves = rw out (stop_serves stop (unless_refused (text_refusal bytes)) (made work (scene_of (worded bytes)) bits)
+      before.out (rw same at stops));
+  array = record {
+    array = rw array (stop_array work bits (scene_of (worded bytes)) before.array stop);
+    refused = λ reason bad scene. rw array (stop_array work bits scene before.array stop);
+  };
+}
 
 -- something is made of the scene of a text
 pub works_scene : (result : Result (Unit {0}) Stop) (work : Work) (bytes lent : List ℕ) (bits : ℕ) (scene : SceneView)
     (before after : Ends) → lent ≡ bytes → text_refusal lent ≡ None → scene ≡ scene_of (worded lent)
     → DoesWork result (made work scene bits) before.out after.out
     → LeavesArray work (status_in result) bits scene before.array after.array
-    → WorksOn result work bytes bits before after
-works_scene result work bytes lent bits scene before after same good is serves array = grind arith
+    → WorksText result work bits before after bytes
+works_scene result work bytes lent bits scene before after same good is serves array =
+    let whole : text_refusal bytes ≡ None = rw same at good in
+    let here : scene ≡ scene_of (worded bytes) = rw same at is in
+    record {
+      serves = rw (whole, ← here) serves;
+      array = record {
+        array = rw (← here) array;
+        refused = λ reason bad other. let none : None ≡ Some reason = sym whole ∙ bad in cc;
+      };
+    }

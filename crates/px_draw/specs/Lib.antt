@@ -22,11 +22,9 @@ pub mod Askings
 pub mod Debugs
 pub mod ListedScenes
 pub mod Listings
-pub mod Playings
 pub mod Refining
 pub mod RenderLaw
 pub mod Runs
 pub mod Sittings
 pub mod Tiling
-pub mod Workings
 pub mod Works

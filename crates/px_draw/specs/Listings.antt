@@ -3,7 +3,7 @@ use Rattle.std.specs.Prelude.{◌≡◌, ℕ, List, length, nat_lt, if◌then◌
 use Rattle.std.specs.List.{sum_by}
 use Rattle.px_text.specs.declared.text.TheConstants.{MAX_TEXT_BYTES}
 use Rattle.px_array.specs.Arrays.{Device}
-use Rattle.px_array.specs.Slots.{ArrayView, IsRunOnce}
+use Rattle.px_array.specs.Slots.{ArrayView}
 use Rattle.px_asm.specs.Micros.{cycles}
 use Rattle.px_text.specs.Text.{worded}
 use Rattle.px_listing.specs.Listings.{ListingView}
@@ -14,8 +14,7 @@ use Rattle.px_listing.specs.Reading.{ListFault}
 use Rattle.px_commands.specs.declared.refusal.Refusal.{Refusal}
 use Rattle.px_commands.specs.declared.stop.Stop.{Stop}
 use Rattle.px_commands.specs.declared.status.Status.{Status}
-use Rattle.px_commands.specs.declared.status.Status.TheVariants as status
-use Rattle.px_commands.specs.Arrays.{IsKeptOrClosed}
+use Rattle.px_commands.specs.Arrays.{LeavesMade}
 use Rattle.px_commands.specs.Ends.{Ends}
 use Rattle.px_commands.specs.Inputs.{PerformsOver, WritesAndLeaves}
 use Rattle.px_commands.specs.Outcomes.{Outcome, done, unless_refused}
@@ -46,13 +45,9 @@ pub record IsPlayed (bits : ℕ) (l : ListingView) (device : Device) : Type 0 wh
   pub clocks : device.clocks ≡ sum_by (λ m. cycles m l.nx l.ny) l.macros
   pub pixels : HasPlayed bits l device.state
 
--- what is left of the array, of its slots and its work too, where a listing is played: the listing played on a new
--- array, also where its memory could not be written, and else the array as before
+-- what is left of the array where a listing is played
 abbrev pub Plays : Status → (bits : ℕ) → ListingView → (before now : ArrayView) → Type 0
-Plays status.Done bits l before now = IsPlayed bits l now.device × IsRunOnce now
-Plays status.WriteFault bits l before now = IsPlayed bits l now.device × IsRunOnce now
-Plays (status.Memory _) bits l before now = IsKeptOrClosed before now
-Plays status bits l before now = now ≡ before
+Plays status bits l before now = LeavesMade (IsPlayed bits l) status before now
 
 -- what is written, and what is left of the array
 abbrev pub LeavesPlayed : Result (Unit {0}) Stop → (bits : ℕ) → (bytes : List ℕ) → (before after : Ends) → Type 0

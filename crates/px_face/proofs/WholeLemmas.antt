@@ -37,9 +37,6 @@ unequal n z h = grind (arith, nat_tests)
 below_is : (n z : ℕ) → le_z (pos n) (pos z) ≡ true → n ≤ z
 below_is n z h = grind (arith, ints)
 
-past_is : (n z : ℕ) → lt_z (pos z) (pos n) ≡ true → suc z ≤ n
-past_is n z h = grind (arith, ints)
-
 module _ (far near : ℕ) (fs : List Face) (x y z : ℕ) where
   fronts_by_value : (e : ℤ) → pos 0 ≤ℤ e → le_z e (pos z) ≡ true → list_all (λ f. le_z (value_at f.plane x y) e)
       fs ≡ true

@@ -1,5 +1,4 @@
 pub mod DrawnImageLemmas
-pub mod FaceLemmas
 pub mod FinerLemmas
 pub mod ImageLemmas
 pub mod MeanLemmas

@@ -1,17 +1,15 @@
 -- Means of the same samples, and the image of means over the picture of the finer scene.
-use Rattle.px_num.proofs.Basics.{◌≡◌, ◌≢◌, ℕ, zero, suc, ◌+◌, ◌*◌, ◌/◌, ◌%◌, ◌^◌, ◌<◌, ◌≤◌, List, [], ◌∷◌, refl, ap, sym}
-use Rattle.px_num.proofs.Basics.{subst, ◌∙◌, append-nil, arith, mul-div-le, mul-le-mul_left, pow_pos, range_with_len}
+use Rattle.px_num.proofs.Basics.{◌≡◌, ◌≢◌, ℕ, zero, suc, ◌+◌, ◌*◌, ◌/◌, ◌%◌, ◌^◌, ◌<◌, ◌≤◌, [], ◌∷◌, refl, ap}
+use Rattle.px_num.proofs.Basics.{◌∙◌, append-nil, arith, mul-div-le, mul-le-mul_left, pow_pos, range_with_len}
 use Rattle.px_num.proofs.Basics.{sum_by}
 use Rattle.std.proofs.Math.Nat.{mul-div_cancel_left}
 use Rattle.px_model.specs.declared.solid.Colour.{Colour}
-use Rattle.px_model.specs.Scenes.{SceneView, faces_of}
+use Rattle.px_model.specs.Scenes.{SceneView}
 use Rattle.px_frame.specs.Finer.{fine_scene}
 use Rattle.px_frame.specs.Images.{images, picture_image}
-use Rattle.px_frame.specs.MeanSums.{HoldsFaces}
 use Rattle.px_frame.specs.Picture.{image_of_pixels, colour_at}
 use Rattle.px_frame.specs.Refined.{doublings, mean, mean_pixel, refined_image}
 use Rattle.px_frame.specs.RefinedLaw.{MeansAreRefined}
-use Rattle.px_frame.specs.Strips.{strip_number}
 use Rattle.px_frame.specs.declared.plane.Fineness.{Fineness}
 use Rattle.px_frame.specs.declared.plane.Plane.TheVariants as p
 use Rattle.px_frame.proofs.MeanSumLaws.{sum_more}
@@ -79,21 +77,3 @@ next_in_strip zero y few further = omega (arith, further)
 next_in_strip (suc zero) y few further = omega (arith, further)
 next_in_strip (suc (suc zero)) y few further = omega (arith, further)
 next_in_strip (suc (suc (suc k))) y few further = absurd (omega arith)
-
--- one row of them
-pub one_row : (scene : SceneView) (strip : List ℕ) (top across j : ℕ) → j < across → HoldsFaces scene strip top across
-    → HoldsFaces scene strip (top + j) 1
-one_row scene strip top across j low held = record {
-  wide = held.wide;
-  high = omega (arith, held.high, low);
-  columns = held.columns;
-  faces = λ x k left one.
-      let here : top + j + k ≡ top + j = omega (arith, one) in
-      subst (λ y. strip_number strip x y ≤ faces_of scene.solids) (sym here) (held.faces x j left low);
-}
-
-pub faces_here : (scene : SceneView) (strip : List ℕ) (y x : ℕ) → x < scene.width → HoldsFaces scene strip y 1
-    → strip_number strip x y ≤ faces_of scene.solids
-faces_here scene strip y x left held =
-    let here : y + 0 ≡ y = omega arith in
-    subst (λ y. strip_number strip x y ≤ faces_of scene.solids) here (held.faces x 0 left (omega arith))

@@ -1,14 +1,11 @@
 -- What an image shows of numbers, of those that a strip has and of those that an array stores.
-use Rattle.px_num.proofs.Basics.{◌≡◌, ℕ, zero, suc, ◌+◌, ◌*◌, ◌^◌, ◌<◌, ◌≤◌, List, ap, sym, subst, arith, mul-div-le}
+use Rattle.px_num.proofs.Basics.{◌≡◌, ℕ, zero, suc, ◌+◌, ◌*◌, ◌^◌, ◌<◌, ◌≤◌, List, ap, subst, arith, mul-div-le}
 use Rattle.px_num.proofs.RangeLaws.{same_parts}
-use Rattle.px_model.specs.declared.limits.TheConstants.{MAX_PICTURE_SIZE}
-use Rattle.px_model.specs.Scenes.{colour_in_scene, faces_of}
-use Rattle.px_frame.proofs.Words.{doublings_of, Field, field_shown, HoldsRow, LayoutView, Plane, row_of_pixels}
+use Rattle.px_model.specs.Scenes.{colour_in_scene}
+use Rattle.px_frame.proofs.Words.{doublings_of, Field, HoldsRow, Plane, row_of_pixels}
 use Rattle.px_frame.proofs.Words.{SceneView, shown_pixel, side_shown, State, stored_number, strip_number, three_bytes}
-use Rattle.px_frame.specs.MeanSums.{HoldsShown}
 use Rattle.px_frame.specs.Picture.{colour_bytes}
 use Rattle.px_frame.specs.Refined.{doublings}
-use Rattle.px_frame.specs.Stored.{IsShown, StoresFaces, StoresShown}
 use Rattle.px_frame.specs.declared.plane.Plane.TheVariants as p
 use Rattle.px_frame.specs.declared.plane.Fineness.TheVariants as f
 use Rattle.px_frame.proofs.MeanLemmas.{block_fits, in_block, in_strip, pixel_same}
@@ -33,14 +30,6 @@ sides_shown p.Depth side = omega arith
 sides_shown p.Face side = omega arith
 sides_shown p.Colour side = omega arith
 sides_shown (p.Means fineness) side = mul-div-le side (2 ^ doublings fineness)
-
--- each number that a pixel stores as its key is shown, where its face is the scene's
-pub faces_shown : (scene : SceneView) (layout : LayoutView) (state : State) (plane : Plane)
-    → StoresFaces scene layout state → StoresShown scene (field_shown layout plane) state plane
-faces_shown scene layout state p.Depth faces x y left above = tt
-faces_shown scene layout state p.Face faces x y left above = tt
-faces_shown scene layout state p.Colour faces x y left above = faces x y left above
-faces_shown scene layout state (p.Means fineness) faces x y left above = faces x y left above
 
 pub width_fits : (k width side : ℕ) → 0 < k → k * width ≤ side → width ≤ side
 width_fits zero width side some fits = absurd (omega (arith, some))
@@ -92,23 +81,3 @@ module _
           in_block (2 ^ doublings_of plane) x (side_shown plane scene.width) i (omega (arith, left)) p,
           sides_shown plane scene.width,
         )) q))
-
-    pub shown_held : scene.width ≤ MAX_PICTURE_SIZE → scene.height ≤ MAX_PICTURE_SIZE
-        → StoresShown scene field state plane → HoldsShown scene plane strip y
-    shown_held wide most stores = record {
-      wide = wide;
-      high = block_shown plane y scene.height below;
-      most = most;
-      columns = held.long;
-      small = held.small;
-      shown = λ x j left low. subst (IsShown scene plane) (sym (number_held x j left low))
-          (stores x (2 ^ doublings_of plane * y + j) left
-          (omega (arith, block_shown plane y scene.height below, low)));
-    }
-
--- the number of a pixel whose colour is shown is a face
-pub colour_held : (scene : SceneView) (strip : List ℕ) (x y : ℕ) → 2 ^ 0 * (x + 1) ≤ scene.width
-    → HoldsShown scene p.Colour strip y → strip_number strip x y ≤ faces_of scene.solids
-colour_held scene strip x y left held =
-    let here : 2 ^ 0 * y + 0 ≡ y = omega arith in
-    subst (λ n. strip_number strip x n ≤ faces_of scene.solids) here (held.shown x 0 (omega (arith, left)) (omega arith))

@@ -2,19 +2,14 @@
 -- calls stand on it.
 use Rattle.std.specs.Prelude.{◌≡◌}
 use Rattle.px_array.specs.Arrays.{State, pixel_of}
-use Rattle.px_model.specs.Scenes.{IsLawfulScene, SceneView}
+use Rattle.px_model.specs.Scenes.{SceneView}
 use Rattle.px_sched.specs.Layouts.{LayoutView}
 use Rattle.px_sched.specs.PassesLaw.{ShowsThePicture}
 use Rattle.px_frame.specs.declared.plane.Plane.{Plane}
 use Rattle.px_frame.specs.Images.{picture_image}
-use Rattle.px_frame.specs.Stored.{StoresFaces, stored_image}
+use Rattle.px_frame.specs.Stored.{stored_image}
 
 abbrev pub ImagesShowThePicture : Type 0
 ImagesShowThePicture = (scene : SceneView) (layout : LayoutView) (state : State) (plane : Plane) →
     ShowsThePicture scene layout (λ x y. (pixel_of state x y).memory) → stored_image scene layout state plane
     ≡ picture_image scene plane
-
-abbrev pub FacesAreOfTheScene : Type 0
-FacesAreOfTheScene = (scene : SceneView) (layout : LayoutView) (state : State) →
-    IsLawfulScene scene → ShowsThePicture scene layout (λ x y. (pixel_of state x y).memory)
-    → StoresFaces scene layout state

@@ -3,8 +3,8 @@ use Rattle.std.specs.Prelude.{◌≡◌, ℕ, ◌+◌, ◌*◌, ◌/◌, ◌^◌
 use Rattle.std.specs.List.{range_with_len}
 use Rattle.px_model.specs.declared.limits.TheConstants.{MAX_PICTURE_SIZE}
 use Rattle.px_model.specs.declared.solid.Colour.{Colour}
-use Rattle.px_model.specs.Scenes.{SceneView, colour_in_scene, faces_of}
-use Rattle.px_frame.specs.Stored.{IsShown, doublings_of}
+use Rattle.px_model.specs.Scenes.{SceneView, colour_in_scene}
+use Rattle.px_frame.specs.Stored.{doublings_of}
 use Rattle.px_frame.specs.Strips.{strip_number}
 use Rattle.px_frame.specs.declared.plane.Plane.{Plane}
 use Rattle.px_frame.specs.declared.mean_sums.Sums.{Sums}
@@ -59,19 +59,14 @@ pub record AreSumsAtMost (n : ℕ) (sums : Sums) : Type 0 where
 abbrev pub strip_colour : SceneView → List ℕ → (x y : ℕ) → Colour
 strip_colour scene strip x y = colour_in_scene scene.solids (strip_number strip x y)
 
--- a strip has the columns of a scene's picture, and faces of the scene in so many rows, from one of them down
-pub record HoldsFaces (scene : SceneView) (strip : List ℕ) (top count : ℕ) : Type 0 where
+-- a strip has the columns of a scene's picture, whose sides are within their limit
+pub record FitsPicture (scene : SceneView) (strip : List ℕ) : Type 0 where
   pub wide : scene.width ≤ MAX_PICTURE_SIZE
-  pub high : top + count ≤ MAX_PICTURE_SIZE
-  pub columns : length strip ≡ 8 * scene.width
-  pub faces : (x j : ℕ) → x < scene.width → j < count → strip_number strip x (top + j) ≤ faces_of scene.solids
-
--- a strip has the columns of a scene's picture, and in the rows of row y of an image what it shows
-pub record HoldsShown (scene : SceneView) (plane : Plane) (strip : List ℕ) (y : ℕ) : Type 0 where
-  pub wide : scene.width ≤ MAX_PICTURE_SIZE
-  pub high : 2 ^ doublings_of plane * y + 2 ^ doublings_of plane ≤ scene.height
   pub most : scene.height ≤ MAX_PICTURE_SIZE
   pub columns : length strip ≡ 8 * scene.width
+
+-- so has one whose numbers an image can show, in the rows of its row y
+pub record HoldsShown (scene : SceneView) (plane : Plane) (strip : List ℕ) (y : ℕ) : Type 0 where
+  pub fits : FitsPicture scene strip
+  pub high : 2 ^ doublings_of plane * y + 2 ^ doublings_of plane ≤ scene.height
   pub small : (x row : ℕ) → x < scene.width → strip_number strip x row < 2 ^ 24
-  pub shown : (x j : ℕ) → x < scene.width → j < 2 ^ doublings_of plane
-      → IsShown scene plane (strip_number strip x (2 ^ doublings_of plane * y + j))

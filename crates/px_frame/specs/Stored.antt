@@ -1,11 +1,11 @@
 -- The images of what an array stores: numbers in a field of each pixel of the picture, as the depth and the face
 -- number in key B. Clauses of public calls stand on it.
-use Rattle.std.specs.Prelude.{ℕ, ◌/◌, ◌^◌, ◌<◌, ◌≤◌, ⊤, List}
+use Rattle.std.specs.Prelude.{ℕ, ◌/◌, ◌^◌, ◌≤◌, List}
 use Rattle.px_array.specs.Arrays.{State, pixel_of}
 use Rattle.px_macro.specs.Fields.{number_in}
 use Rattle.px_macro.specs.declared.field.Field.{Field}
 use Rattle.px_model.specs.declared.solid.Colour.{Colour}
-use Rattle.px_model.specs.Scenes.{SceneView, colour_in_scene, faces_of}
+use Rattle.px_model.specs.Scenes.{SceneView, colour_in_scene}
 use Rattle.px_sched.specs.Layouts.{LayoutView, depth_part, number_part}
 use Rattle.px_frame.specs.declared.plane.Plane.{Plane}
 use Rattle.px_frame.specs.declared.plane.Plane.TheVariants as p
@@ -46,13 +46,6 @@ side_shown p.Face side = side
 side_shown p.Colour side = side
 side_shown (p.Means fineness) side = side / 2 ^ doublings fineness
 
--- what an image shows of a number: a face that has a colour is one of the scene's
-abbrev pub IsShown : SceneView → Plane → ℕ → Type 0
-IsShown scene p.Depth number = ⊤
-IsShown scene p.Face number = ⊤
-IsShown scene p.Colour number = number ≤ faces_of scene.solids
-IsShown scene (p.Means fineness) number = number ≤ faces_of scene.solids
-
 -- the pixels of an image of these numbers
 abbrev pub shown_pixel : SceneView → Plane → (number : (x y : ℕ) → ℕ) → (x y : ℕ) → List ℕ
 shown_pixel scene p.Depth number = number_pixel number
@@ -76,13 +69,3 @@ HasColumns scene state = scene.width ≤ 2 ^ state.tree.nx
 
 abbrev pub HasRows : SceneView → State → Type 0
 HasRows scene state = scene.height ≤ 2 ^ state.tree.ny
-
--- each pixel of the picture stores a number that the image can show
-abbrev pub StoresShown : SceneView → Field → State → Plane → Type 0
-StoresShown scene field state plane =
-    (x y : ℕ) → x < scene.width → y < scene.height → IsShown scene plane (stored_number field state x y)
-
--- each pixel of the picture stores the number of a face of the scene, or 0
-abbrev pub StoresFaces : SceneView → LayoutView → State → Type 0
-StoresFaces scene layout state =
-    (x y : ℕ) → x < scene.width → y < scene.height → stored_face layout state x y ≤ faces_of scene.solids

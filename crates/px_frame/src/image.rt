@@ -6,7 +6,7 @@ ghost use Rattle.px_array.specs.Arrays.{IsOpen};
 ghost use Rattle.px_sched.specs.Layouts.{need_of};
 ghost use Rattle.px_frame.specs.MeanSums.{HoldsShown};
 ghost use Rattle.px_frame.specs.Picture.{header, row_of_pixels, three_bytes};
-ghost use Rattle.px_frame.specs.Stored.{HasColumns, HasRows, StoresFaces, StoresShown, doublings_of, field_image};
+ghost use Rattle.px_frame.specs.Stored.{HasColumns, HasRows, doublings_of, field_image};
 ghost use Rattle.px_frame.specs.Stored.{shown_pixel, stored_image};
 ghost use Rattle.px_frame.specs.Strips.{strip_number};
 
@@ -36,7 +36,6 @@ pub fn write_picture<A: Array, O: Sink>(
     requires columns { HasColumns scene.now (A.view array.now).device.state }
     requires rows { HasRows scene.now (A.view array.now).device.state }
     requires room { need_of layout.now ≤ A.BITS }
-    requires faces { StoresFaces scene.now layout.now (A.view array.now).device.state }
     ensures ok { OnOk result (TakesAll (O.state out.old) (O.state out.new)
         (stored_image scene.now layout.now (A.view array.now).device.state plane)) }
     ensures err { OnErr result (TakesFront (O.state out.old) (O.state out.new)
@@ -61,7 +60,6 @@ pub fn write_rows<A: Array, O: Sink>(
     requires room { field.at + field.len ≤ A.BITS }
     requires low { field.at ≤ 256 }
     requires few { field.len ≤ 24 }
-    requires shown { StoresShown scene.now field (A.view array.now).device.state plane }
     ensures ok { OnOk result (TakesAll (O.state out.old) (O.state out.new)
         (field_image scene.now field (A.view array.now).device.state plane)) }
     ensures err { OnErr result (TakesFront (O.state out.old) (O.state out.new)

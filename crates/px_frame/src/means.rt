@@ -1,7 +1,7 @@
 //! Means over the pixels of a block, from the numbers of a strip.
 ghost use Rattle.std.specs.Prelude.{◌≡◌, ◌+◌, ◌*◌, ◌^◌, ◌≤◌};
 ghost use Rattle.px_frame.specs.Refined.{mean_colour};
-ghost use Rattle.px_frame.specs.MeanSums.{AreSumsAtMost, HoldsFaces, block_sums, row_sums, strip_colour};
+ghost use Rattle.px_frame.specs.MeanSums.{AreSumsAtMost, FitsPicture, block_sums, row_sums, strip_colour};
 
 use crate::finer::parts;
 use crate::mean_sums::Sums;
@@ -13,7 +13,7 @@ pub(crate) fn mean_at(strip: &Strip, fine: &Scene, s: u32, x: u32, y: u32) -> Co
     requires few { s ≤ 2 }
     requires across { 2 ^ s * (x + 1) ≤ fine.now.width }
     requires down { 2 ^ s * (y + 1) ≤ fine.now.height }
-    requires faces { HoldsFaces fine.now strip.now (2 ^ s * y) (2 ^ s) }
+    requires strip { FitsPicture fine.now strip.now }
     ensures { result ≡ mean_colour s (strip_colour fine.now strip.now) x y }
 {
     let across = parts(s);
@@ -25,7 +25,7 @@ fn block_sums(strip: &Strip, fine: &Scene, from: u32, top: u32, across: u32) -> 
     requires few { across ≤ 4 }
     requires across { from + across ≤ fine.now.width }
     requires down { top + across ≤ fine.now.height }
-    requires faces { HoldsFaces fine.now strip.now top across }
+    requires strip { FitsPicture fine.now strip.now }
     ensures sums { result ≡ block_sums (strip_colour fine.now strip.now) across from top across }
     ensures most { AreSumsAtMost (255 * (across * across)) result }
 {
@@ -40,7 +40,7 @@ fn block_sums(strip: &Strip, fine: &Scene, from: u32, top: u32, across: u32) -> 
 fn row_sums(strip: &Strip, fine: &Scene, from: u32, y: u32, across: u32) -> Sums
     requires few { across ≤ 4 }
     requires across { from + across ≤ fine.now.width }
-    requires faces { HoldsFaces fine.now strip.now y 1 }
+    requires strip { FitsPicture fine.now strip.now }
     ensures sums { result ≡ row_sums (strip_colour fine.now strip.now) from y across }
     ensures most { AreSumsAtMost (255 * across) result }
 {

@@ -178,11 +178,8 @@ impl Scene {
         self.faces
     }
 
-    /// The colour of the face of this number, and black for 0.
-    ///
-    /// The number is at most `faces`.
+    /// The colour of the face of this number, and black if none has it, as for 0.
     pub fn colour_of(&self, number: u32) -> Colour
-        requires { number ≤ faces_of self.now.solids }
         ensures { result ≡ colour_in_scene self.now.solids number }
     {
         for solid in &self.solids {

@@ -18,12 +18,6 @@ use Rattle.px_playing.specs.PassesText.{PassesAreReadBack, PassesHaveTheScenesGr
 use Rattle.px_playing.specs.PassesText.{passes_listing}
 use Rattle.px_listing.proofs.TextLemmas.{read_back}
 
--- each operation that is given is one of them
-pub lawful_here : (bits : ℕ) (ops : List Macro) (i : ℕ) (op : Macro) → slice_get ops i ≡ Some op
-    → All (λ m. IsLawful m bits) ops → IsLawful op bits
-lawful_here bits ops i op is lawful =
-    subst (λ o. IsLawful o bits) (get_or_from_slice_get ops i op op is) (lawful i op (slice_get_within ops i op is))
-
 -- no line was put
 pub puts_start : (a : SinkState) (u : List ℕ) (ops : List Macro) (n : ℕ) → n ≡ 0
     → Puts a a u (flat_map macro_line (take n ops)) u

@@ -1,11 +1,11 @@
 -- What is found of the shadows of a text that was read is found of the input, and what stops it.
-use Rattle.px_num.proofs.Basics.{ℕ, ◌≡◌, ◌<◌, ◌≤◌, inl, inr, List, length, take, drop, unwrap_or, None, Some, Result}
-use Rattle.px_num.proofs.Basics.{Ok, Err, refl, ap, sym, subst, ◌∙◌, arith, length-take, cases_lt, take_all, Consumes}
-use Rattle.px_shadow.proofs.Words.{ArrayView, bytes_of, ConsumesAtMost, done, IsFrontOf, LayoutView, LeavesShadows}
+use Rattle.px_num.proofs.Basics.{ℕ, ◌≡◌, ◌<◌, ◌≤◌, List, length, take, drop, unwrap_or, None, Some, Result}
+use Rattle.px_num.proofs.Basics.{Err, refl, ap, sym, subst, ◌∙◌, Consumes}
+use Rattle.px_shadow.proofs.Words.{ArrayView, ConsumesAtMost, done, IsFrontOf, LayoutView}
 use Rattle.px_shadow.proofs.Words.{light_refusal, light_refused, LightFault, lights_fault, lights_in, lights_refusal}
-use Rattle.px_shadow.proofs.Words.{line_behind, lit_by_lines, lit_drawable, mask_image, of_known, Outcome}
-use Rattle.px_shadow.proofs.Words.{parts_lit, performs_over, PerformsShadow, read_meets, read_writes, refusal, refused}
-use Rattle.px_shadow.proofs.Words.{Shades, ShadesBy, SinkState, SolidSet, State, stop_draws, stop_serves, stored_masks}
+use Rattle.px_shadow.proofs.Words.{line_behind, lit_by_lines, lit_drawable, mask_image, Outcome}
+use Rattle.px_shadow.proofs.Words.{parts_lit, PerformsShadow, refusal, refused}
+use Rattle.px_shadow.proofs.Words.{Shades, ShadesBy, SinkState, SolidSet, State, stop_serves, stored_masks}
 use Rattle.px_shadow.proofs.Words.{StoresTheLights, text_refusal, too_long, unless_refused, worded}
 use Rattle.px_io.specs.declared.reading.ReadError.{ReadError}
 use Rattle.px_scene.specs.Scenes.{SceneView}
@@ -16,12 +16,16 @@ use Rattle.px_commands.specs.declared.stop.Stop.{Stop}
 use Rattle.px_commands.specs.declared.stop.SceneStop.{SceneStop}
 use Rattle.px_commands.specs.Arrays.{Draws}
 use Rattle.px_commands.specs.Ends.{Ends, IsUntouched}
-use Rattle.px_commands.specs.Results.{Meets, status_in, status_of}
+use Rattle.px_commands.specs.Results.{status_in, status_of}
 use Rattle.px_shadow.proofs.ArrayLemmas.{mask_law}
 use Rattle.px_shadow.specs.Shadows.{lit, shadowed}
 use Rattle.px_commands.specs.Stops.{DoesWork, read_stop, stopped}
+use Rattle.px_commands.proofs.FrontLaws.{LeavesAlike, ServesText, performs_served, text_serves}
+use Rattle.px_commands.proofs.FrontLaws as front
 use Rattle.px_commands.proofs.LimitLaws.{long_is, short_is}
-use Rattle.px_io.specs.declared.reading.ReadError.TheVariants as read
+use Rattle.px_commands.proofs.StopLaws.{read_leaves, refused_leaves}
+use Rattle.px_shadow.specs.Shaded.{IsShaded}
+use Rattle.px_array.specs.Arrays.{Device}
 use Rattle.px_commands.specs.declared.refusal.Refusal.TheVariants as r
 use Rattle.px_commands.specs.declared.stop.Stop.TheVariants as s
 use Rattle.px_commands.specs.declared.stop.SceneStop.TheVariants as halted
@@ -36,47 +40,22 @@ pub short_shadowed : (bytes : List ℕ) (bits : ℕ) → length bytes < 1048577
 unfolding shadowed
 short_shadowed bytes bits short = rw (short_is bytes short) refl
 
--- what is left where a refusal is due does not speak of the scene
-shades_refused : (result : Result (Unit {0}) Stop) (bits : ℕ) (one other : List ℕ) (before now : ArrayView)
-    (reason : Refusal) → Meets result (refused reason) → Shades (status_in result) bits one before now
-    → Shades (status_in result) bits other before now
-shades_refused (Ok u) bits one other before now reason meets is = cc
-shades_refused (Err s.WriteFault) bits one other before now reason meets is = cc
-shades_refused (Err s.Usage) bits one other before now reason meets is = is
-shades_refused (Err (s.Refused (r.Malformed line cause))) bits one other before now reason meets is = is
-shades_refused (Err (s.Refused (r.Limit line kind found))) bits one other before now reason meets is = is
-shades_refused (Err s.ReadFault) bits one other before now reason meets is = is
-shades_refused (Err (s.Memory _)) bits one other before now reason meets is = is
+-- the shadow passes of a text were made
+abbrev IsShadedBy : (bits : ℕ) → (text : List ℕ) → Device → Type 0
+IsShadedBy bits text device =
+    IsShaded bits (scene_of (worded (scene_part text))) (lights_in (scene_of (worded (scene_part text))) (behind_part text))
+    device
 
 -- the shadows of a text are found
-pub record ShadesText (result : Result (Unit {0}) Stop) (bits : ℕ) (before after : Ends) (text : List ℕ) : Type 0 where
-  pub serves : DoesWork result (shadowed text bits) before.out after.out
-  pub array : Shades (status_in result) bits text before.array after.array
+abbrev pub ShadesText : Result (Unit {0}) Stop → (bits : ℕ) → (before after : Ends) → (text : List ℕ) → Type 0
+ShadesText result bits before after text =
+    ServesText result (λ text. shadowed text bits) (λ text old new. Shades (status_in result) bits text old new)
+    before after text
 
--- a text's front answers for it
-shades_front : (result : Result (Unit {0}) Stop) (bits : ℕ) (before after : Ends) (bytes : List ℕ)
-    → ShadesText result bits before after (take 1048577 bytes) → ShadesText result bits before after bytes
-shades_front result bits before after bytes shades = elim (cases_lt (length bytes) 1048577) [
-  | inl short ↦ subst (λ text. ShadesText result bits before after text)
-      (take_all 1048577 bytes (omega arith)) shades
-  | inr past ↦
-      let here : shadowed (take 1048577 bytes) bits ≡ refused too_long =
-      long_shadowed (take 1048577 bytes) bits (omega (arith, length-take 1048577 bytes)) in
-      let there : shadowed bytes bits ≡ refused too_long = long_shadowed bytes bits past in
-      record {
-        serves = subst (λ o. DoesWork result o before.out after.out) (here ∙ sym there) shades.serves;
-        array = shades_refused result bits (take 1048577 bytes) bytes before.array after.array too_long
-            (subst (λ o. Meets result o) here shades.serves.meets) shades.array;
-      }
-]
-
-performs : (result : Result (Unit {0}) Stop) (taken : List ℕ) (bits : ℕ) (before after : Ends)
-    → Consumes before.rest after.rest taken → ShadesText result bits before after (bytes_of before.rest taken)
-    → PerformsShadow result bits before after
-performs result taken bits before after consumed shades =
-    performs_over result (λ bytes. shadowed bytes bits) (λ input. LeavesShadows result bits input.bytes before after)
-    before after taken consumed shades.serves.meets
-    (record { wrote = shades.serves.writes; array = shades.array })
+shades_alike : (result : Result (Unit {0}) Stop) (bits : ℕ)
+    → LeavesAlike result (λ text old new. Shades (status_in result) bits text old new)
+shades_alike result bits one other before now long meets is =
+    refused_leaves result too_long (IsShadedBy bits one) (IsShadedBy bits other) before now meets is
 
 -- a text that was read answers for the input
 pub performs_shades : (result : Result (Unit {0}) Stop) (text lent : List ℕ) (bits : ℕ) (before after : Ends)
@@ -84,25 +63,21 @@ pub performs_shades : (result : Result (Unit {0}) Stop) (text lent : List ℕ) (
     → DoesWork result (shadowed lent bits) before.out after.out
     → Shades (status_in result) bits lent before.array after.array → PerformsShadow result bits before after
 performs_shades result text lent bits before after front consumed same serves array =
-    performs result text bits before after consumed
-    (of_known (ShadesText result bits before after) before.rest text (shades_front result bits before after) front
-    (subst (λ t. ShadesText result bits before after t) same (record { serves = serves; array = array })))
+    let read : ShadesText result bits before after text =
+    subst (λ t. ShadesText result bits before after t) same (record { serves = serves; array = array }) in
+    performs_served result (λ text. shadowed text bits) (λ text old new. Shades (status_in result) bits text old new)
+    before after text consumed
+    (text_serves result (λ text. shadowed text bits) (λ text old new. Shades (status_in result) bits text old new)
+    before after text (λ text le. long_shadowed text bits le)
+    (shades_alike result bits) front read)
 
 -- the work stops at a read, whatever the text is
 pub performs_unread : (bits : ℕ) (fault : ReadError) (before after : Ends) → IsUntouched before after
     → ConsumesAtMost before.rest after.rest 1048577 → PerformsShadow (Err (read_stop fault)) bits before after
-performs_unread bits fault before after idle (taken, consumed, few) =
-    performs_over (Err (read_stop fault)) (λ bytes. shadowed bytes bits)
-    (λ input. LeavesShadows (Err (read_stop fault)) bits input.bytes before after)
-    before after taken consumed (read_meets fault _) (record {
-      wrote = read_writes fault _ before.out after.out idle.out;
-      array = rw idle.array (read_shades fault);
-    })
-  where
-    read_shades : (fault : ReadError)
-        → Shades (status_of (read_stop fault)) bits (bytes_of before.rest taken) before.array before.array
-    read_shades read.Failed = refl
-    read_shades (read.Memory _) = inl refl
+performs_unread bits fault before after idle took =
+    front.performs_unread fault (λ text. shadowed text bits)
+    (λ text old new. Shades (status_of (read_stop fault)) bits text old new) before after idle took
+    (λ text. read_leaves fault (IsShadedBy bits text) before.array)
 
 -- a scene that is not served leaves the array as it was left where it was opened
 pub stop_shades : (stop : SceneStop) (bits : ℕ) (scene : SceneView) (lights : List SolidSet) (before now : ArrayView)
@@ -111,11 +86,6 @@ pub stop_shades : (stop : SceneStop) (bits : ℕ) (scene : SceneView) (lights : 
 stop_shades (halted.Refused (r.Malformed line cause)) bits scene lights before now is = is
 stop_shades (halted.Refused (r.Limit line kind found)) bits scene lights before now is = is
 stop_shades (halted.Memory _) bits scene lights before now is = is
-
-pub idle_shades : (stop : SceneStop) (bits : ℕ) (scene : SceneView) (lights : List SolidSet) (array : ArrayView)
-    → ShadesBy (status_of (stopped stop)) bits scene lights array array
-idle_shades stop bits scene lights array =
-    stop_shades stop bits scene lights array array (stop_draws stop bits scene array)
 
 pub serves_refused : (reason : Refusal) (o : Outcome) (a : SinkState) → o ≡ refused reason
     → DoesWork (Err (s.Refused reason)) o a a

@@ -22,8 +22,8 @@ pub use Rattle.px_num.proofs.TruthLaws.{and_both, and_false, and_left, and_right
 pub use Rattle.px_num.proofs.TruthLaws.{turned_from_false}
 pub use Rattle.px_num.specs.Bits.{bit_at, modulo}
 pub use Rattle.px_num.specs.declared.linear.Linear.{Linear}
-pub use Rattle.px_commands.proofs.RunLaws.{bytes_of, of_known, performs_over, serves_front, serves_whole}
-pub use Rattle.px_commands.proofs.StopLaws.{read_meets, read_writes, stop_draws, stop_serves}
+pub use Rattle.px_commands.proofs.RunLaws.{serves_front, serves_whole}
+pub use Rattle.px_commands.proofs.StopLaws.{stop_serves}
 pub use Rattle.px_commands.specs.Outcomes.{done, Outcome, refusal, refused, unless_refused}
 pub use Rattle.px_commands.specs.Refusals.{text_refusal, too_long}
 pub use Rattle.px_prune.specs.Kept.{plan_of, set_of}
@@ -41,7 +41,7 @@ pub use Rattle.px_shadow.specs.Saying.{are_some, AreRead, pieces_of, said_behind
 pub use Rattle.px_shadow.specs.ShadowLaws.{MaskLaw, ShadedGridLaw, ShadedLaw, ShadowLaw}
 pub use Rattle.px_shadow.specs.ShadowPasses.{background_passes, light_bit, light_passes, need_with, passes_from}
 pub use Rattle.px_shadow.specs.ShadowPasses.{shadow_passes, solid_passes, stored_turn}
-pub use Rattle.px_shadow.specs.Shadows.{LeavesShadows, light_refusal, light_refused, lights_in, lights_refusal}
+pub use Rattle.px_shadow.specs.Shadows.{light_refusal, light_refused, lights_in, lights_refusal}
 pub use Rattle.px_shadow.specs.Shadows.{line_behind, lit_by_lines, lit_drawable, parts_lit, PerformsShadow, Shades}
 pub use Rattle.px_shadow.specs.Shadows.{ShadesBy}
 pub use Rattle.px_shadow.specs.Stored.{stored_masks, StoresTheLights}

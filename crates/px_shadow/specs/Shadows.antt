@@ -1,9 +1,9 @@
 -- What `shadow` answers and leaves: by which lights each pixel is lit, where the lines behind the scene part
 -- name the lights.
 -- Clauses of public calls stand on it.
-use Rattle.std.specs.Prelude.{◌≡◌, ℕ, ◌+◌, ◌==◌, pos, List, length, nat_lt, count_by, if◌then◌else◌, Option, Some}
+use Rattle.std.specs.Prelude.{ℕ, ◌+◌, ◌==◌, pos, List, length, nat_lt, count_by, if◌then◌else◌, Option, Some}
 use Rattle.std.specs.Prelude.{None, Result}
-use Rattle.px_array.specs.Slots.{ArrayView, IsRunOnce}
+use Rattle.px_array.specs.Slots.{ArrayView}
 use Rattle.px_scene.specs.Scenes.{SceneView}
 use Rattle.px_scene.specs.Text.{worded}
 use Rattle.px_scene.specs.Reading.{scene_of}
@@ -21,8 +21,7 @@ use Rattle.px_commands.specs.declared.refusal.Refusal.{Refusal}
 use Rattle.px_commands.specs.declared.refusal.Refusal.TheVariants as r
 use Rattle.px_commands.specs.declared.stop.Stop.{Stop}
 use Rattle.px_commands.specs.declared.status.Status.{Status}
-use Rattle.px_commands.specs.declared.status.Status.TheVariants as status
-use Rattle.px_commands.specs.Arrays.{IsKeptOrClosed}
+use Rattle.px_commands.specs.Arrays.{LeavesMade}
 use Rattle.px_commands.specs.Ends.{Ends}
 use Rattle.px_commands.specs.Inputs.{PerformsOver, WritesAndLeaves}
 use Rattle.px_commands.specs.Outcomes.{Outcome, done, refused, unless_refused, within_products}
@@ -79,13 +78,9 @@ unfoldable pub shadowed : (bytes : List ℕ) → (bits : ℕ) → Outcome
 shadowed bytes bits =
     if is_long bytes then refused too_long else parts_lit bits (scene_part bytes) (behind_part bytes)
 
--- what is left of the array, of its slots and its work too: the shadow passes were made on the drawn scene, also
--- where the image could not be written, and else the array is as before, or closed for want of memory
+-- what is left of the array where the shadow passes are made on the drawn scene
 abbrev pub ShadesBy : Status → (bits : ℕ) → SceneView → List SolidSet → (before now : ArrayView) → Type 0
-ShadesBy status.Done bits scene lights before now = IsShaded bits scene lights now.device × IsRunOnce now
-ShadesBy status.WriteFault bits scene lights before now = IsShaded bits scene lights now.device × IsRunOnce now
-ShadesBy (status.Memory _) bits scene lights before now = IsKeptOrClosed before now
-ShadesBy found bits scene lights before now = now ≡ before
+ShadesBy found bits scene lights before now = LeavesMade (IsShaded bits scene lights) found before now
 
 abbrev pub ShadesParts : Status → (bits : ℕ) → (part behind : List ℕ) → (before now : ArrayView) → Type 0
 ShadesParts found bits part behind before now =

@@ -1,6 +1,6 @@
 -- The broadcasts of operations, one operation after another.
 use Rattle.px_num.proofs.Basics.{◌≡◌, ℕ, suc, ◌+◌, ◌<◌, ◌≤◌, List, ◌∷◌, ◌++◌, length, take, drop, get_or}
-use Rattle.px_num.proofs.Basics.{Some, sym, ap, ◌∙◌, arith, length-append, between, flat_map, slice_get}
+use Rattle.px_num.proofs.Basics.{Some, sym, ap, ◌∙◌, arith, between, flat_map, slice_get}
 use Rattle.px_num.proofs.Basics.{drop-cons, take-append-add, take-append_seam, take-append-drop}
 use Rattle.px_num.proofs.Basics.{take-append-le, take_all, flat_map-cons, get_or_from_slice_get, slice_get-get_or}
 use Rattle.px_num.proofs.Basics.{slice_get_within, between_from_start}
@@ -94,15 +94,6 @@ device_with bits l k i m here within =
 -- the operation at a place
 pub here_in : (ms : List Macro) (i : ℕ) → i < length ms → slice_get ms i ≡ Some (get_or ms i op.All)
 here_in ms i within = slice_get-get_or ms i op.All within
-
-pub start_within : (l : ListingView) (k : ℕ) → start_in_listing l k ≤ total_of_listing l
-start_within l k =
-    let f : Macro → List Micro = λ m. micros m l.nx l.ny in
-    let parts = sym (ap (flat_map f) (take-append-drop k l.macros))
-    ∙ flat_map-append f (take k l.macros) (drop k l.macros) in
-    let count = ap length parts ∙ length-append (all_micros (take k l.macros) l.nx l.ny)
-    (all_micros (drop k l.macros) l.nx l.ny) in
-    omega (arith, count)
 
 -- the grid is that of the listing
 pub columns_are : (bits : ℕ) (l : ListingView) (n : ℕ) (device : Device) → device ≡ device_after bits l n

@@ -6,7 +6,7 @@ use Rattle.px_num.proofs.Basics.{get_or-flat_map, length-flat_map-take, get_or_f
 use Rattle.px_num.proofs.Basics.{slice_get_within}
 use Rattle.std.proofs.lemmas.List.Concat.{flat_map-append}
 use Rattle.px_control.specs.ProgramLaws.{IsGoodProgram}
-use Rattle.px_control.proofs.StepLemmas.{lawful_here}
+use Rattle.px_sched.proofs.LawfulLaws.{lawful_here}
 use Rattle.px_macro.specs.Macros.{IsLawful, IsLawfulInMore}
 use Rattle.px_macro.specs.declared.operation.Macro.{Macro}
 use Rattle.px_macro.specs.declared.operation.Macro.TheVariants as m

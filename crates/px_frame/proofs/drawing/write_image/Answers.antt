@@ -1,6 +1,5 @@
 use Rattle.px_control.specs.Program.{total}
 use Rattle.px_control.proofs.GridLaws.{covers_the_picture}
-use Rattle.px_frame.proofs.FaceLemmas.{faces_stored}
 use Rattle.px_frame.proofs.ImageLemmas.{images_show}
 use Rattle.px_frame.proofs.drawing.write_image.Goals as goal
 
@@ -15,7 +14,6 @@ write_picture-requires g c =
       columns = covers.columns;
       rows = covers.rows;
       room = c.requires.drawn.at.enough;
-      faces = faces_stored scene _ device.state lawful c.requires.drawn.picture;
     })
 
 pub returns-clause-ok : goal.returns-clause-ok

@@ -12,6 +12,6 @@ loop-x-preserved c =
       filled = pixels_grown (shown_pixel c.args.scene.now c.args.plane (strip_number c.args.strip.now)) c.loop-x.x
           c.args.y _ _ _ c.loop-x.invariant.filled c.shown_pixel-pixel.ensures
           (three_entered c.loop-x.bytes c.shown_pixel-pixel.result (3 * c.loop-x.x) _
-          (omega arith) (omega (arith, wide, c.requires.holds.wide)) (omega arith));
+          (omega arith) (omega (arith, wide, c.requires.holds.fits.wide)) (omega arith));
       size = omega (arith, length-set {A = ℕ});
     }

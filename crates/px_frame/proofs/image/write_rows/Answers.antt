@@ -3,7 +3,7 @@ use Rattle.px_frame.proofs.Words.{doublings_of, front_before, header, on_err, ro
 use Rattle.px_frame.proofs.Words.{stored_number}
 use Rattle.px_frame.proofs.MeanLemmas.{next_in_strip}
 use Rattle.px_frame.proofs.RowLaws.{other_row, rows_broken, rows_grown}
-use Rattle.px_frame.proofs.ShownLemmas.{block_shown, few_doublings, row_shown, shown_held, sides_shown}
+use Rattle.px_frame.proofs.ShownLemmas.{block_shown, few_doublings, row_shown, sides_shown}
 use Rattle.px_frame.proofs.image.write_rows.Goals as goal
 
 pub returns-in_err-write_whole-clause-err : goal.returns-in_err-write_whole-clause-err
@@ -39,8 +39,11 @@ row_bytes-row-requires g c =
     let sizes = c.width-in-loop-y.ensures.lawful.sizes in
     record {
       across = rw (c.side_shown-width.ensures, c.width.ensures.value) (sides_shown plane scene.width);
-      holds = shown_held scene plane c.args.field (g.A.Array.view c.args.array.now).device.state _ c.loop-y.y below
-          c.requires.rows held sizes.width_limit sizes.height_limit c.requires.shown;
+      holds = record {
+        fits = record { wide = sizes.width_limit; most = sizes.height_limit; columns = held.long };
+        high = block_shown plane c.loop-y.y scene.height below;
+        small = held.small;
+      };
     }
 
 pub returns-in_err-write_whole-2-clause-err : goal.returns-in_err-write_whole-2-clause-err

@@ -1,13 +1,9 @@
 use Rattle.px_num.proofs.Basics.{arith}
-use Rattle.px_frame.proofs.MeanLemmas.{faces_here}
 use Rattle.px_frame.proofs.MeanSumLaws.{most_more, row_more}
 use Rattle.px_frame.proofs.means.row_sums.Goals as goal
 
 pub overflow_add-from : goal.overflow_add-from
-overflow_add-from c = omega (arith, c.requires.across, c.requires.faces.wide)
+overflow_add-from c = omega (arith, c.requires.across, c.requires.strip.wide)
 
 pub loop-i-preserved : goal.loop-i-preserved
 loop-i-preserved c = grind (arith, row_more, most_more)
-
-pub colour_of-requires : goal.colour_of-requires
-colour_of-requires c = grind (arith, faces_here)

@@ -1,6 +1,7 @@
 use Rattle.px_num.proofs.Basics.{arith, ◌∙◌, sym}
 use Rattle.px_playing.proofs.Words.{on_err, passes}
-use Rattle.px_playing.proofs.PassesLemmas.{lawful_here, puts_next, puts_next_front, puts_start}
+use Rattle.px_sched.proofs.LawfulLaws.{lawful_here}
+use Rattle.px_playing.proofs.PassesLemmas.{puts_next, puts_next_front, puts_start}
 use Rattle.px_playing.proofs.passes.put_passes.Goals as goal
 
 pub loop-m-init : goal.loop-m-init

@@ -1,7 +1,7 @@
 use Rattle.px_num.proofs.Basics.{err_from_is_err_and}
 use Rattle.px_commands.specs.Outcomes.{unless_refused}
 use Rattle.px_commands.specs.Refusals.{text_refusal}
-use Rattle.px_commands.proofs.StopLaws.{stop_draws, stop_serves}
+use Rattle.px_commands.proofs.StopLaws.{stop_leaves, stop_serves}
 use Rattle.px_sample.proofs.DrawingLemmas.{scene_serves}
 use Rattle.px_sample.proofs.drawing.measure_text.Goals as goal
 
@@ -13,7 +13,7 @@ returns-in_err-scene-clause-serves g c =
 pub returns-in_err-scene-clause-array : goal.returns-in_err-scene-clause-array
 returns-in_err-scene-clause-array g c =
     let p = err_from_is_err_and c.from_residual.result c.from_residual.ensures.1 in
-    rw (p.1, p.2) (stop_draws _ _ _ _)
+    rw (p.1, p.2) (stop_leaves _ _ _)
 
 pub returns-clause-serves : goal.returns-clause-serves
 returns-clause-serves g c =

@@ -1,6 +1,7 @@
 use Rattle.px_num.proofs.Basics.{◌≡◌, None, refl, rules, err_from_is_err_and}
 use Rattle.px_shadow.proofs.Words.{light_refusal, lights_fault, stop_serves, text_refusal, unless_refused, worded}
-use Rattle.px_shadow.proofs.ShadowLemmas.{idle_shades, lights_refuse, lights_serve}
+use Rattle.px_commands.proofs.StopLaws.{stop_leaves}
+use Rattle.px_shadow.proofs.ShadowLemmas.{lights_refuse, lights_serve}
 use Rattle.px_commands.specs.declared.stop.SceneStop.TheVariants as halted
 use Rattle.px_shadow.proofs.shadow.shade_parts.Goals as goal
 
@@ -12,7 +13,7 @@ returns-in_err-scene-clause-serves g c =
 pub returns-in_err-scene-clause-array : goal.returns-in_err-scene-clause-array
 returns-in_err-scene-clause-array g c =
     let p = err_from_is_err_and c.from_residual.result c.from_residual.ensures.1 in
-    rw (p.1, p.2) (idle_shades _ _ _ _ _)
+    rw (p.1, p.2) (stop_leaves _ _ _)
 
 pub returns-in_err-lights-clause-serves : goal.returns-in_err-lights-clause-serves
 returns-in_err-lights-clause-serves g c =
@@ -25,7 +26,7 @@ returns-in_err-lights-clause-serves g c =
 pub returns-in_err-lights-clause-array : goal.returns-in_err-lights-clause-array
 returns-in_err-lights-clause-array g c =
     let p = err_from_is_err_and c.from_residual-in_err-lights.result c.from_residual-in_err-lights.ensures.1 in
-    rw (p.1, p.2) (idle_shades (halted.Refused (light_refusal c.in_err-lights.field-0.0)) _ _ _ _)
+    rw (p.1, p.2) (stop_leaves (halted.Refused (light_refusal c.in_err-lights.field-0.0)) _ _)
 
 pub returns-clause-serves : goal.returns-clause-serves
 returns-clause-serves g c =

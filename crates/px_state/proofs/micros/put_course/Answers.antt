@@ -1,7 +1,8 @@
 use Rattle.px_num.proofs.Basics.{◌≡◌, Some, refl, sym, ◌∙◌, arith, slice_get, common_steps}
-use Rattle.px_control.proofs.StepLemmas.{lawful_here}
+use Rattle.px_sched.proofs.LawfulLaws.{lawful_here}
+use Rattle.px_control.proofs.StepLemmas.{start_within}
 use Rattle.px_state.specs.Courses.{start_in_listing, total_of_listing}
-use Rattle.px_state.proofs.CourseLemmas.{begins, begins_all, start_within}
+use Rattle.px_state.proofs.CourseLemmas.{begins, begins_all}
 use Rattle.px_state.specs.Inputs.{given_by, listing_in}
 use Rattle.px_state.proofs.PutLemmas.{put_next}
 use Rattle.px_state.proofs.micros.put_course.Goals as goal
@@ -30,7 +31,7 @@ put_micros-start-requires-clause-start c =
     omega (
       arith,
       c.loop-m.invariant.start,
-      start_within l (given_by c.args.course.now c.loop-m.mark),
+      start_within l.macros l.nx l.ny (given_by c.args.course.now c.loop-m.mark),
       c.grid-nx.ensures.good.clocks,
     )
 

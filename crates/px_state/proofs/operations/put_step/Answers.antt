@@ -1,6 +1,7 @@
 use Rattle.std.proofs.lemmas.Grind.{moves}
 use Rattle.px_num.proofs.Basics.{◌≡◌, ◌+◌, ◌<◌, length, refl, sym, subst, ap, ◌∙◌, arith}
 use Rattle.px_asm.specs.Micros.{cycles}
+use Rattle.px_control.proofs.StepLemmas.{start_within}
 use Rattle.px_macro.proofs.MacroLemmas.{is_lawful_in_more}
 use Rattle.px_playing.specs.PassesText.{passes_listing}
 use Rattle.px_sched.specs.Layouts.{layout_of}
@@ -8,7 +9,7 @@ use Rattle.px_sched.specs.Passes.{operations}
 use Rattle.px_state.specs.Courses.{start_in_listing}
 use Rattle.px_state.specs.Operations.{IsPassed, operations_before}
 use Rattle.px_state.specs.Putting.{IsPutTo}
-use Rattle.px_state.proofs.CourseLemmas.{begins, start_within}
+use Rattle.px_state.proofs.CourseLemmas.{begins}
 use Rattle.px_state.proofs.OperationLemmas.{before_more, before_within, found_here, is_passed, lawful_op, op_is}
 use Rattle.px_state.proofs.OperationLemmas.{put_next}
 use Rattle.px_state.proofs.SceneLemmas.{same_total}
@@ -47,10 +48,11 @@ overflow_add-operation c =
 pub overflow_add-clock : goal.overflow_add-clock
 overflow_add-clock c =
     let scene = c.args.scene.now in
+    let l = passes_listing scene in
     omega (
       arith,
       c.loop-at.invariant.clock,
-      start_within (passes_listing scene) (c.args.begin.0 + c.loop-at.at),
+      start_within l.macros l.nx l.ny (c.args.begin.0 + c.loop-at.at),
       same_total scene,
       c.requires.good.clocks,
       c.from-clock.ensures,
