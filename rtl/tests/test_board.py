@@ -195,9 +195,9 @@ def test_more_than_128_bits_are_refused(tmp_path: pathlib.Path) -> None:
 @pytest.mark.skipif(not shutil.which("yosys"), reason="there is no yosys")
 @pytest.mark.parametrize("module, without", [
     ("sequencer", set()), ("serial", set()), ("chip", set()), ("video", {"number_shown", "painted"}),
-    ("word", {"read", "video", "was_there"}), ("node", set()), ("pixel", set()), ("board", {"pressed"})])
+    ("word", {"read", "video", "was_there", "written_last"}), ("node", set()), ("pixel", set()), ("board", {"pressed"})])
 def test_registers_have_a_reset(module: str, without: set[str], tmp_path: pathlib.Path) -> None:
-    """But for what a RAM answers, the one that says whether that answer is old, and the button's."""
+    """But for what a RAM answers, the two that say whether that answer is old and what is right then (0 in a wipe), and the button's."""
     path = next(path for path in RTL.rglob(module + ".v"))
     yosys.run(str(tmp_path), "read_verilog %s\nhierarchy -top %s\nproc\nopt_dff\nwrite_json out.json\n" % (path, module))
     design = yosys.top_of(str(tmp_path), "out.json")
