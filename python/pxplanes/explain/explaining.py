@@ -94,7 +94,7 @@ def place_of(text: bytes, note: str, known: scenes.Refusal, number: int, mistake
     said = SAID.get(cause, limit) if note.startswith("malformed") else limit
     said = (said % word if "%s" in said else said) + (meant(line, changes) if known.span else "")
     cure = mistake.change.told if mistake and mistake.change else None
-    rest = [("due", known.due), ("limit", known.limit)]
+    rest = [("expected", known.due), ("limit", known.limit)]
     if cure:
         rest.append(("cure", cure))
     else:

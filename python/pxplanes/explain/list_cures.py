@@ -52,4 +52,4 @@ def of(text: bytes, refusal: Any) -> list[str]:
     if hasattr(refusal, "kind"):
         return ["limit: " + LIMITS[refusal.kind]] if refusal.kind in LIMITS else []
     told = due(text, refusal)
-    return ["due: " + told[0]] + ["cure: " + cure for cure in told[1:]]
+    return ["expected: " + told[0]] + ["cure: " + cure for cure in told[1:]]

@@ -26,7 +26,7 @@ class Image:
         if self.channels == 1:
             return list(self.samples)
         if self.largest != 255:
-            raise Trouble("a pixel map with samples to %d holds no numbers; 255 is due" % self.largest)
+            raise Trouble("a pixel map with samples to %d holds no numbers; 255 is expected" % self.largest)
         return of_three_bytes(self.samples)
 
     def colours(self) -> list[tuple[int, int, int]]:
@@ -92,13 +92,13 @@ def raw_samples(data: bytes, at: int, count: int, largest: int) -> tuple[list[in
 def image_at(data: bytes, at: int) -> tuple[Image, int]:
     kind, at = word_at(data, at)
     if kind not in CHANNELS:
-        raise Trouble("no image begins here: P2, P3, P5 or P6 is due")
+        raise Trouble("no image begins here: P2, P3, P5 or P6 is expected")
     width, at = number_at(data, at, "the width", 1, LARGEST_SIDE)
     height, at = number_at(data, at, "the height", 1, LARGEST_SIDE)
     largest, at = number_at(data, at, "the greatest sample", 1, 65535)
     count = width * height * CHANNELS[kind]
     if kind in PLAIN and 2 * count - 1 > len(data) - at:
-        raise Trouble("the image ends early: %d samples are due" % count)
+        raise Trouble("the image ends early: %d samples are expected" % count)
     take = plain_samples if kind in PLAIN else raw_samples
     samples, at = take(data, at, count, largest)
     return Image(width, height, CHANNELS[kind], largest, samples), at

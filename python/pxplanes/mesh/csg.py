@@ -76,7 +76,7 @@ class Reader:
     def take(self, wanted: Optional[str] = None) -> str:
         word = self.peek()
         if not word or wanted and word != wanted:
-            raise self.bad("%s is due, and not %s" % (wanted or "more", word or "the end"))
+            raise self.bad("%s is expected, and not %s" % (wanted or "more", word or "the end"))
         self.at += 1
         return word
 
@@ -99,7 +99,7 @@ class Reader:
             return number
         if kind == 3 or word in ("true", "false", "undef"):
             return {"true": True, "false": False, "undef": None}.get(word, word)
-        raise self.bad("a value is due, and not %s" % word)
+        raise self.bad("a value is expected, and not %s" % word)
 
     def arguments(self) -> dict[Any, Any]:
         """The arguments by name; those without one by their place."""

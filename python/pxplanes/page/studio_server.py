@@ -87,7 +87,7 @@ class Handler(http.server.BaseHTTPRequestHandler):
         """What was sent; None where it is refused, or ends early."""
         length = self.headers.get("Content-Length", "")
         if not (length.isascii() and length.isdigit()) or "Transfer-Encoding" in self.headers:
-            self.refuse(411, "a length is due")
+            self.refuse(411, "a length is expected")
             return None
         if int(length) > ROOM:
             self.refuse(413, "this is too long")

@@ -383,7 +383,7 @@ def read(text: bytes) -> Scene:
         reader.take(raw)
     if reader.step != 7:
         raise Refusal("malformed line %d: missing-end" % len(lines), None, reader.due(), None,
-                      "the text stops here: add the lines that are due, up to end")
+                      "the text stops here: add the missing lines, up to end")
     return reader.scene
 
 
