@@ -27,7 +27,7 @@ ESBUILD = ("esbuild", "--bundle", "--minify", "--log-level=error", "--target=chr
 # The scenes that the page offers, by folders.
 OFFERED = (("gallery", "gallery"), ("docs/scenes", "of the documents"), ("suite", "the suite"))
 GALLERY = os.path.join(ends.TOP, "docs", "GALLERY.md")
-TAUGHT = re.compile(r"(?m)^!\[its colours\]\(\.\./gallery/(\w+)\.png\).*\n\n- (.+)\n- (.+)\n- (.+)\n$")
+TAUGHT = re.compile(r"(?m)^!\[its colours\]\(\.\./gallery/(\w+)\.png\).*\n\n((?:- .+\n)+)$")
 POLICY = ("default-src 'none'; script-src 'wasm-unsafe-eval' blob: '%s'; style-src %s; img-src blob: data:; worker-src blob:; "
           "connect-src 'self'")
 LIBRARY = re.compile(r'<script type="text/plain" id="library" data-of="(\w+)">\n([A-Za-z0-9+/=\n]*)</script>')
@@ -50,9 +50,9 @@ def bundled(leaf: str, *words: str) -> str:
 
 
 def offered() -> list[list[Any]]:
-    """Group, name and text of each scene that the page offers, and the three lines of what one of the gallery
+    """Group, name and text of each scene that the page offers, and the lines of what one of the gallery
     teaches."""
-    out, taught = [], {name: lines for name, *lines in TAUGHT.findall(read(GALLERY))}
+    out, taught = [], {name: re.findall("- (.+)", lines) for name, lines in TAUGHT.findall(read(GALLERY))}
     for folder, group in OFFERED:
         for place, folders, leaves in os.walk(os.path.join(ends.TOP, folder)):
             folders.sort()
@@ -61,7 +61,7 @@ def offered() -> list[list[Any]]:
                 if kind != ".scene":
                     continue
                 if folder == "gallery" and name not in taught:
-                    raise Trouble("docs/GALLERY.md has not three lines of what %s teaches" % name)
+                    raise Trouble("docs/GALLERY.md does not say what %s teaches" % name)
                 own = os.path.relpath(place, os.path.join(ends.TOP, folder))
                 out.append([group if own == "." else "%s: %s" % (group, own), name, read(os.path.join(place, leaf)),
                             taught[name] if folder == "gallery" else []])
