@@ -54,13 +54,25 @@ static size_t most_due(enum call call, const struct text *text, uint32_t status)
     return 128 * text->bytes.len + (1 << 20) + (is_open ? 14 << 20 : 0);
 }
 
+/* The size that a text writes, 1 by 1 if it writes none: check finds none of a text that it refuses. */
+static void find_size(const struct text *text, struct pxplanes_found *found)
+{
+    char line[64] = {0};
+    const char *end = (const char *) text->bytes.at + text->bytes.len;
+    const char *at = text->bytes.len ? memmem(text->bytes.at, text->bytes.len, "picture", 7) : NULL;
+    if (at != NULL)
+        memcpy(line, at, (size_t) (end - at) < sizeof line ? (size_t) (end - at) : sizeof line - 1);
+    if (sscanf(line, "picture %u %u", &found->width, &found->height) != 2)
+        found->width = found->height = 1;
+}
+
 static uint32_t called(enum call call, const struct text *text, struct buffer *b, struct moment *moment,
                        struct pxplanes_found *found, long refuse)
 {
     uint32_t status = 0;
     struct pxplanes_found whole = {0};
     if (call == WINDOW)
-        pxplanes_check(text->bytes.at, text->bytes.len, &whole);
+        find_size(text, &whole);
     memset(found, FILL, sizeof *found);
     atomic_fetch_add(&calls, 1);
     asked = held = 0;

@@ -2,7 +2,7 @@
  * What the checks of the library share: memory that is counted and refused, buffers that end where a page begins that nobody
  * may touch, and the program's note of what was found. Linked with --wrap for malloc, realloc and free.
  */
-#define _DEFAULT_SOURCE
+#define _GNU_SOURCE
 #include <malloc.h>
 #include <pthread.h>
 #include <stdarg.h>
