@@ -17,7 +17,13 @@ FIRST = pxplanes.from_file(os.path.join(support.TOP, "docs", "scenes", "first.sc
 MODULES = ("building", "commands", "machine.operations", "machine.states", "pictures", "running")
 # What a wrong call may raise.
 NAMED = (TypeError, ValueError, IndexError, MemoryError, OverflowError, pxplanes.OverBudget)
-pytestmark = pytest.mark.skipif(not os.environ.get(support.SHARED), reason=support.NO_LIBRARY)
+pytestmark = pytest.mark.after_build
+
+
+@pytest.fixture(autouse=True)
+def need_library(library):
+    if not os.environ.get(support.SHARED):
+        pytest.skip(support.NO_LIBRARY)
 
 
 @pytest.mark.parametrize("name", MODULES)
