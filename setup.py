@@ -9,7 +9,7 @@ from wheel.bdist_wheel import bdist_wheel
 
 HERE = os.path.dirname(os.path.abspath(__file__))
 # Where `./pxplanes --library` and tools/package put the library.
-LIBRARIES = os.environ.get("PXPLANES_PACKED") or os.path.join(HERE, "package", "lib")
+LIBRARIES = os.path.join(HERE, "package", "lib")
 LIBRARY = "libpxplanes.so"
 # The library is for this system alone, and for every Python.
 TAG = "py3", "none", "manylinux_2_17_x86_64"

@@ -58,7 +58,7 @@
  *
  * What you get:
  *   - Every call returns, though a text of some kilobytes can take hours: pxplanes_check says in found.clocks what a
- *     picture takes, before anything is drawn, and a process ends whatever it calls (examples/c/within.c).
+ *     picture takes, before anything is drawn, and strips by pxplanes_window show progress and an end (examples/c/within.c).
  *   - None prints, exits, keeps state or memory, starts a thread or opens a file. Calls are independent of one
  *     another, so any number of threads may make them at once, each with buffers of its own.
  *   - A call takes memory only by malloc and realloc, and gives all of it back before it returns.
@@ -88,6 +88,7 @@ extern "C" {
 #define PXPLANES_NO_MICRO 11 /* a word packs no microinstruction: found.number is its index */
 #define PXPLANES_NO_OPERATION 12 /* what is asked lies past the last operation: found.operations is how many there are */
 #define PXPLANES_NO_WINDOW 13 /* a window has not so many columns or rows, or lies past PXPLANES_MAX_WIDE_SIDE */
+#define PXPLANES_NO_FACE 14 /* the scene has no face of this number: found.faces is the greatest */
 
 /* The version of this header; pxplanes_version gives that of the library. */
 #define PXPLANES_VERSION_MAJOR 1
@@ -108,6 +109,12 @@ extern "C" {
  *   MEMORY     (none)
  *   NO_ROOM    as OK, and room
  *   NO_WINDOW  (none)
+ *
+ * Of pxplanes_face, which draws nothing:
+ *
+ *   OK         width, height, faces
+ *   NO_FACE    width, height, faces
+ *   NO_ROOM    width, height, faces, room
  *
  * Of pxplanes_state, pxplanes_micros and pxplanes_course, which look at no picture:
  *
@@ -195,6 +202,38 @@ uint32_t pxplanes_window(const uint8_t *text, size_t text_len, uint32_t x, uint3
  */
 uint32_t pxplanes_colour(const uint8_t *text, size_t text_len, uint8_t *rgb, size_t rgb_len,
                          struct pxplanes_found *found);
+
+/* Which face of its solid a face is. */
+#define PXPLANES_FACE_NEAR 1  /* its near face */
+#define PXPLANES_FACE_FRONT 2 /* one of its fronts */
+#define PXPLANES_FACE_BACK 3  /* one of its backs */
+
+/* What a face number means. pxplanes_face writes all fields with OK, and none with another status. */
+struct pxplanes_numbered_face {
+    uint32_t solid; /* its solid, from 1 in the order of their lines */
+    uint32_t kind;  /* PXPLANES_FACE_NEAR, PXPLANES_FACE_FRONT or PXPLANES_FACE_BACK */
+    uint32_t plane; /* which front or back of the solid it is, from 1 in the order of their lines; 0 for the near face */
+    uint32_t line;  /* the line of the text that gives it its number, from 1: the solid's for the near face, else the plane's */
+    uint32_t red;   /* its colour, each part from 0 to 255 */
+    uint32_t green;
+    uint32_t blue;
+};
+
+/* A solid's name has at most so many bytes. */
+#define PXPLANES_MAX_NAME 32
+
+/*
+ * Says what a face number of a picture means. Faces are numbered from 1 in the order of the lines `solid`, `front` and
+ * `back` (docs/PICTURE.md, "Faces").
+ *
+ * number: 1 to found.faces; NO_FACE is answered for any other number, as for 0, the background.
+ * name: the solid's name goes to its front, without a 0 after it: PXPLANES_MAX_NAME bytes, and one that is 0, hold each
+ *       name as a string. NO_ROOM is answered where it is shorter than the name: found.room is the name's length.
+ *
+ * A text that is no scene is refused as by pxplanes_check; nothing is drawn, and so no limit of the picture is asked.
+ */
+uint32_t pxplanes_face(const uint8_t *text, size_t text_len, uint32_t number, uint8_t *name, size_t name_len,
+                       struct pxplanes_numbered_face *face, struct pxplanes_found *found);
 
 /*
  * Lists the products that are drawn, those that can show anything, in the order of the program's `plan`.

@@ -17,7 +17,7 @@
  *     }
  *
  * Most calls have two forms: one gives a value that owns its memory, and one writes to a buffer of the caller's, given by
- * pointer and size, or by std::span from C++20 on. A call that is refused throws `refused`, and std::bad_alloc where memory
+ * pointer and size, or as what has both, as std::vector or std::span. A call that is refused throws `refused`, and std::bad_alloc where memory
  * was wanted and not given; then no buffer, and no value that was there before, has changed.
  *
  * There is nothing to link but the library itself. What pxplanes.h says of buffers and of threads holds here too.
@@ -26,17 +26,16 @@
 #define PXPLANES_HPP
 
 #include <algorithm>
+#include <array>
 #include <cstddef>
 #include <cstdint>
+#include <iterator>
 #include <memory>
 #include <new>
 #include <stdexcept>
 #include <string>
 #include <string_view>
 #include <vector>
-#if __cplusplus >= 202002L
-#include <span>
-#endif
 
 #include "pxplanes.h"
 
@@ -79,6 +78,10 @@ inline std::string note_of(std::uint32_t status, const pxplanes_found &found)
         return "there are " + std::to_string(found.operations) + " operations";
     case PXPLANES_NO_GRID:
         return "a grid has not so many columns or rows";
+    case PXPLANES_NO_FACE:
+        return "faces are numbered from 1 to " + std::to_string(found.faces);
+    case PXPLANES_NO_WINDOW:
+        return "a window has not so many columns or rows";
     case PXPLANES_NO_MICRO:
         return "no microinstruction at " + std::to_string(found.number);
     default:
@@ -219,6 +222,51 @@ inline picture render(std::string_view text)
     return drawn;
 }
 
+/* Draws a part of a picture to buffers of the caller's: pxplanes_window. */
+inline cost window(std::string_view text, std::uint32_t x, std::uint32_t y, std::uint32_t width, std::uint32_t height,
+                   std::uint32_t *depths, std::size_t depths_size, std::uint32_t *faces, std::size_t faces_size)
+{
+    pxplanes_found found{};
+    detail::need(pxplanes_window(detail::bytes_of(text), text.size(), x, y, width, height, depths, depths_size, faces, faces_size,
+                                 &found), found);
+    return detail::cost_of(found);
+}
+
+inline picture window(std::string_view text, std::uint32_t x, std::uint32_t y, std::uint32_t width, std::uint32_t height)
+{
+    const bool is_one = width <= PXPLANES_MAX_SIDE && height <= PXPLANES_MAX_SIDE;
+    picture drawn;
+    drawn.width = width;
+    drawn.height = height;
+    drawn.depths.resize(is_one ? std::size_t{width} * height : 0);
+    drawn.faces.resize(drawn.depths.size());
+    window(text, x, y, width, height, drawn.depths.data(), drawn.depths.size(), drawn.faces.data(), drawn.faces.size());
+    return drawn;
+}
+
+enum class face_kind : std::uint32_t { near = PXPLANES_FACE_NEAR, front = PXPLANES_FACE_FRONT, back = PXPLANES_FACE_BACK };
+
+/* What a face number means: pxplanes_face. */
+struct face_found {
+    std::uint32_t solid = 0;
+    std::string name{};
+    face_kind kind = face_kind::near;
+    std::uint32_t plane = 0;
+    std::uint32_t line = 0;
+    std::array<std::uint8_t, 3> colour{};
+};
+
+inline face_found face(std::string_view text, std::uint32_t number)
+{
+    pxplanes_found found{};
+    pxplanes_numbered_face face{};
+    std::array<std::uint8_t, PXPLANES_MAX_NAME> name{};
+    detail::need(pxplanes_face(detail::bytes_of(text), text.size(), number, name.data(), name.size(), &face, &found), found);
+    const auto end = std::find(name.begin(), name.end(), std::uint8_t{0});
+    return {face.solid, std::string(name.begin(), end), static_cast<face_kind>(face.kind), face.plane, face.line,
+            {static_cast<std::uint8_t>(face.red), static_cast<std::uint8_t>(face.green), static_cast<std::uint8_t>(face.blue)}};
+}
+
 /* Colours: red, green and blue of pixel (x, y) are the bytes from 3 * (y * width + x) on. */
 struct colours {
     std::uint32_t width = 0;
@@ -280,20 +328,24 @@ inline std::size_t run(std::string_view text, std::string_view words, std::uint8
     return detail::size_of(found.room);
 }
 
-/* The same as a value of just its size; a longer output than two MiB is made twice. The room is left as the allocator gives it, so
- * only what is written of it costs anything. */
+/* The same as a value. Each thread keeps a buffer that grows: an output longer than two MiB, and than all before it, is made twice. */
 inline std::string run(std::string_view text, std::string_view words)
 {
-    for (std::size_t size = std::size_t{1} << 21;;) {
-        const std::unique_ptr<std::uint8_t[]> room(new std::uint8_t[size]);
+    thread_local std::size_t size = std::size_t{1} << 21;
+    thread_local std::unique_ptr<std::uint8_t[]> room;
+    for (;;) {
+        if (!room)
+            room.reset(new std::uint8_t[size]);
         pxplanes_found found{};
         const std::uint32_t status = pxplanes_run(detail::bytes_of(text), text.size(), detail::bytes_of(words), words.size(),
                                                   room.get(), size, &found);
-        size = detail::size_of(found.room);
-        if (status == PXPLANES_NO_ROOM)
-            continue;
-        detail::need(status, found);
-        return std::string(room.get(), room.get() + size);
+        const std::size_t length = detail::size_of(found.room);
+        if (status != PXPLANES_NO_ROOM) {
+            detail::need(status, found);
+            return std::string(room.get(), room.get() + length);
+        }
+        room.reset();
+        size = length;
     }
 }
 
@@ -455,48 +507,29 @@ private:
     std::vector<std::uint64_t> words_{};
 };
 
-#ifdef __cpp_lib_span
-inline cost render(std::string_view text, std::span<std::uint32_t> depths, std::span<std::uint32_t> faces)
-{
-    return render(text, depths.data(), depths.size(), faces.data(), faces.size());
-}
+/* The same for whatever has a size and data that can be written, as std::vector, std::array and std::span. */
+#define PXPLANES_RETURN_(call) -> decltype(call) { return call; }
 
-inline cost colour(std::string_view text, std::span<std::uint8_t> rgb)
-{
-    return colour(text, rgb.data(), rgb.size());
-}
-
-inline void products(std::string_view text, std::span<std::int32_t> literals)
-{
-    products(text, literals.data(), literals.size());
-}
-
-inline std::size_t run(std::string_view text, std::string_view words, std::span<std::uint8_t> out)
-{
-    return run(text, words, out.data(), out.size());
-}
-
-inline pxplanes_moment read_state(std::string_view text, std::uint64_t clock, std::span<std::uint64_t> words)
-{
-    return read_state(text, clock, words.data(), words.size());
-}
-
-inline void micros(std::string_view text, std::uint64_t first, std::span<std::uint64_t> packed)
-{
-    micros(text, first, packed.data(), packed.size());
-}
-
-inline void course(std::string_view text, std::uint64_t first, std::span<pxplanes_operation> operations)
-{
-    course(text, first, operations.data(), operations.size());
-}
-
-inline void clocks(std::span<std::uint64_t> words, std::uint32_t grid_width, std::uint32_t grid_height,
-                   std::span<const std::uint64_t> packed)
-{
-    clocks(words.data(), words.size(), grid_width, grid_height, packed.data(), packed.size());
-}
-#endif
+template <class D, class F> auto render(std::string_view text, D &&depths, F &&faces)
+    PXPLANES_RETURN_(render(text, std::data(depths), std::size(depths), std::data(faces), std::size(faces)))
+template <class D, class F> auto window(std::string_view text, std::uint32_t x, std::uint32_t y, std::uint32_t width, std::uint32_t height,
+                                        D &&depths, F &&faces)
+    PXPLANES_RETURN_(window(text, x, y, width, height, std::data(depths), std::size(depths), std::data(faces), std::size(faces)))
+template <class R> auto colour(std::string_view text, R &&rgb)
+    PXPLANES_RETURN_(colour(text, std::data(rgb), std::size(rgb)))
+template <class L> auto products(std::string_view text, L &&literals)
+    PXPLANES_RETURN_(products(text, std::data(literals), std::size(literals)))
+template <class O> auto run(std::string_view text, std::string_view words, O &&out)
+    PXPLANES_RETURN_(run(text, words, std::data(out), std::size(out)))
+template <class W> auto read_state(std::string_view text, std::uint64_t clock, W &&words)
+    PXPLANES_RETURN_(read_state(text, clock, std::data(words), std::size(words)))
+template <class P> auto micros(std::string_view text, std::uint64_t first, P &&packed)
+    PXPLANES_RETURN_(micros(text, first, std::data(packed), std::size(packed)))
+template <class O> auto course(std::string_view text, std::uint64_t first, O &&operations)
+    PXPLANES_RETURN_(course(text, first, std::data(operations), std::size(operations)))
+template <class W, class P> auto clocks(W &&words, std::uint32_t grid_width, std::uint32_t grid_height, const P &packed)
+    PXPLANES_RETURN_(clocks(std::data(words), std::size(words), grid_width, grid_height, std::data(packed), std::size(packed)))
+#undef PXPLANES_RETURN_
 
 }  // namespace pxplanes
 

@@ -26,7 +26,8 @@ struct pxplanes_plane {
 
 enum pxplanes_kind { PXPLANES_FRONT, PXPLANES_BACK };
 
-/* A front or a back; it has a colour of its own where has_colour is not 0, and else that of its solid. */
+/* A front or a back; it has a colour of its own where has_colour is not 0, and else that of its solid. In C++ its name is
+ * `struct pxplanes_face`, since a call of pxplanes.h has the short one. */
 struct pxplanes_face {
     enum pxplanes_kind kind;
     struct pxplanes_plane plane;
@@ -70,11 +71,11 @@ static inline void pxplanes_number_(struct pxplanes_writer_ *to, int64_t number)
 {
     char digits[24];
     char *at = digits + sizeof digits - 1;
-    uint64_t size = number < 0 ? 0 - (uint64_t) number : (uint64_t) number;
+    int64_t left = number;
     *at = 0;
     do
-        *--at = (char) ('0' + size % 10);
-    while ((size /= 10) > 0);
+        *--at = "0123456789"[left < 0 ? -(left % 10) : left % 10];
+    while ((left /= 10) != 0);
     pxplanes_put_(to, number < 0 ? " -" : " ");
     pxplanes_put_(to, at);
 }
@@ -124,8 +125,14 @@ static inline size_t pxplanes_end_(struct pxplanes_writer_ *to)
 /* Whether a word, with its 0, and a buffer share a byte. */
 static inline int pxplanes_overlaps_(const char *word, const char *text, size_t room)
 {
-    const uintptr_t from = (uintptr_t) word, at = (uintptr_t) text;
-    return from < at + room && at < from + strlen(word) + 1;
+    const size_t size = strlen(word) + 1;
+    for (size_t at = 0; at < room; at++)
+        if (text + at == word)
+            return 1;
+    for (size_t at = 0; at < size && room > 0; at++)
+        if (word + at == text)
+            return 1;
+    return 0;
 }
 
 /*

@@ -6,7 +6,7 @@ export type Whole = number | bigint;
 
 /** Why a text is refused, or a call not answered; the message is the program's note. */
 export class Refused extends Error {
-  /** As the program ends: 2 words that name no command, 3 no scene or listing, 4 past a limit, 7 no memory; 9 a clock past the last, 10 no such grid, 11 no microinstruction, 12 an operation past the last. */
+  /** As the program ends: 2 words that name no command, 3 no scene or listing, 4 past a limit, 7 no memory; 9 a clock past the last, 10 no such grid, 11 no microinstruction, 12 an operation past the last, 13 no such window. */
   readonly status: number;
   /** The first bad line, counted from 1; 0 where the refusal is of no line. */
   readonly line: number;
@@ -31,11 +31,17 @@ export interface Cost {
   clocks: number;
 }
 
-export interface Picture {
+/** How maps are given: depths as floats, which are exact, and rows from the bottom, as a texture has them. */
+export interface Form<IsFloat = false> {
+  isFloat?: IsFloat;
+  isFromBottom?: boolean;
+}
+
+export interface Picture<Depths = Uint32Array> {
   width: number;
   height: number;
   /** The depth of pixel (x, y) is element y * width + x; where nothing shows, the scene's far limit. */
-  depths: Uint32Array;
+  depths: Depths;
   /** The number of the face that shows; 0 for the background. */
   faces: Uint32Array;
   operations: number;
@@ -119,6 +125,16 @@ export class Machine {
   micros(first: Whole, count: Whole): Micro[];
 }
 
+/** A face: its solid and line, from 1 on; which front or back of the solid it is, from 1 on; red, green and blue. */
+export interface Face {
+  readonly solid: number;
+  readonly name: string;
+  readonly kind: "near" | "front" | "back";
+  readonly plane: number;
+  readonly line: number;
+  readonly colour: [number, number, number];
+}
+
 export class Library {
   readonly Refused: typeof Refused;
   /** How large the memory of the module is. */
@@ -126,8 +142,16 @@ export class Library {
   readonly hasClocks: boolean;
   version(): string;
   check(text: Text): Cost;
-  render(text: Text): Picture;
+  render(text: Text, form?: Form): Picture;
+  render(text: Text, form: Form<true>): Picture<Float32Array>;
+  /** A part of a picture, 1 to 512 pixels wide and high, or of what `tile` draws: strips show progress, and workers draw one each. */
+  window(text: Text, x: Whole, y: Whole, width: Whole, height: Whole, form?: Form): Picture;
+  window(text: Text, x: Whole, y: Whole, width: Whole, height: Whole, form: Form<true>): Picture<Float32Array>;
+  /** What a face number means; `plane` is 0 for the near face. A number that no face has is thrown as Refused, with status 14. */
+  face(text: Text, number: Whole): Face;
   colour(text: Text): Colours;
+  /** The picture in colour for a canvas; where there is no ImageData, an object of its form. */
+  imageData(text: Text): ImageData;
   products(text: Text): number[][];
   counts(text: Text): { operations: number; clocks: number };
   /** The operations, so many from `first` on, or all from there. */

@@ -7,8 +7,8 @@
 // A text is a string or bytes. A text that the library does not accept is thrown as `Refused`, an argument of a wrong kind as `TypeError`,
 // and one out of its range as `RangeError`. docs/LIBRARY.md has each call.
 
-const STATUS = {ok: 0, usage: 2, malformed: 3, limit: 4, memory: 7, room: 8, clock: 9, grid: 10, micro: 11, operation: 12};
-const FOUND = 56, STATE = 64, WORD = 16, MICRO = 8, OPERATION = 88, ROOM = 1 << 21, MOST_SIDE = 512, MOST_BITS = 53;
+const STATUS = {ok: 0, usage: 2, malformed: 3, limit: 4, memory: 7, room: 8, clock: 9, grid: 10, micro: 11, operation: 12, window: 13, face: 14};
+const FOUND = 56, FACE = 28, NAME = 32, STATE = 64, WORD = 16, MICRO = 8, OPERATION = 88, ROOM = 1 << 21, MOST_SIDE = 512, MOST_BITS = 53, MOST_WORD = 2 ** 32 - 1;
 // A module with one instruction on vectors of 128 bits.
 const VECTORS = Uint8Array.of(0, 97, 115, 109, 1, 0, 0, 0, 1, 5, 1, 96, 0, 1, 123, 3, 2, 1, 0, 10, 10, 1, 8, 0, 65, 0, 253, 15, 253, 98, 11);
 const ACTS = ["", "nop", "enable-all", "enable-carry", "enable-tree", "enable-bit", "set-carry", "fetch", "store-tree", "store-latch",
@@ -16,6 +16,7 @@ const ACTS = ["", "nop", "enable-all", "enable-carry", "enable-tree", "enable-bi
 const HAVE_A_PLACE = new Set([5, 7, 8, 9, 10, 11, 12, 13, 14]), HAVE_A_VALUE = new Set([3, 4, 5, 6, 10]), TREES = ["hold", "clear", "feed"];
 const KINDS = ["all", "keep-sign", "keep-bit", "load-linear", "keep-at-most", "add-linear", "load-const", "set-bit", "toggle", "copy",
   "keep-less"];
+const FACES = ["near", "front", "back"];
 const ROLES = [null, "start", "open", "candidate", "drop", "clear", "front", "confirm", "begin", "turn", "close", "merge"];
 // A machine keeps so many states, and goes on from one that is so many clocks before at most; farther, a state of the text is faster.
 const LATEST = 1000, KEPT_BYTES = 1 << 27, NEAR = 24, STRETCH = 4096;
@@ -121,16 +122,44 @@ export class Library {
   }
 
   // The depth and the face number of each pixel.
-  render(text) {
-    const bytes = bytesOf(text), {width, height} = this.check(bytes), size = 4 * width * height;
-    return this.#ask("render", bytes, [[size, 4], [size, 4]], ({operations, clocks}, [depths, faces]) =>
-      ({width, height, depths: this.#copy(Uint32Array, depths, size), faces: this.#copy(Uint32Array, faces, size), operations, clocks}));
+  render(text, form) {
+    const bytes = bytesOf(text), {width, height} = this.check(bytes);
+    return this.#drawn("render", bytes, width, height, [], form);
+  }
+
+  // The same of a part of the picture, or of what `tile` draws.
+  window(text, x, y, width, height, form) {
+    const place = [whole(x, "x", MOST_WORD), whole(y, "y", MOST_WORD)], size = [whole(width, "width", MOST_SIDE), whole(height, "height", MOST_SIDE)];
+    return this.#drawn("window", text, ...size, [...place, ...size], form);
+  }
+
+  // What a face number means: its solid, with the name, which of the solid's faces it is, the line of the text, and the colour.
+  face(text, number) {
+    const asked = whole(number, "number", MOST_WORD);
+    return this.#with([FACE, NAME], ([place, name]) => {
+      this.#put(name, new Uint8Array(NAME));
+      return this.#ask("face", text, [], () => {
+        const [solid, kind, plane, line, ...colour] = this.#copy(Uint32Array, place, FACE);
+        const letters = this.#letters(name, NAME).replace(/\0+$/, "");
+        return {solid, name: letters, kind: FACES[kind - 1], plane, line, colour};
+      }, [asked, BigInt(name), BigInt(NAME)], [place]);
+    });
   }
 
   // Red, green and blue of each pixel.
   colour(text) {
     const bytes = bytesOf(text), {width, height} = this.check(bytes), size = 3 * width * height;
     return this.#ask("colour", bytes, [[size, 1]], (found, [rgb]) => ({width, height, rgb: this.#copy(Uint8Array, rgb, size)}));
+  }
+
+  // The same as an ImageData, or where there is none as an object of its form: red, green, blue and 255.
+  imageData(text) {
+    const {width, height, rgb} = this.colour(text), data = new Uint8ClampedArray(4 * width * height);
+    for (let from = 0, to = 0; to < data.length; from += 3, to += 4) {
+      data.set(rgb.subarray(from, from + 3), to);
+      data[to + 3] = 255;
+    }
+    return typeof ImageData === "function" ? new ImageData(data, width) : {width, height, data, colorSpace: "srgb"};
   }
 
   // The products that are drawn, each a list of solid numbers from 1 on, below 0 where a solid is taken away.
@@ -146,19 +175,19 @@ export class Library {
   state(text, clock) {
     const made = whole(clock, "clock");
     return this.#roomy(count => this.#with([STATE], ([state]) => this.#ask("state", text, [[8 * count, 8]],
-      (found, [room]) => new State(this.#fields(state), this.#copy(Uint32Array, room, 8 * count)), [made], [state])));
+      (found, [room]) => new State(this.#fields(state), this.#copy(Uint32Array, room, 8 * count)), [BigInt(made)], [state])));
   }
 
   // The microinstructions of so many clocks, from `first` on, as the library packs them.
   packed(text, first, count) {
     const begin = whole(first, "first"), size = MICRO * whole(count, "count", Number.MAX_SAFE_INTEGER / MICRO);
-    return this.#ask("micros", text, [[size, MICRO]], (found, [room]) => this.#copy(BigUint64Array, room, size), [begin]);
+    return this.#ask("micros", text, [[size, MICRO]], (found, [room]) => this.#copy(BigUint64Array, room, size), [BigInt(begin)]);
   }
 
   micros(text, first, count) { return Array.from(this.packed(text, first, count), word => new Micro(word)); }
 
   // How many clocks a scene or a listing has, and how many operations.
-  counts(text) { return this.#ask("micros", text, [[0, MICRO]], ({operations, clocks}) => ({operations, clocks}), [0]); }
+  counts(text) { return this.#ask("micros", text, [[0, MICRO]], ({operations, clocks}) => ({operations, clocks}), [0n]); }
 
   // The operations of a scene or of a listing, so many from `first` on, or all from there; each with what it is for.
   course(text, first = 0, count = null) {
@@ -166,7 +195,7 @@ export class Library {
     return this.#ask("course", text, [[OPERATION * all, OPERATION]], (found, [room]) => {
       const view = new DataView(this.#calls.memory.buffer, room, OPERATION * all);
       return Array.from({length: all}, (_, at) => new Operation(view, OPERATION * at));
-    }, [begin]);
+    }, [BigInt(begin)]);
   }
 
   // The bytes that the program writes for a command's words, as "tile 600 400", with the text as its standard input.
@@ -205,6 +234,18 @@ export class Library {
   // A machine over a text, which keeps states to go on from and back to.
   machine(text, starts = null) { return new Machine(this, bytesOf(text), starts); }
 
+  // Two maps of so many pixels, by a call that takes these numbers.
+  #drawn(name, text, width, height, numbers, form = {}) {
+    if (form === null || typeof form !== "object") throw new TypeError(`form is ${kindOf(form)}; an object is expected`);
+    const {isFloat = false, isFromBottom = false} = form, size = 4 * width * height;
+    const map = (Kind, place) => {
+      const rows = Kind.from(this.#copy(Uint32Array, place, size));
+      return isFromBottom ? rows.map((_, at) => rows[(height - 1 - Math.floor(at / width)) * width + at % width]) : rows;
+    };
+    return this.#ask(name, text, [[size, 4], [size, 4]], ({operations, clocks}, [depths, faces]) =>
+      ({width, height, depths: map(isFloat ? Float32Array : Uint32Array, depths), faces: map(Uint32Array, faces), operations, clocks}), numbers);
+  }
+
   // Makes a call with a buffer of so many elements as the library says that it needs.
   #roomy(call) {
     try {
@@ -215,14 +256,14 @@ export class Library {
     }
   }
 
-  // Makes a call with a text, numbers, buffers of sizes in bytes and in elements, what else it writes, and what it found; gives what
-  // is made of that.
+  // Makes a call with a text, numbers as WebAssembly takes them, buffers of sizes in bytes and in elements, what else it writes, and what
+  // it found; gives what is made of that.
   #ask(name, text, buffers, answer, numbers = [], written = []) {
     const bytes = bytesOf(text), whole = each => each.map(BigInt);
     return this.#with([bytes.length, FOUND, ...buffers.map(([size]) => size)], ([place, found, ...places]) => {
       this.#put(place, bytes);
       const given = places.flatMap((each, at) => [each, buffers[at][0] / buffers[at][1]]);
-      const status = this.#calls["pxplanes_" + name](...whole([place, bytes.length, ...numbers, ...given, ...written, found]));
+      const status = this.#calls["pxplanes_" + name](...whole([place, bytes.length]), ...numbers, ...whole([...given, ...written, found]));
       const told = this.#found(found);
       if (status !== STATUS.ok) throw this.#refusal(status, told);
       return answer(told, places);
@@ -282,6 +323,8 @@ export class Library {
     if (status === STATUS.clock) return new Refused(`there are ${clocks} clocks`, status, {clocks});
     if (status === STATUS.operation) return new Refused(`there are ${operations} operations`, status, {operations});
     if (status === STATUS.grid) return new Refused("a grid has not so many columns or rows", status);
+    if (status === STATUS.face) return new Refused(`faces are numbered from 1 to ${found.faces}`, status);
+    if (status === STATUS.window) return new Refused("a window has not so many columns or rows", status);
     if (status === STATUS.micro) return new Refused(`element ${number} is no microinstruction`, status, {number});
     if (status === STATUS.room) return new Refused(`${room} elements are needed`, status, {number: room});
     return new Refused(status === STATUS.memory ? "out of memory" : `status ${status}`, status, {number});

@@ -1,4 +1,5 @@
 // What the page asks, answered in a worker by the library.
+import "./older.js";
 import {Refused, load} from "../library/pxplanes.mjs";
 import {compared, fill, greatest, mapsOf, marksOf, pictureOf, wordsOf} from "./differences.js";
 import {Bad, rastersOf} from "./maps.js";
@@ -7,9 +8,10 @@ import {operationsOf, operationsOfListing} from "./passes.js";
 import {rayOf} from "./ray.js";
 import {refusalOf} from "./refusals.js";
 import {Life} from "./replay.js";
-import {readScene} from "./scene.js";
+import {isListing, readScene} from "./scene.js";
+import {fillBits, onesOf} from "./state.js";
 
-const MOST_CLOCKS = 64, MOST_SMALL = 256, MOST_GROUPS = 200, MALFORMED = 3, LIMIT = 4, NO_CLOCK = 9, IDLE = 200;
+const MOST_CLOCKS = 100, MOST_SMALL = 256, MOST_GROUPS = 200, MALFORMED = 3, LIMIT = 4, NO_CLOCK = 9, IDLE = 200;
 // `idle` makes ready what may be asked next, where nothing is asked for a moment; `lived` is the pixel whose life was asked last.
 let px = null, idle = null, lived = null;
 
@@ -23,9 +25,6 @@ function kept(make) {
 const sceneIn = kept(text => px.check(text) && readScene(text));
 const courseIn = kept(courseOf);
 const machineIn = kept(text => px.machine(text, courseIn(text).operations.map(([, , , clock]) => clock)));
-
-// Whether a text is a listing, by its first word.
-const isListing = text => /^[ \t\r]*pxlist(?![^ \t\r\n#])/.test(text.replace(/^([ \t\r]*(#[^\n]*)?\n)+/, ""));
 
 function wholeNumber(words, name, most = Number.MAX_SAFE_INTEGER) {
   const number = words[name];
@@ -70,7 +69,14 @@ function courseOf(text) {
 function state(text, words) {
   const machine = machineIn(text), {next, ...fields} = machine.state(wholeNumber(words, "clock"));
   idle = setTimeout(() => machine.prepare(words.clock), IDLE);
-  return {...fields, micro: next && String(next)};
+  return {...fields, next: next && {...next}, micro: next && String(next)};
+}
+
+// Enable after the last clock, as an image, and in how many pixels it is 1.
+function enabled(text) {
+  const last = px.state(text, px.counts(text).clocks), pixels = new Uint32Array(last.width * last.height), plane = last.planeOf("enable");
+  fillBits(last, plane, pixels);
+  return {pixels, count: onesOf(last, plane)};
 }
 
 // A small picture of key B after a clock: of some of its pixels the colours of their faces, at most so many in a row.
@@ -150,7 +156,7 @@ function small(text, words) {
   return sampled(drawn, wholeNumber(words, "most", MOST_SMALL), (x, y) => drawn.rgb.subarray(3 * (y * drawn.width + x)));
 }
 
-const QUESTIONS = {draw, ray, program: courseIn, state, wave, thumb, life, stop, compare, run, small};
+const QUESTIONS = {draw, ray, program: courseIn, state, wave, thumb, life, stop, enabled, compare, run, small};
 
 // What the page says of a refusal; of a listing only the program's note.
 const refused = (text, error) => isListing(text) ? {note: error.message, line: error.line, span: null, says: "", fix: null} : refusalOf(px, text, error);

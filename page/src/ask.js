@@ -3,7 +3,7 @@
 import {lacking} from "../library/pxplanes.mjs";
 import {code, library} from "./given.js";
 
-const PATIENCE = 200, LANE = {draw: "draw", compare: "slow", thumb: "small", small: "list", run: "slow", life: "life", stop: "life"};
+const PATIENCE = 200, LANE = {draw: "draw", compare: "slow", thumb: "small", small: "list", run: "slow", life: "life", stop: "life", enabled: "enabled"};
 
 export class Trouble extends Error {}
 

@@ -1,9 +1,7 @@
 // Another renderer's map compared with the picture, or with a second map: what differs, in groups, as an image and pixel by pixel.
 import {ask, latest} from "./ask.js";
 import {rove} from "./rove.js";
-import {Screen, made, painted} from "./show.js";
-
-const at = id => document.getElementById(id);
+import {Screen, at, made, painted} from "./show.js";
 
 export class Compare {
   constructor(tell) {

@@ -1,22 +1,10 @@
 // The course of a scene's broadcasts: its operations and passes, at which clock each begins, and where a move leads.
+import {placesOf} from "./passes.js";
 
 // The kinds of passes, and what the legend says of each.
 export const KINDS = {start: "the background", candidate: "a candidate", against: "it is counted against other faces", merge: "the nearer stays",
   open: "a solid begins"};
 const NONE = {said: "", kind: "open", face: 0, literal: 0, solid: null}, LEAST = 32;
-
-// The operations by name (docs/LISTINGS.md).
-export const NAMES = ["all", "keep-sign", "keep-bit", "keep-at-most", "keep-less", "set-bit", "toggle", "load-linear", "add-linear", "load-const", "copy"];
-
-// The places in memory that an operation names, each a first bit and a length.
-function placesOf(name, ...words) {
-  const numbers = words.map(Number), pair = first => [numbers[first], numbers[first + 1]];
-  const places = {
-    "keep-bit": () => [[numbers[0], 1]], "set-bit": () => [[numbers[0], 1]], "toggle": () => [[numbers[0], 1]],
-    "load-const": () => [pair(0)], "copy": () => [pair(0), [numbers[2], numbers[1]]], "keep-less": () => [pair(0), [numbers[2], numbers[1]]],
-    "load-linear": () => [pair(3)], "add-linear": () => [pair(3)], "keep-at-most": () => [pair(3)]};
-  return places[name]?.() ?? [];
-}
 
 export class Course {
   // The answer to `program`: of each operation its pass, line, words and first clock; and the words of each pass.
@@ -63,7 +51,7 @@ export class Course {
   startOfPass(pass) { return this.passStarts[pass] ?? this.clocks; }
 
   // The places in memory that the operations name, each a first bit and a length.
-  bitsNamed() { return this.operations.flatMap(([, line]) => placesOf(...line.split(" "))); }
+  bitsNamed() { return this.operations.flatMap(([, line]) => placesOf(line)); }
 
   // Where an operation of a name begins next, or began last before a clock; null where none does.
   named(name, now, way) {

@@ -9,7 +9,7 @@ export function mapsOf([first, second]) {
 }
 
 // The greatest depth that is finite.
-export const greatest = ({depths}) => depths.reduce((most, depth) => depth > most ? depth : most, 0);
+export const greatest = ({depths}) => Math.max(0, extentOf(depths)[1]);
 
 // Makes what is not finite the background.
 export function fill(maps, far) { maps.depths = maps.depths.map(depth => Number.isNaN(depth) ? far : depth); }

@@ -4,9 +4,10 @@
 const KEPT = "pxplanes kept ", PAGE = "pxplanes page";
 let own = "";
 
-function stored(call) {
+// What a call gives of what the browser keeps; null where it keeps nothing here.
+export function stored(call, place = "localStorage") {
   try {
-    return call(localStorage);
+    return call(globalThis[place]);
   } catch {
     return null;
   }
@@ -24,14 +25,9 @@ const held = number => new Promise(done => {
 
 // The number that the page had before it was loaded again, unless another page has it.
 async function numbered() {
-  let known = null;
-  try {
-    known = sessionStorage.getItem(PAGE);
-  } catch { /* the browser keeps nothing here */ }
+  const known = stored(store => store.getItem(PAGE), "sessionStorage");
   own = known && (!navigator.locks || await held(known)) ? known : crypto.getRandomValues(new Uint32Array(2)).join("");
-  try {
-    sessionStorage.setItem(PAGE, own);
-  } catch { /* the same */ }
+  stored(store => store.setItem(PAGE, own), "sessionStorage");
   if (own !== known && navigator.locks) await held(own);
 }
 

@@ -12,7 +12,7 @@ const [BEHIND, NOW, TO_COME] = [[[24, 30, 40], [255, 255, 255]], [[110, 60, 10],
 const bitOf = (number, bit) => Math.abs(Math.floor(number / 2 ** bit) % 2);
 
 // How many bits the numbers and their sums have, with the sign, of those that are wanted.
-function needed({form: [a, b, c], bits, width, height}) {
+export function needed({form: [a, b, c], bits, width, height}) {
   const [x, y] = [width - 1, height - 1], most = Math.max(...[c, a * x + c, b * y, b * y + c, a * x + b * y + c].map(Math.abs));
   return Math.min(bits, Math.floor(Math.log2(Math.max(most, .5))) + 2);
 }
@@ -64,7 +64,7 @@ function fill(canvas, width, height, place, now) {
 }
 
 // A number in binary, as so many bits have it.
-const binary = (number, bits) => Array.from({length: bits}, (_, at) => bitOf(number, bits - 1 - at)).join("");
+export const binary = (number, bits) => Array.from({length: bits}, (_, at) => bitOf(number, bits - 1 - at)).join("");
 
 // The two numbers of a pixel, their sum, and the bit that its leaf shows, in words.
 export function saidOf({form: [a, b, c], bits, now}, [x, y]) {

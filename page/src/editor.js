@@ -7,7 +7,7 @@ import "codemirror/addon/search/searchcursor.js";
 import "codemirror/addon/search/search.js";
 import {colourOf, completions} from "./language.js";
 import {css} from "./palette.js";
-import {made} from "./show.js";
+import {chip} from "./show.js";
 
 const COLOURS = "colours";
 
@@ -103,15 +103,9 @@ export class Editor {
     const {code} = this, {from, to} = code.getViewport(), last = Math.min(to, code.lineCount());
     code.operation(() => {
       for (let line = from; line < last; line++) {
-        const rgb = colourOf(code.getLine(line)), own = rgb && css(rgb), known = code.lineInfo(line).gutterMarkers?.[COLOURS];
-        if (known?.dataset.rgb !== (own ?? undefined)) code.setGutterMarker(line, COLOURS, own && chip(own));
+        const rgb = colourOf(code.getLine(line)), own = rgb && chip(css(rgb)), known = code.lineInfo(line).gutterMarkers?.[COLOURS];
+        if (known?.style.background !== own?.style.background) code.setGutterMarker(line, COLOURS, own);
       }
     });
   }
-}
-
-function chip(colour) {
-  const own = made("i", "chip");
-  own.style.background = own.dataset.rgb = colour;
-  return own;
 }

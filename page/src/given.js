@@ -1,5 +1,5 @@
 // What the page holds beside its modules: packed, the library and what it offers; and a scene of its own.
-import {through} from "./pack.js";
+import {unpacked as opened} from "./pack.js";
 
 const at = id => document.getElementById(id);
 // The page as it came, before anything on it was changed: what "save this page" writes again.
@@ -9,10 +9,8 @@ export const own = JSON.parse(at("own").textContent);
 
 // The bytes of a packed part; they are as they were packed, as their checksum shows, or the page says that it is damaged.
 async function unpacked(id) {
-  if (!globalThis.DecompressionStream) throw new Error("DecompressionStream is not there");
   try {
-    const bytes = Uint8Array.from(atob(at(id).textContent), letter => letter.charCodeAt(0));
-    return await through(bytes, new DecompressionStream("deflate"));
+    return await opened(Uint8Array.from(atob(at(id).textContent), letter => letter.charCodeAt(0)), "deflate");
   } catch {
     throw new Error("This page is damaged: get it again");
   }

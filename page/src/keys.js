@@ -1,8 +1,8 @@
 // The keys of the page. They work everywhere but where something is written or chosen.
 
 import {enter} from "./rove.js";
+import {at} from "./show.js";
 
-const at = id => document.getElementById(id);
 const MOVES = {
   s: "clock-on", b: "clock-back", ArrowRight: "clock-on", ArrowLeft: "clock-back", m: "operation-on", M: "operation-back", p: "pass-on",
   P: "pass-back", r: "run", End: "run", Home: "start"};

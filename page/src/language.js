@@ -1,10 +1,10 @@
 // The words of scenes and listings, for the editor: their colours, and what may be completed at the cursor.
 import CodeMirror from "codemirror/lib/codemirror.js";
+import {NAMES} from "./passes.js";
+import {KEYWORDS, isListing} from "./scene.js";
 
-const SCENE = ["pxscene", "picture", "depth", "solid", "front", "back", "side", "show", "end"];
-const LISTING = ["pxlist", "grid", "all", "keep-sign", "keep-bit", "set-bit", "toggle", "load-linear", "keep-at-most", "add-linear",
-  "load-const", "copy", "keep-less", "end"];
-const WORDS = new Set([...SCENE, ...LISTING]);
+const LISTING = ["pxlist", "grid", ...NAMES, "end"];
+const WORDS = new Set([...KEYWORDS, ...LISTING]);
 
 // The kind of a word by the first word of its line: keyword, number, name, bracket, sign or comment; `odd` is none of them.
 function kindOf(word, first, at) {
@@ -30,15 +30,13 @@ CodeMirror.defineMode("pxplanes", () => ({
   }
 }));
 
-const isListing = text => /^\s*(#[^\n]*\n\s*)*pxlist\b/.test(text);
-
 const namesIn = text => [...text.matchAll(/^[ \t]*solid[ \t]+(\w+)/gm)].map(match => match[1]);
 
 // What may be written at the cursor and begins as the word there does: the first word of a line, or in an expression the name of a solid.
 export function completions(editor) {
   const cursor = editor.getCursor(), line = editor.getLine(cursor.line), [word] = /[\w-]*$/.exec(line.slice(0, cursor.ch));
   const before = line.slice(0, cursor.ch - word.length), isFirst = !before.trim(), text = editor.getValue();
-  const shown = /^\s*show\b/.test(before) ? namesIn(text) : isFirst ? isListing(text) ? LISTING : SCENE : [];
+  const shown = /^\s*show\b/.test(before) ? namesIn(text) : isFirst ? isListing(text) ? LISTING : KEYWORDS : [];
   return {list: [...new Set(shown)].filter(each => each.startsWith(word)), from: CodeMirror.Pos(cursor.line, cursor.ch - word.length), to: cursor};
 }
 

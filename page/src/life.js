@@ -1,9 +1,7 @@
 // The whole life of the pixel that is kept: its enable as bars over the passes, what put it out in each, and which faces win there.
 import {ask, latest} from "./ask.js";
 import {rove} from "./rove.js";
-import {made} from "./show.js";
-
-const at = id => document.getElementById(id);
+import {at, made} from "./show.js";
 
 export class PixelLife {
   // `go` is called with a clock.
@@ -42,12 +40,13 @@ export class PixelLife {
   }
 
   draw() {
-    at("life").hidden = at("life-part").hidden = !this.life;
+    at("life").hidden = !this.life;
+    at("life-words").textContent = "Click a pixel of the array: here is what put it out in each pass, and which face won.";
     if (!this.life) return at("lives").replaceChildren();
     this.drawBars();
     const rows = this.rows();
     at("lives").replaceChildren(...rows.map(row => this.rowOf(row)));
-    at("life-words").textContent = rows.length ? "what put it out, and which face won" : "nothing put it out";
+    at("life-words").textContent = rows.length ? "What put it out in each pass, and which face won:" : "Nothing put it out.";
   }
 
   drawBars() {

@@ -1,8 +1,7 @@
 // The list of scenes that the page offers, with a search and small pictures: nothing opens but by a click or Enter.
 import {ask} from "./ask.js";
-import {made, put} from "./show.js";
+import {at, made, put} from "./show.js";
 
-const at = id => document.getElementById(id);
 const SMALL = 32, FOLDED = /^the suite/;
 
 // What a new scene begins as.

@@ -1,23 +1,22 @@
 // The machine at any clock of a scene: by a slider, by moves and by play; as images of its planes, and what one pixel holds.
 import {State} from "../library/pxplanes.mjs";
 import {Trouble, ask, latest} from "./ask.js";
-import {Course, KINDS, NAMES} from "./course.js";
+import {Course, KINDS} from "./course.js";
 import {PixelLife} from "./life.js";
 import {coloursOf} from "./palette.js";
 import {Edges, saidOf} from "./edges.js";
-import {formOf} from "./passes.js";
-import {pixelOf} from "./pixel.js";
+import {NAMES, formOf} from "./passes.js";
+import {Inside} from "./inside.js";
 import {Player} from "./play.js";
 import {Predict} from "./predict.js";
-import {Screen, made, unit} from "./show.js";
+import {Screen, at, made} from "./show.js";
 import {fieldsOf, onesOf, viewsOf} from "./state.js";
 import {Strip} from "./strip.js";
 import {isShown, treeOf} from "./tree.js";
+import {Triangle} from "./triangle.js";
 import {Wall} from "./wall.js";
-import {waveform} from "./wave.js";
 
-const at = id => document.getElementById(id);
-const CLOCKS_OF_WAVE = 24, GAP = 4, PICTURE = "best colours", FIRST_VIEW = "enable";
+const GAP = 4, PICTURE = "best colours", FIRST_VIEW = "enable";
 
 export class Machine {
   constructor(tell) {
@@ -34,11 +33,14 @@ export class Machine {
     this.isCurrent = () => true;
     // What the page does when another pixel is pointed at, and when another state is shown.
     this.onPoint = this.onShow = () => {};
+    // What it does with the text of a scene that was made here.
+    this.onScene = () => {};
+    this.parts = new Inside(this);
     this.edges = new Edges(this.screens[0]);
     this.predict = new Predict(this, this.screens[0]);
+    this.triangle = new Triangle(this, this.screens[0], text => this.onScene(text));
     at("edges").addEventListener("click", () => this.turnEdges());
     this.fetchState = latest(() => this.take().catch(tell));
-    this.fetchWave = latest((x, y) => this.takeWave(x, y).catch(tell));
     at("view").addEventListener("change", () => this.choose(at("view").value, false));
     at("beside").addEventListener("change", () => this.choose(at("beside").value, true));
     at("clock").addEventListener("input", () => this.go(Number(at("clock").value)));
@@ -139,13 +141,11 @@ export class Machine {
   async take() {
     const text = this.text, clock = this.wanted, began = performance.now();
     if (!this.course) return;
-    const head = await ask("state", {clock}, text);
+    const state = await this.stateAt(clock);
     if (text !== this.text || !this.course) return;
-    if (head.trouble || head.refused) throw new Trouble(head.trouble ?? head.refused.note);
     this.before = this.stateOf === text ? this.state : null;
     this.stateOf = text;
-    const {words, ...fields} = head;
-    this.state = new State(fields, words);
+    this.state = state;
     at("machine").classList.remove("empty");
     at("machine").classList.toggle("old", !this.isCurrent());
     this.show();
@@ -230,8 +230,8 @@ export class Machine {
 
   // The state at a clock, which is not shown.
   async stateAt(clock) {
-    const {words, trouble, ...fields} = await ask("state", {clock}, this.text);
-    if (trouble) throw new Trouble(trouble);
+    const {words, trouble, refused, ...fields} = await ask("state", {clock}, this.text);
+    if (trouble || refused) throw new Trouble(trouble ?? refused.note);
     return new State(fields, words);
   }
 
@@ -267,12 +267,15 @@ export class Machine {
 
   paint() {
     if (!this.state) return;
+    this.triangle.show(false);
     this.view = (this.viewNamed(this.view) ?? this.viewNamed(FIRST_VIEW)).name;
     this.beside = this.viewNamed(this.beside)?.name ?? "";
     at("view").value = this.view;
     at("beside").value = this.beside;
     this.screens[1].stage.hidden = !this.beside;
-    this.arrange();
+    const arranged = `${this.beside !== ""} ${this.state.width} ${this.state.height}`;
+    if (arranged !== this.arranged) this.arrange();
+    this.arranged = arranged;
     [this.view, this.beside].forEach((name, place) => { if (name) this.paintOne(this.screens[place], this.viewNamed(name)); });
     this.wall.mark([this.view, this.beside]);
     at("count").textContent = this.onesSaid(this.viewNamed(this.view));
@@ -321,36 +324,21 @@ export class Machine {
     if (String(this.life.pixel) !== String(pixel)) this.life.show(pixel);
   }
 
-  // What is beside the array: the pixel, the tree and the waveform.
+  // What is next to the array and below it: the pixel and the tree.
   inside() {
     const {state} = this;
     if (!state || at("machine").hidden) return;
     const pixel = this.pixel && this.pixel[0] < state.width && this.pixel[1] < state.height ? this.pixel : null;
-    const width = at("tree-part").parentElement.clientWidth - GAP;
     at("tree-part").hidden = !isShown(state);
-    if (isShown(state) && width > 0) at("tree").replaceChildren(treeOf(state, pixel, width));
-    at("pixel-name").textContent = pixel ? `${pixel[0]}, ${pixel[1]}` : "";
-    if (!pixel) {
-      at("pixel").replaceChildren(made("p", "quiet", "Point at a pixel of the array, or click one to keep it."));
-      return at("wave").replaceChildren();
-    }
-    at("pixel").replaceChildren(...pixelOf(state, this.before, this.fields, ...pixel));
-    this.fetchWave(...pixel);
+    const width = isShown(state) ? at("tree-part").parentElement.clientWidth - GAP : 0;
+    if (width > 0) at("tree").replaceChildren(treeOf(state, pixel, width));
+    this.parts.show();
   }
 
-  // As many clocks as there is room for, up to 24.
-  clocksOfWave() { return Math.max(4, Math.min(CLOCKS_OF_WAVE, Math.floor((at("wave").clientWidth - 70 * unit()) / 14))); }
-
-  async takeWave(x, y) {
-    const {text, state} = this;
-    if (!state || this.stateOf !== text) return;
-    const head = await ask("wave", {x, y, first: Math.max(0, state.clock - this.clocksOfWave()), last: state.clock}, text);
-    if (head.trouble || head.refused || text !== this.text || !this.pixel) return;
-    const view = this.viewNamed(this.view);
-    const alive = this.fields.find(field => field.name === "alive");
-    const bits = view.group === "memory" ? [[`bit ${view.plane}`, view.plane]] : alive ? [["alive", alive.at]] : [];
-    at("wave").replaceChildren(waveform(head, at("wave").clientWidth - GAP, bits));
-    document.body.dataset.wave = `${x} ${y} ${state.clock}`;
+  // The bits of the memory that a waveform shows: the one that is shown large, that which the operation writes last, or alive.
+  bitsOfWave() {
+    const view = this.viewNamed(this.view), alive = this.fields.find(field => field.name === "alive");
+    return view.group === "memory" ? [[`bit ${view.plane}`, view.plane]] : alive ? [["alive", alive.at]] : [];
   }
 }
 

@@ -1,8 +1,10 @@
 // The page as a whole: what it opens and saves, which part of it is shown, and what is dropped on it.
+import "./older.js";
 import {load} from "../library/pxplanes.mjs";
 import {Dropped, Trouble, ask, begin, newest} from "./ask.js";
 import {Compare} from "./compare.js";
 import {Drag} from "./drag.js";
+import {stored} from "./drafts.js";
 import {Editor} from "./editor.js";
 import * as film from "./film.js";
 import {library, offered, own, pageWith} from "./given.js";
@@ -19,8 +21,9 @@ import * as server from "./server.js";
 import {Story} from "./story.js";
 import * as take from "./take.js";
 import {Texts} from "./texts.js";
+import {at} from "./show.js";
 
-const at = id => document.getElementById(id), main = document.querySelector("main");
+const main = document.querySelector("main");
 const TABS = ["write", "machine", "compare", "lesson"], PARTS = ["write", "machine", "compare"];
 const MODELS = ["csg", "off", "stl"], TEXTS = ["scene", "listing"];
 const LARGEST_DROP = 1 << 26, TOLD = 6000, SMALLEST = 12, LARGEST = 30, FIRST = "first", NOTHING = "none";
@@ -53,6 +56,10 @@ machine.screens.forEach(screen => light.add(screen, () => machine.faces()));
 light.add(picture.screen, () => picture.maps?.faces ?? null);
 machine.onPoint = pixel => light.on(pixel && machine.isShown && machine.head.layout ? machine.faceAt(...pixel) : 0);
 machine.onShow = () => light.again();
+machine.onScene = text => {
+  open(untouched("triangle", text), text);
+  choose("write");
+};
 picture.onPoint = pixel => light.on(pixel && picture.maps ? picture.maps.faces[pixel[1] * picture.head.width + pixel[0]] : 0);
 
 // The text in the editor is another one: what is shown is not of it until it is drawn.
@@ -219,7 +226,7 @@ async function followAddress() {
   const found = name && page.scenes.find(([, each]) => each === name);
   const scene = read ? found && {name: untouched(name, found[2]), text: found[2], tab: "clock" in shown || "view" in shown ? "machine" : "write", ...shown}
     : await link.unpacked(part);
-  if (exercise !== undefined && page.lesson.begin(exercise)) return true;
+  if (exercise !== undefined && page.lesson.begin(exercise, shown.clock)) return true;
   if (!scene) throw new Trouble(read ? `This page has no ${name ? `scene ${name}` : `exercise ${exercise ?? ""}`}: the link is wrong.`
     : "The link is damaged or cut short: it holds no scene.");
   show(scene);
@@ -328,19 +335,9 @@ function theme() {
 // Theme and size of letters stay, where the browser keeps anything for the page.
 const LOOK = "pxplanes look";
 
-function remembered() {
-  try {
-    return JSON.parse(localStorage.getItem(LOOK)) ?? {};
-  } catch {
-    return {};
-  }
-}
+const remembered = () => stored(store => JSON.parse(store.getItem(LOOK))) ?? {};
 
-function remember(more) {
-  try {
-    localStorage.setItem(LOOK, JSON.stringify({...remembered(), ...more}));
-  } catch { /* the browser keeps nothing here */ }
-}
+function remember(more) { stored(store => store.setItem(LOOK, JSON.stringify({...remembered(), ...more}))); }
 
 function toggleText() { if (!own?.isFilm) at("show-text").setAttribute("aria-pressed", String(main.classList.toggle("with-text"))); }
 
@@ -416,7 +413,8 @@ async function start() {
   page.scenes = given.gallery;
   page.story = new Story(showStep, () => remember({isTold: true}));
   at("tell").addEventListener("click", () => page.story.begin(1));
-  page.lesson = new Lesson(given.lesson, ({name, text, clock, view, pixel}) => {
+  page.lesson = new Lesson(given.lesson, ({name, text, view, pixel}, clock, isOpen) => {
+    if (isOpen && page.tab === "machine" && machine.text === text && texts.text === text) return machine.go(clock);
     open(untouched(nameOf(name), text), text, {clock, view, pixel});
     choose("machine");
   });
@@ -459,5 +457,5 @@ listen({
   save: () => save().catch(tell), choose: number => choose(TABS[number]), parts: own?.isFilm ? 0 : TABS.length, letters, write, nextImage, teach: () => teach(), stop: way => machine.stopAt(way).catch(tell), teachNoMore: () => teach(false),
   toggleText, isMachine: () => page.tab === "machine", machine});
 // For whoever asks by the browser's console (docs/STUDIO.md).
-globalThis.studio = {ask, editor, library: async () => load(await library())};
+globalThis.studio = {ask, editor, machine, library: async () => load(await library())};
 start().catch(tell);

@@ -1,6 +1,6 @@
 // Reads a map of numbers from PNG, Netpbm, PFM and NPY. A canvas has 8 bits a sample, and some browsers change what it gives back, so PNG is
 // read here too. Other forms are refused by name.
-import {through} from "./pack.js";
+import {unpacked} from "./pack.js";
 
 export class Bad extends Error {}
 
@@ -144,7 +144,7 @@ async function readPng(bytes) {
   const width = view.getUint32(16), height = view.getUint32(20), [bits, kind, , , isWoven] = bytes.subarray(24), channels = OF_PNG[kind];
   if (!channels || isWoven || bits < 8) throw new Bad(`the page reads no PNG that is interlaced, has a palette, or has fewer than 8 bits: ${CONVERT}`);
   sized(width, height, "PNG file");
-  const body = await through(new Blob(parts), new DecompressionStream("deflate")).catch(() => { throw new Bad("the PNG file is damaged"); });
+  const body = await unpacked(new Uint8Array(await new Blob(parts).arrayBuffer()), "deflate").catch(() => { throw new Bad("the PNG file is damaged"); });
   const step = channels * bits / 8, length = width * step, lines = new Uint8Array(height * length);
   if (body.length < height * (length + 1)) throw new Bad("the PNG file ends early");
   for (let y = 0, to = 0; y < height; y++) {

@@ -1,10 +1,9 @@
 // The picture beside the text: drawn again at each change, with a pixel and its ray.
 import {Trouble, ask, latest} from "./ask.js";
 import {css, greys, hue} from "./palette.js";
-import {rove} from "./rove.js";
-import {Screen, made, painted} from "./show.js";
+import {choice} from "./rove.js";
+import {Screen, at, chip, made, painted} from "./show.js";
 
-const at = id => document.getElementById(id);
 const MOST_NAMED = 12;
 const NO_PIXEL = "Point at a pixel, or click one to keep it.";
 export const IMAGES = ["colours", "depths", "faces"];
@@ -18,15 +17,8 @@ export class Picture {
     this.onPoint = this.onGo = () => {};
     this.screen = new Screen(at("picture"), pixel => { this.onPoint(pixel); this.point(pixel); });
     this.ray = latest((x, y) => this.rayShown(x, y).catch(tell));
-    for (const image of IMAGES) {
-      const button = made("button", "", image);
-      button.dataset.image = image;
-      button.setAttribute("role", "radio");
-      button.addEventListener("click", () => this.choose(image));
-      at("image").append(button);
-    }
+    this.mark = choice(at("image"), "image", IMAGES, image => this.choose(image));
     this.choose("colours");
-    rove(at("image"), "button", true);
   }
 
   // Whether what is shown is of the text in the editor.
@@ -109,7 +101,7 @@ export class Picture {
 
   choose(image) {
     this.image = image;
-    for (const each of at("image").children) each.setAttribute("aria-checked", String(each.dataset.image === image));
+    this.mark(image);
     if (this.maps) this.paint();
   }
 
@@ -146,7 +138,7 @@ export class Picture {
     const [x, y] = pixel, place = y * this.head.width + x, number = this.maps.faces[place];
     const face = this.head.facesOf.find(each => each[0] === number);
     const said = (name, value, ...words) => made("span", "", "", made("span", "label", name), made("b", "", String(value)), ...words);
-    const words = face ? [chip(face[3]), `${face[1]}, ${face[2]}, line ${face[4]}`] : [", the background"];
+    const words = face ? [chip(css(face[3])), `${face[1]}, ${face[2]}, line ${face[4]}`] : [", the background"];
     at("readout").replaceChildren(
       said("pixel", `${x}, ${y}`), said("depth", this.maps.depths[place]), said("face", number, ...words));
     this.rayOf = `${x} ${y}`;
@@ -178,11 +170,5 @@ function barOf(run, far, colour) {
   own.style.left = 100 * run[0] / far + "%";
   own.style.width = `max(3px, ${100 * (run[1] - run[0]) / far}%)`;
   if (colour) own.style.background = css(colour);
-  return own;
-}
-
-function chip(rgb) {
-  const own = made("i", "chip");
-  own.style.background = css(rgb);
   return own;
 }

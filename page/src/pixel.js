@@ -3,14 +3,16 @@ import {made} from "./show.js";
 import {REGISTERS} from "../library/pxplanes.mjs";
 
 const BITS_IN_ROW = 24, KEYS = [["best", "key B"], ["candidate", "key T"]];
-const NAMED = /(?:enable-bit|fetch|store-tree|store-latch|store-const|toggle|carry-tree|carry-latch|add-tree) (\d+)/;
+
+// How many bits of the memory a text uses; all if they have no fields.
+export const usedBits = (state, fields) => fields.length ? fields[fields.length - 1].at + 1 : state.bits;
 
 // `before` is the state that was shown before, or null; `fields` says what the bits are for, and has none for a listing.
 export function pixelOf(state, before, fields, x, y) {
   const value = which => state.bit(which, x, y);
   const isAlike = before?.width === state.width && before.height === state.height && before.clock !== state.clock;
   const isChanged = which => isAlike && before.bit(which, x, y) !== value(which);
-  const used = fields.length ? fields[fields.length - 1].at + 1 : state.bits;
+  const used = usedBits(state, fields);
   const parts = [registersOf(state, fields, value, isChanged, x, y), memoryOf(state, fields, value, isChanged, used)];
   const others = `The bits ${used} to ${state.bits - 1} are not used by this scene.`;
   return used < state.bits ? [...parts, made("div", "quiet small", others)] : parts;
@@ -26,7 +28,7 @@ function registersOf(state, fields, value, isChanged, x, y) {
 }
 
 function memoryOf(state, fields, value, isChanged, used) {
-  const named = NAMED.exec(state.micro ?? ""), next = named ? Number(named[1]) : -1, table = made("table", "memory");
+  const next = state.next?.hasPlace ? state.next.place : -1, table = made("table", "memory");
   for (let first = 0; first < used; first += BITS_IN_ROW) {
     const row = made("tr", "", "", made("th", "", String(first)));
     for (let bit = first; bit < Math.min(state.bits, first + BITS_IN_ROW); bit++) {

@@ -1,6 +1,6 @@
 // Playing: the machine goes on by itself, by clocks, operations or passes, so many times a second, and shows each place that it comes by.
+import {at} from "./show.js";
 
-const at = id => document.getElementById(id);
 const CALM = 3, USUAL = "2";
 
 export const isStill = () => matchMedia("(prefers-reduced-motion: reduce)").matches;

@@ -1,8 +1,7 @@
 // A prediction that marks itself: which pixels will be enabled when the operation under way has ended. They are painted on the array, the machine goes
 // on, and what differs is said and marked.
-import {made} from "./show.js";
+import {at, made} from "./show.js";
 
-const at = id => document.getElementById(id);
 const MOST = 256;
 
 export class Predict {

@@ -1,8 +1,8 @@
 // What a refusal of the library says of a text: the words of its cause, the columns of what is wrong, and the change that mends the line if
 // exactly one known word is near and the library then accepts the line. `pxplanes explain` says more.
-import {wordsOf} from "./scene.js";
+import {KEYWORDS, wordsOf} from "./scene.js";
 
-const KEYWORDS = ["pxscene", "picture", "depth", "solid", "front", "back", "side", "show", "end"], NUMBER = /^-?[0-9]+$/, KEYS = 2;
+const NUMBER = /^-?[0-9]+$/, KEYS = 2;
 // A number that has more digits is found as one of 19.
 const DIGITS = 18;
 const FORMS = {picture: "picture WIDTH HEIGHT", depth: "depth W, or in pxscene 3 depth W F", solid: "solid NAME R G B",

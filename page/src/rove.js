@@ -1,4 +1,5 @@
 // One tab stop for many buttons: arrow keys go from one to the next, Home and End to the ends.
+import {made} from "./show.js";
 
 const isChosen = each => [each.getAttribute("aria-checked"), each.getAttribute("aria-selected")].includes("true");
 
@@ -20,6 +21,21 @@ export function rove(root, selector, isChoice = false) {
   });
   new MutationObserver(first).observe(root, {childList: true, subtree: true, attributeFilter: ["aria-checked", "aria-selected"]});
   first();
+}
+
+// Fills `root` with a button for each of some names, of which one is chosen; each has its name as its `data-` word, and `choose` is called with
+// it. Gives what marks the chosen one.
+export function choice(root, word, names, choose) {
+  const buttons = names.map(name => {
+    const button = made("button", "", name);
+    button.dataset[word] = name;
+    button.setAttribute("role", "radio");
+    button.addEventListener("click", () => choose(name));
+    return button;
+  });
+  root.append(...buttons);
+  rove(root, "button", true);
+  return name => buttons.forEach(each => each.setAttribute("aria-checked", String(each.dataset[word] === name)));
 }
 
 // Puts the focus on the button that Tab would reach.

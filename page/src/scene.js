@@ -1,5 +1,10 @@
 // What a scene says, line by line. The library has accepted the text before, so nothing is checked here.
 
+export const KEYWORDS = ["pxscene", "picture", "depth", "solid", "front", "back", "side", "show", "end"];
+
+// Whether a text is a listing, by its first word.
+export const isListing = text => /^[ \t\r]*pxlist(?![^ \t\r\n#])/.test(text.replace(/^([ \t\r]*(#[^\n]*)?\n)+/, ""));
+
 export const wordsOf = row => row.split("#")[0].split(/[ \t\r]+/).filter(Boolean);
 
 // Its sizes, its solids with their planes, its shown expression, and its faces in the order of their numbers.

@@ -40,15 +40,13 @@ export class Screen {
 
   // Draws an image of colours as `packed` gives them, row by row; `inner` is the size of the picture in it, where that is another one.
   draw(width, height, pixels, inner = null) {
-    if (this.canvas.width !== width || this.canvas.height !== height) {
-      this.canvas.width = width;
-      this.canvas.height = height;
-      this.zoom = null;
-    }
+    const isOther = this.canvas.width !== width || this.canvas.height !== height, isPlaced = !isOther && this.scale && String(inner) === String(this.inner);
+    if (isOther) Object.assign(this.canvas, {width, height});
+    if (isOther) this.zoom = null;
     this.inner = inner;
     put(this.canvas, pixels);
     if (this.kept && (this.kept[0] >= width || this.kept[1] >= height)) this.keep(null);
-    this.place();
+    if (!isPlaced) this.place();
   }
 
   place() {
@@ -138,8 +136,14 @@ export class Screen {
     if (this.kept) this.lay(this.mark, ...this.kept, 1, 1);
   }
 
+  // The pixel at a pointer, which may be outside of the image.
+  near(event) {
+    const {left, top} = this.inside();
+    return [event.clientX - left, event.clientY - top].map(each => Math.floor(each / this.scale));
+  }
+
   under(event) {
-    const {left, top} = this.inside(), [x, y] = [event.clientX - left, event.clientY - top].map(each => Math.floor(each / this.scale));
+    const [x, y] = this.near(event);
     return x >= 0 && y >= 0 && x < this.canvas.width && y < this.canvas.height ? [x, y] : null;
   }
 
@@ -178,6 +182,9 @@ export function put(canvas, pixels) {
   canvas.getContext("2d").putImageData(new ImageData(new Uint8ClampedArray(pixels.buffer, pixels.byteOffset, 4 * width * height), width, height), 0, 0);
 }
 
+// The element of the page that has an id.
+export const at = id => document.getElementById(id);
+
 // How large letters are compared with the usual size.
 export const unit = () => parseFloat(getComputedStyle(document.documentElement).fontSize) / 16;
 
@@ -189,6 +196,9 @@ export function made(name, kind = "", text = "", ...inside) {
   element.append(...inside);
   return element;
 }
+
+// A small square of a colour, as CSS writes it.
+export const chip = colour => Object.assign(made("i", "chip"), {style: `background: ${colour}`});
 
 const SVG = "http://www.w3.org/2000/svg";
 

@@ -43,7 +43,8 @@ function bitView(name, label, group, plane, field = "") {
 
 const [ONE, ZERO] = [ON, OFF].map(packed);
 
-function fillBits({words, width, height, perRow, perPlane}, plane, pixels) {
+// An image of a plane.
+export function fillBits({words, width, height, perRow, perPlane}, plane, pixels) {
   for (let y = 0, to = 0; y < height; y++) {
     for (let x = 0; x < width; x += 32) {
       let word = words[plane * perPlane + y * perRow + (x >> 5)];

@@ -1,7 +1,5 @@
 // The story that the page shows when it is opened for the first time: six steps, each a state of this page with one thing lit.
-import {made} from "./show.js";
-
-const at = id => document.getElementById(id);
+import {at, made} from "./show.js";
 
 // Of each step: a scene of the page or the number of an exercise whose text it shows, where that is opened, the part that is lit, and
 // the words. A word in braces is put in when the scene is known.

@@ -1,13 +1,12 @@
-// The time line: a small picture of key B for each pass, up to forty, the passes in their colours, and what lies under the pointer.
+// The time line: small pictures of key B at their own clocks, the passes in their colours, and what lies under the pointer.
 import {ask, latest} from "./ask.js";
 import {KINDS} from "./course.js";
 import {rove} from "./rove.js";
 import {css} from "./palette.js";
-import {made, put} from "./show.js";
+import {at, made, put} from "./show.js";
 
-const at = id => document.getElementById(id);
-const MOST = 40, SMALL = 64, LARGER = 160, GAP = 4, ROWS = 3, CLOSER = .8;
-// An operation is drawn if it has at least so many pixels.
+const MOST = 40, FEW = 10, WIDE = 30, PAUSE = 150, SMALL = 64, LARGER = 160, GAP = 4, ROWS = 5, CLOSER = .8;
+// An operation or a clock is drawn if it has at least so many pixels.
 const FEWEST = 3;
 
 export class Strip {
@@ -48,31 +47,44 @@ export class Strip {
   load(text, course, picture) {
     Object.assign(this, {text, course, picture});
     this.left();
-    const count = course.passes.length, many = picture ? Math.min(MOST, count) : 0;
-    this.thumbs = Array.from({length: many}, (_, place) => this.thumb(Math.ceil((place + 1) * count / many) - 1));
-    at("strip").replaceChildren(...this.thumbs.map(each => each.button));
-    at("strip").hidden = !many;
+    at("strip").hidden = !picture;
+    this.arranged = null;
     this.drawPasses();
-    this.fill(text).catch(this.tell);
   }
 
-  thumb(pass) {
-    const clock = this.course.startOfPass(pass + 1), canvas = made("canvas"), button = made("button", "thumb", "", canvas);
-    button.setAttribute("aria-label", `after pass ${pass + 1}, ${this.course.pass(pass).said.replaceAll("`", "")}: clock ${clock}`);
+  // Small pictures over the stretch that is shown, each of the last end of a pass in its part of the stretch, or of that part's end. They are hatched until they are
+  // made, the last one first, as it says most.
+  arrange() {
+    const {course, picture} = this, many = picture ? Math.max(FEW, Math.min(MOST, Math.floor(at("strip").clientWidth / WIDE))) : 0;
+    const [from, to] = course.view, key = `${from} ${to} ${many}`, wide = (to - from) / many;
+    if (key === this.arranged || !at("strip").clientWidth) return;
+    this.arranged = key;
+    this.thumbs = Array.from({length: many}, (_, place) => this.thumb(from + place * wide, from + (place + 1) * wide));
+    at("strip").replaceChildren(...this.thumbs.map(each => each.button));
+    clearTimeout(this.soon);
+    this.soon = setTimeout(() => this.fill(this.text, this.thumbs).catch(this.tell), PAUSE);
+  }
+
+  thumb(from, to) {
+    const {course} = this, end = course.passStarts.findLast(start => start <= to), clock = to >= course.clocks ? course.clocks : end > from ? end : Math.round(to);
+    // (an image, as a browser takes long to lay many canvases over each other)
+    const image = Object.assign(made("img"), {alt: ""}), button = made("button", "thumb", "", image);
+    button.setAttribute("aria-label", `clock ${clock}: ${course.pass(course.passAt(Math.max(0, clock - 1))).said.replaceAll("`", "")}`);
     button.addEventListener("click", () => this.go(clock));
     button.addEventListener("pointerenter", event => this.over(clock, event.clientX));
-    Object.assign(canvas, {width: this.picture.width, height: this.picture.height});
-    return {pass, clock, canvas, button};
+    image.style.aspectRatio = `${this.picture.width} / ${this.picture.height}`;
+    return {clock, image, button};
   }
 
-  // The small pictures, one after the other; the last one first, as it says most.
-  async fill(text) {
-    const order = [...this.thumbs.slice(-1), ...this.thumbs.slice(0, -1)];
-    for (const each of order) {
+  async fill(text, thumbs) {
+    const order = [...thumbs.slice(-1), ...thumbs.slice(0, -1)], canvas = made("canvas");
+    for (const [place, each] of order.entries()) {
       const head = await this.asked(each.clock, SMALL, text);
-      if (!head) return;
-      shown(each.canvas, head);
-      document.body.dataset.thumbs = `${order.indexOf(each) + 1} of ${order.length}`;
+      if (!head || thumbs !== this.thumbs) return;
+      shown(canvas, head);
+      each.image.src = canvas.toDataURL();
+      each.button.classList.add("made");
+      document.body.dataset.thumbs = `${place + 1} of ${order.length}`;
     }
   }
 
@@ -126,8 +138,11 @@ export class Strip {
     this.clock = clock;
     const [from] = this.course.view;
     this.course.reveal(clock);
-    this.drawPasses();
-    if (this.course.view[0] !== from) this.onView();
+    if (this.course.view[0] !== from) {
+      this.drawPasses();
+      this.onView();
+    }
+    this.mark();
     const now = this.thumbs.findLastIndex(each => each.clock <= clock);
     this.thumbs.forEach(({button}, place) => button.classList.toggle("now", place === now));
   }
@@ -138,30 +153,42 @@ export class Strip {
     this.drawPasses();
   }
 
-  // The time line above the slider: in rows the solids whose faces are made, the passes with a colour for what each is for, and the
-  // operations if there is room for them.
+  // The time line above the slider: in rows the solids whose faces are made, the literals, the passes with a colour for what each is for, and
+  // the operations and clocks if there is room for them.
   drawPasses() {
     const canvas = at("line-of-passes"), {course} = this;
     if (!course || !canvas.clientWidth) return;
+    this.arrange();
     canvas.width = canvas.clientWidth * devicePixelRatio;
     canvas.height = canvas.clientHeight * devicePixelRatio;
     const rows = new Rows(canvas, course.view), {passStarts, operations} = course;
     const ink = rows.named("--ink"), colours = Object.fromEntries(Object.keys(KINDS).map(kind => [kind, rows.named("--pass-" + kind)]));
-    let first = 0;
+    const shades = ["--shade", "--line"].map(name => rows.named(name)), begun = [0, 0];
     passStarts.forEach((start, number) => {
-      const {said, kind, face, literal, solid} = course.pass(number), end = course.startOfPass(number + 1);
-      rows.bar(1, start, end, colours[kind], said.replaceAll("`", ""));
-      if (this.lit && face === this.lit) rows.bar(1, start, end, ink, "", .5);
-      if (literal !== course.pass(number + 1).literal || number === passStarts.length - 1) {
-        if (solid) rows.bar(0, passStarts[first], end, css(solid.colour), solid.name);
-        first = number + 1;
-      }
+      const {said, kind, face, literal, solid} = course.pass(number), end = course.startOfPass(number + 1), next = course.pass(number + 1);
+      rows.bar(2, start, end, colours[kind], said.replaceAll("`", ""));
+      if (this.lit && face === this.lit) rows.bar(2, start, end, ink, "", .5);
+      // (of passes that follow each other with the same solid, or the same literal, one bar is made)
+      [next.solid?.name !== solid?.name, next.literal !== literal].forEach((isOther, row) => {
+        if (!isOther && number < passStarts.length - 1) return;
+        if (solid) rows.bar(row, passStarts[begun[row]], end, row ? shades[literal % 2] : css(solid.colour), row ? solid.literal : solid.name);
+        begun[row] = number + 1;
+      });
     });
-    const [from, to] = course.view.map(clock => course.operationAt(clock)), shades = ["--shade", "--line"].map(name => rows.named(name));
-    if (to - from > canvas.width / FEWEST) rows.bar(2, 0, course.clocks, shades[0], "the wheel, or c, shows the operations");
-    else for (let operation = from; operation <= to; operation++)
-      rows.bar(2, course.startOf(operation), course.startOf(operation + 1), shades[operation % 2], operations[operation]?.[1] ?? "");
-    rows.mark(this.clock);
+    const [from, to] = course.view.map(clock => course.operationAt(clock));
+    const each = (row, first, last, startOf, wordsOf, name) => {
+      if (last - first > canvas.width / FEWEST) return rows.bar(row, 0, course.clocks, shades[0], `the wheel, or c, shows the ${name}`);
+      for (let at = first; at <= last; at++) rows.bar(row, startOf(at), startOf(at + 1), shades[at % 2], wordsOf(at));
+    };
+    each(3, from, to, operation => course.startOf(operation), operation => operations[operation]?.[1] ?? "", "operations");
+    each(4, Math.floor(course.view[0]), Math.min(course.clocks - 1, Math.ceil(course.view[1])), clock => clock, String, "clocks");
+    this.mark();
+  }
+
+  // Marks the clock that is shown.
+  mark() {
+    const [from, to] = this.course.view;
+    at("now").style.left = 100 * (this.clock - from) / Math.max(1, to - from) + "%";
   }
 }
 
@@ -188,12 +215,6 @@ class Rows {
     const parts = pen.fillStyle.match(/\w\w/g).map(part => parseInt(part, 16));
     pen.fillStyle = .3 * parts[0] + .59 * parts[1] + .11 * parts[2] > 120 ? "#000" : "#fff";
     pen.fillText(words, left + GAP, (row + .5) * high);
-  }
-
-  // The clock that is shown.
-  mark(clock) {
-    this.pen.fillStyle = this.named("--ink");
-    this.pen.fillRect((clock - this.from) * this.scale - 1, 0, 2, this.canvas.height);
   }
 }
 

@@ -1,8 +1,7 @@
 // The texts that are open, each in a tab of the editor with its own undo history. What is written is kept as a draft until it is saved.
 import * as drafts from "./drafts.js";
-import {made} from "./show.js";
+import {at, made} from "./show.js";
 
-const at = id => document.getElementById(id);
 // At most so many tabs are in sight; the texts that were shown longest ago are in a list beside them.
 const KEPT_AFTER = 400, IN_SIGHT = 8;
 

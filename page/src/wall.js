@@ -1,5 +1,5 @@
 // The wall: every plane of the array at once, each as a small image, and both keys as colours, depths and faces. What the last move
-// changed is framed, and only that is drawn again.
+// changed is framed, and only that is drawn again. All images are parts of one canvas, as a browser takes long to lay many over each other.
 import {rove} from "./rove.js";
 import {made, put} from "./show.js";
 
@@ -10,7 +10,9 @@ const GROUPS = ["", "key B", "key T", "rest"];
 export class Wall {
   // `onChoose` is called with the name of a view, and whether it is shown beside the large one.
   constructor(root, onChoose) {
-    Object.assign(this, {root, onChoose, tiles: [], of: null, shown: null});
+    // (each image is drawn on `page` at the array's size, and from there on the wall's sheet)
+    Object.assign(this, {root, onChoose, tiles: [], of: null, shown: null, page: made("canvas"), sheet: made("canvas", "sheet")});
+    this.sheet.setAttribute("aria-hidden", "true");
     root.addEventListener("keydown", event => this.key(event));
     rove(root, ".tile");
     new ResizeObserver(() => this.fit()).observe(root);
@@ -20,8 +22,8 @@ export class Wall {
   load(views, used) {
     this.tiles = views.filter(view => view.group !== "memory" || used.has(view.plane)).map(view => this.tile(view));
     this.order();
-    this.of = this.shown = null;
-    this.root.replaceChildren(...GROUPS.flatMap((heading, group) => {
+    this.of = this.shown = this.laid = null;
+    this.root.replaceChildren(this.sheet, ...GROUPS.flatMap((heading, group) => {
       const own = this.tiles.filter(tile => groupOf(tile.view) === group).map(tile => tile.button);
       return heading && own.length ? [made("b", "heading", heading), ...own] : own;
     }));
@@ -34,12 +36,11 @@ export class Wall {
   }
 
   tile(view) {
-    const canvas = made("canvas"), caption = made("span", "", view.name.split(" ").pop());
-    const button = made("button", "tile " + (view.field ?? "").split(" ")[0], "", canvas, caption);
+    const place = made("i"), button = made("button", "tile " + (view.field ?? "").split(" ")[0], "", place, made("span", "", view.name.split(" ").pop()));
     button.title = view.label;
     button.setAttribute("aria-label", view.label);
     button.addEventListener("click", event => this.onChoose(view.name, event.shiftKey));
-    return {view, canvas, caption, button, isDrawn: false};
+    return {view, place, button};
   }
 
   // Shows a state. `before` is the one that was shown before it, of the same text, or null. Gives how many words were read.
@@ -50,7 +51,7 @@ export class Wall {
     for (const tile of this.tiles) {
       const {view: {planes: [first, end]}} = tile, isChanged = Boolean(changed) && changed.slice(first, end).includes(1);
       tile.button.classList.toggle("changed", isChanged);
-      if (isChanged || !before || this.shown !== before || !tile.isDrawn) {
+      if (isChanged || !before || this.shown !== before) {
         this.draw(tile, state);
         read += (end - first) * state.perPlane;
       }
@@ -62,15 +63,30 @@ export class Wall {
   size({width, height}) {
     this.of = `${width} ${height}`;
     this.pixels = new Uint32Array(width * height);
-    this.root.classList.toggle("coarse", width <= COARSE);
-    for (const tile of this.tiles) Object.assign(tile.canvas, {width, height});
+    Object.assign(this.page, {width, height});
+    this.root.style.setProperty("--shape", `${width} / ${height}`);
     this.fit();
   }
 
-  draw(tile, state) {
-    tile.view.fill(state, this.pixels);
-    put(tile.canvas, this.pixels);
-    tile.isDrawn = true;
+  draw({view, box}, state) {
+    if (!box) return;
+    view.fill(state, this.pixels);
+    put(this.page, this.pixels);
+    this.pen.drawImage(this.page, ...box);
+  }
+
+  // Gives the sheet the size of the wall, and draws all of it.
+  lay() {
+    const {root, sheet, tiles, shown} = this, times = devicePixelRatio;
+    sheet.width = sheet.height = 0;
+    Object.assign(sheet, {width: root.scrollWidth * times, height: root.scrollHeight * times});
+    Object.assign(sheet.style, {width: root.scrollWidth + "px", height: root.scrollHeight + "px"});
+    this.pen = Object.assign(sheet.getContext("2d"), {imageSmoothingEnabled: this.page.width > COARSE, imageSmoothingQuality: "medium"});
+    for (const tile of tiles) {
+      const {offsetLeft, offsetTop, offsetWidth, offsetHeight} = tile.place;
+      tile.box = [offsetLeft, offsetTop, offsetWidth, offsetHeight].map(each => each * times);
+      if (shown) this.draw(tile, shown);
+    }
   }
 
   // Marks the tiles that are shown large.
@@ -80,14 +96,17 @@ export class Wall {
 
   // As large as all of them have room at once.
   fit() {
-    const {clientWidth: wide, clientHeight: high} = this.root, count = this.root.children.length;
-    if (!wide || !high || !count || !this.of) return;
+    const {clientWidth: wide, clientHeight: high} = this.root, count = this.root.children.length - 1;
+    if (!wide || !high || count < 1 || !this.of) return;
     const [width, height] = this.of.split(" ").map(Number), letters = parseFloat(getComputedStyle(this.root).fontSize) / 16;
     let columns = 1;
     const tall = many => Math.ceil(count / many) * ((wide / many - GAP) * height / width + CAPTION * letters + GAP);
     while (tall(columns) > high && wide / (columns + 1) >= LEAST * letters + GAP) columns += 1;
-    this.columns = columns;
+    const laid = `${wide} ${columns} ${letters} ${this.of} ${count} ${devicePixelRatio}`;
+    if (this.laid === laid) return;
+    this.laid = laid;
     this.root.style.setProperty("--columns", columns);
+    this.lay();
   }
 
   // To the tile above or below the one that has the focus.

@@ -1,5 +1,5 @@
-// A waveform: what a pixel held after each of some clocks, with what was broadcast between them.
-import {drawn, made, unit} from "./show.js";
+// A waveform: what a pixel holds before each clock of an operation, with what that clock broadcasts, and a cursor at the clock that is shown.
+import {drawn, unit} from "./show.js";
 
 // What a clock broadcasts, as short as may be.
 function said({tree, act}) {
@@ -15,10 +15,12 @@ class Sizes {
     this.high = 19 * this.letters;
     this.tall = 12 * this.letters;
     this.top = 22 * this.letters;
-    this.wide = Math.max(14, Math.min(44 * this.letters, Math.floor((width - this.label - 4) / count)));
+    this.wide = Math.min(44 * this.letters, (width - this.label - 4) / count);
     this.foot = this.top + rows * this.high;
     this.width = this.label + count * this.wide + 4;
-    this.height = this.foot + 112 * this.letters;
+    // (acts are written below all clocks, or below the cursor alone)
+    this.isRoomy = this.wide >= 12 * this.letters;
+    this.height = this.foot + (this.isRoomy ? 112 : 24) * this.letters;
   }
 
   // The level of a line as a path; `levels` has a bit for each clock, null where the line brings none.
@@ -43,25 +45,24 @@ function linesOf({micros, pixels}, bits) {
     ...bits.map(([name, at]) => [name, before.map(pixel => Number(pixel.memory[at])), "memory"])];
 }
 
-// What is shown at a clock: a stripe, its number where there is room, and what it broadcasts.
-function clockOf(sizes, clock, x, micro) {
-  const {letters, wide, top, foot} = sizes, middle = x + wide / 2, parts = [];
-  if (clock % 2 === 0) parts.push(drawn("rect", {x, y: top - 5, width: wide, height: foot - top + 5, class: "stripe"}));
-  if (wide >= 30 * letters || clock % 4 === 0)
-    parts.push(drawn("text", {x: middle, y: 12 * letters, class: "clock"}, String(clock)));
-  const turned = `translate(${middle - 4 * letters} ${foot + 5}) rotate(90)`;
-  return [...parts, drawn("text", {transform: turned, class: "act"}, said(micro))];
+// What is shown at a clock: a stripe, its number where there is room, and what it broadcasts; a click goes there.
+function clockOf(sizes, clock, x, micro, isNow, go) {
+  const {letters, wide, top, foot} = sizes, middle = x + wide / 2, every = Math.ceil((7 * String(clock).length + 6) * letters / wide);
+  const own = drawn("g", {class: "clocks"}, drawn("rect", {x, y: top - 5, width: wide, height: foot - top + 5, class: isNow ? "cursor" : clock % 2 ? "gap" : "stripe"}));
+  own.addEventListener("click", () => go(clock));
+  if (clock % every === 0) own.append(drawn("text", {x: middle, y: 12 * letters, class: "clock"}, String(clock)));
+  if (sizes.isRoomy) own.append(drawn("text", {transform: `translate(${middle - 4 * letters} ${foot + 5}) rotate(90)`, class: "act"}, said(micro)));
+  else if (isNow) own.append(drawn("text", {x: sizes.label, y: foot + 16 * letters, class: "act"}, `next: ${said(micro)}`));
+  return own;
 }
 
-// `head` is the answer to `wave`; `bits` are memory bits to show beside the registers, with their names.
-export function waveform(head, width, bits) {
-  const {micros, first, last} = head, lines = linesOf(head, bits);
-  if (!micros.length) return made("p", "quiet", "No clock was made yet.");
-  const sizes = new Sizes(width, micros.length, lines.length), {label, high, tall, top, wide} = sizes;
+// `head` is the answer to `wave`; `bits` are memory bits to show next to the registers, with their names; `now` is the clock that is shown.
+export function waveform(head, width, bits, now, go) {
+  const {micros, first, last} = head, lines = linesOf(head, bits), sizes = new Sizes(width, micros.length, lines.length), {label, high, tall, top, wide} = sizes;
   const picture = drawn("svg", {viewBox: `0 0 ${sizes.width} ${sizes.height}`, width: sizes.width, height: sizes.height, class: "wave",
-    role: "img", "aria-label": `the clocks ${first} to ${last - 1}; ${lines.map(([name, levels]) =>
+    role: "img", "aria-label": `the clocks ${first} to ${last - 1}, at ${now}; ${lines.map(([name, levels]) =>
       `${name} ${levels.map(level => level ?? "-").join("")}`).join(", ")}`});
-  micros.forEach((micro, at) => picture.append(...clockOf(sizes, first + at, label + at * wide, micro)));
+  picture.append(...micros.map((micro, at) => clockOf(sizes, first + at, label + at * wide, micro, first + at === now, go)));
   lines.forEach(([name, levels, kind], at) => {
     const y = top + at * high;
     picture.append(drawn("text", {x: label - 8, y: y + tall - 1, class: "name"}, name),

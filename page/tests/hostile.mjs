@@ -43,7 +43,7 @@ const WRONG = [
 
 const state = px.state(text, 3000), machine = px.machine(text), packed = px.packed(text, 3000, 5);
 const CALLS = {
-  check: [text], render: [text], colour: [text], products: [text], counts: [text], state: [text, 9], micros: [text, 4, 3], packed: [text, 4, 3], course: [text, 2, 3],
+  check: [text], render: [text, {isFloat: true}], window: [text, 1, 2, 3, 4, {isFromBottom: true}], colour: [text], imageData: [text], products: [text], counts: [text], state: [text, 9], micros: [text, 4, 3], packed: [text, 4, 3], course: [text, 2, 3],
   run: [text, "cost"], clocks: [state, packed], machine: [text, null]};
 const OTHERS = [[state, "bit", ["enable", 3, 4]], [state, "pixel", [3, 4]], [state, "number", [3, 9, 3, 4]], [state, "numbers", [3, 9]], [state, "node", [2, 1]],
   [state, "planeOf", [7]], [machine, "state", [9]], [machine, "micros", [4, 3]], [machine, "prepare", [900]]];
@@ -52,7 +52,7 @@ const FIELDS = ["words", "width", "height"];
 
 // The bytes of an answer, as a text to compare.
 const told = value => JSON.stringify(value, (_, own) => typeof own === "bigint" ? String(own) : ArrayBuffer.isView(own) ? Array.from(own, String).join() : own);
-const RIGHT = [() => px.render(text), () => px.colour(text), () => px.state(text, 3000).words, () => px.clocks(state, packed), () => px.products(text), () => px.run(text, "cost"),
+const RIGHT = [() => px.render(text), () => px.window(text, 20, 9, 8, 8), () => px.colour(text), () => px.state(text, 3000).words, () => px.clocks(state, packed), () => px.products(text), () => px.run(text, "cost"),
   () => machine.state(2999).words, () => px.counts(text)];
 const right = RIGHT.map(call => told(call())), outcomes = {}, failures = [];
 

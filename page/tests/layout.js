@@ -1,7 +1,7 @@
 // The findings of a page, in words: texts, fields and images that overlap, words that are cut, and parts that scroll
 // sideways.
 () => {
-  const INSIDE = ".CodeMirror *, svg *, .mark, .frame, .lit, .lines, .edge, .handles, .grip, .predicted *, #under *, "
+  const INSIDE = ".CodeMirror *, svg *, .mark, .frame, .lit, .lines, .edge, .handles, .grip, .sheet, .corner, .predicted *, #under *, "
     + "dialog:not([open]) *, option, optgroup, [aria-hidden=true] *";
   const HELD = ".CodeMirror, .stage.zoomed", FIELDS = "button, input, select, canvas, summary, svg";
   const hasWords = each => [...each.childNodes].some(node => node.nodeType === 3 && node.textContent.trim());

@@ -119,6 +119,17 @@ def written(page: Browser, text: str) -> str:
     return str(page.until(DRAWN))
 
 
+# Of each small picture of the time line its clock, its width, its height, and the colours of some places.
+THUMBS = """async places => Promise.all([...document.querySelectorAll(".thumb")].map(async thumb => {
+  const image = thumb.querySelector("img"), canvas = document.createElement("canvas"), pen = canvas.getContext("2d");
+  await image.decode();
+  Object.assign(canvas, {width: image.naturalWidth, height: image.naturalHeight});
+  pen.drawImage(image, 0, 0);
+  return [parseInt(thumb.getAttribute("aria-label").slice(6)), canvas.width, canvas.height,
+    places.map(([x, y]) => [...pen.getImageData(x, y, 1, 1).data.slice(0, 3)])];
+}))"""
+
+
 def give(page: Browser, selector: str, path: str) -> None:
     """Gives a file to an input of the page."""
     root = page.call("DOM.getDocument")["root"]["nodeId"]

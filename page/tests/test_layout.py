@@ -1,5 +1,5 @@
 """Whether nothing on the page overlaps, is cut or scrolls sideways: each tab, at each size, light and dark, with larger
-letters too.
+letters too; of the machine each part of a pixel, and the triangle.
 
 With PXPLANES_SHOTS=FOLDER a picture of each is written there, to be looked at."""
 import os
@@ -12,7 +12,8 @@ from browser import Browser
 from pages import called, link, point
 
 SIZES = ((1280, 720), (1366, 768), (1920, 1080), (1024, 768), (768, 1024), (640, 360), (390, 844))
-TABS = ("write", "machine", "compare", "lesson", "exercise", "story")
+PARTS = ("circuit", "way", "waveform", "life", "triangle")
+TABS = ("write", "machine", *PARTS, "compare", "lesson", "exercise", "story")
 HOUSE = os.path.join(os.path.dirname(pages.FIRST), "..", "..", "gallery", "house.scene")
 with open(os.path.join(os.path.dirname(__file__), "layout.js"), encoding="utf-8") as file:
     FOUND = file.read()
@@ -23,17 +24,22 @@ def shown(page: Browser, tab: str) -> None:
     if tab == "exercise":
         page.press("4")
         page.run("document.querySelectorAll('.exercise')[5].click()")
-        page.until("document.querySelector('main').dataset.tab === 'machine' && document.body.dataset.wave")
+        page.until("document.querySelector('main').dataset.tab === 'machine' && document.body.dataset.inside")
         page.run("document.getElementById('exercise-answer').open = true")
         return
     if tab == "story":
         page.run("document.getElementById('exercise-close').click()")
         page.run("location.hash = '#story-5'")
-        page.until("document.body.dataset.story === '5' && document.body.dataset.wave === '24 16 2283'")
+        page.until("document.body.dataset.story === '5' && document.body.dataset.inside === '24 16 2283'")
         return
-    page.press(str(1 + TABS.index(tab)))
+    if tab in PARTS:
+        page.run("document.querySelector('[data-inside=%s], #%s').click()" % (tab, tab))
+        page.run("document.querySelector('%s').scrollIntoView({block: 'nearest'})" % ("#array" if tab == "triangle" else ".inside"))
+        page.until("document.body.dataset.triangle" if tab == "triangle" else "document.querySelector('.inside').checkVisibility()")
+        return
+    page.press(str(1 + [each for each in TABS if each not in PARTS].index(tab)))
     if tab == "machine":
-        page.until("document.body.dataset.shown === '40000' && document.body.dataset.thumbs?.startsWith('40 of')")
+        page.until("document.body.dataset.shown === '40000' && document.querySelector('.thumb') && !document.querySelector('.thumb:not(.made)')")
     if tab == "write":
         page.run("document.getElementById('picture').scrollIntoView({block: 'nearest'})")
         point(page, "picture", 60, 60)

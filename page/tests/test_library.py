@@ -62,12 +62,7 @@ def bundled(place: Path, leaf: str, *words: str) -> str:
     return (place / "host" / leaf).read_text(encoding="utf-8", errors="replace")
 
 
-@pytest.mark.parametrize("npm", ["npm", "none"])
-def test_the_tarball_has_what_its_description_names(tmp_path: Path, wasm: bytes, monkeypatch: pytest.MonkeyPatch, npm: str) -> None:
-    if npm == "none":
-        monkeypatch.setattr(web.shutil, "which", lambda name: None)
-    elif shutil.which("npm") is None:
-        pytest.skip("there is no npm")
+def test_the_tarball_has_what_its_description_names(tmp_path: Path, wasm: bytes) -> None:
     with tarfile.open(web.npm(wasm, "1.2.3", str(tmp_path))) as tar:
         names = {entry.name for entry in tar.getmembers()}
         held = tar.extractfile("package/package.json")
@@ -129,6 +124,22 @@ def test_a_bundle_in_a_page_and_in_a_worker(chromium: Browser, place: Path, host
     assert chromium.run(worker) == EXPECTED
 
 
+THREE = Path("/usr/share/javascript/three/build/three.module.js")
+
+
+@pytest.mark.skipif(not THREE.exists(), reason="there is no three.js; Debian's libjs-three has it")
+def test_a_scene_in_three(chromium: Browser, place: Path, host: str) -> None:
+    for path in (Path(TOP, "examples", "three", "index.html"), THREE, *(place / "node_modules" / "pxplanes").glob("pxplanes.*")):
+        shutil.copy(path, place / "host")
+    chromium.open(host + "index.html")
+    pixel = """(() => {
+      const gl = document.querySelector("canvas").getContext("webgl2"), bytes = new Uint8Array(4);
+      return [[24, 16], [11, 2], [11, 29]].map(([x, y]) => (gl.readPixels(x, 31 - y, 1, 1, gl.RGBA, gl.UNSIGNED_BYTE, bytes), bytes.join()));
+    })()"""
+    chromium.until("document.querySelector('canvas')?.width === 48 && %s[0] !== '0,0,0,0'" % pixel)
+    assert chromium.run(pixel) == ["200,60,40,255", "0,0,51,255", "120,105,90,255"] and chromium.faults() == []
+
+
 @pytest.mark.parametrize("seed", [1, 2, 3])
 def test_wrong_arguments_are_named_and_change_nothing(tmp_path: Path, wasm: bytes, seed: int) -> None:
     """4,000 calls, each with one wrong argument: an error with a name, the right answers as before; and again, with no more memory."""
@@ -138,14 +149,42 @@ def test_wrong_arguments_are_named_and_change_nothing(tmp_path: Path, wasm: byte
     assert all(found["outcomes"].get(kind, 0) > 100 for kind in ("TypeError", "RangeError", "Refused"))
 
 
-def test_ten_thousand_renders_take_no_more_memory(tmp_path: Path, wasm: bytes) -> None:
-    (tmp_path / "pxplanes.wasm").write_bytes(wasm)
-    script = """import {readFileSync} from "node:fs";
-const {load} = await import(%r), px = await load(readFileSync("pxplanes.wasm")), text = readFileSync(%r);
+def called(place: Path, wasm: bytes, lines: str) -> str:
+    """What lines in Node print, where `px` is the library and `text` the first scene."""
+    (place / "pxplanes.wasm").write_bytes(wasm)
+    head = """import {readFileSync} from "node:fs";
+const {load} = await import(%r), px = await load(readFileSync("pxplanes.wasm")), text = readFileSync(%r, "utf8");
+"""
+    return node("--input-type=module", "-e", head % ("file://" + web_page.GLUE, FIRST) + lines, cwd=place)
+
+
+def test_windows_and_forms(tmp_path: Path, wasm: bytes) -> None:
+    lines = """
+const whole = px.render(text), part = px.window(text, 10, 5, 8, 5), texture = px.window(text, 10, 5, 8, 5, {isFloat: true, isFromBottom: true});
+let differ = 0;
+for (let y = 0; y < 5; y++) for (let x = 0; x < 8; x++) for (const map of ["depths", "faces"]) {
+  differ += part[map][8 * y + x] !== whole[map][48 * (5 + y) + 10 + x];
+  differ += texture[map][8 * (4 - y) + x] !== part[map][8 * y + x];
+}
+const {data, width} = px.imageData(text), pixel = (x, y) => data.subarray(4 * (y * width + x), 4 * (y * width + x) + 4);
+console.log(differ, new Set(part.depths).size > 7, texture.depths.constructor.name, pixel(24, 16).join(), pixel(0, 0).join());
+console.log(JSON.stringify(px.face(text, 3)));
+for (const call of [() => px.face(text, 11), () => px.window(text, 0, 0, 513, 1), () => px.window(text, 4095, 0, 2, 1), () => px.render(text, 5)])
+  try { call(); } catch (error) { console.log(error.name, error.message); }"""
+    assert called(tmp_path, wasm, lines).splitlines() == [
+        "0 true Float32Array 200,60,40,255 0,0,0,255",
+        '{"solid":1,"name":"pyramid","kind":"front","plane":2,"line":6,"colour":[120,105,90]}', "Refused faces are numbered from 1 to 10",
+        "RangeError width is 513; a whole number from 0 to 512 is expected",
+        "Refused a window has not so many columns or rows", "TypeError form is 5; an object is expected"]
+
+
+def test_a_hundred_thousand_renders_take_no_more_memory(tmp_path: Path, wasm: bytes) -> None:
+    lines = """
+const small = "pxscene 1\\npicture 4 2\\ndepth 4\\nsolid a 1 2 3\\nfront 1 0 0\\nback 0 0 9\\nshow a\\nend\\n";
 let before = 0;
-for (let at = 0; at < 10000; at++) {
-  px.render(text);
+for (let at = 0; at < 100000; at++) {
+  px.render(at % 100 ? small : text);
   if (at === 100) before = px.bytes;
 }
-console.log(before > 0 && px.bytes === before);""" % ("file://" + web_page.GLUE, FIRST)
-    assert node("--input-type=module", "-e", script, cwd=tmp_path) == "true"
+console.log(before > 0 && px.bytes === before);"""
+    assert called(tmp_path, wasm, lines) == "true"

@@ -94,12 +94,30 @@ def test_radio_groups_and_lists_are_one_tab_stop_with_arrows(page: Browser) -> N
     assert page.run("[...document.querySelectorAll('#lives button')].filter(each => each.tabIndex === 0).length") == 1
 
 
-@pytest.mark.parametrize("tab", ["1", "2", "3", "4"])
-def test_everything_that_takes_the_focus_has_a_name(page: Browser, tab: str) -> None:
+INSIDE = ("circuit", "way", "waveform", "life", "bits")
+
+
+def shown(page: Browser, tab: str) -> None:
+    """Shows a tab; of the machine a part of a pixel, with the triangle, if that is named; and an exercise with its answer."""
     page.run("document.activeElement.blur()")
-    page.press(tab)
-    if tab == "2":
-        page.until("document.body.dataset.shown")
+    if tab == "exercise":
+        return exercise(page, 8)
+    page.press("2" if tab in INSIDE else tab)
+    if tab not in (*INSIDE, "2"):
+        return
+    page.until("document.body.dataset.shown")
+    pages.go(page, 3000)
+    pages.point(page, "array", 24, 16)
+    if tab in INSIDE:
+        click(page, "[data-inside=%s]" % tab)
+        page.until("document.body.dataset.inside === '24 16 3000' && document.body.dataset.life")
+        click(page, "#triangle")
+        page.until("document.body.dataset.triangle")
+
+
+@pytest.mark.parametrize("tab", ["1", "2", "3", "4", *INSIDE, "exercise"])
+def test_everything_that_takes_the_focus_has_a_name(page: Browser, tab: str) -> None:
+    shown(page, tab)
     page.call("Accessibility.enable")
     nodes = page.call("Accessibility.getFullAXTree")["nodes"]
     seen = [node for node in nodes if not node.get("ignored")]
@@ -165,20 +183,107 @@ def test_a_prediction_marks_itself(page: Browser) -> None:
     assert page.run("document.querySelectorAll('.wrong-pixel').length") == 2
 
 
+def exercise(page: Browser, number: int) -> None:
+    page.open("about:blank")
+    page.open("file://" + pages.PAGE + "#e=%d" % number)
+    page.until("document.body.dataset.drawn === 'yes' && document.body.dataset.shown")
+
+
+def test_a_number_that_is_typed_is_marked(page: Browser) -> None:
+    """Exercise 8: 24 operations, and 317 + 86 = 403 clocks (docs/LESSON_ANSWERS.md); the library counts them too."""
+    exercise(page, 8)
+    said = []
+    for word in ("400", "403", ""):
+        page.run("(() => { const field = document.querySelectorAll('#exercise-asks input')[1]; field.value = '%s'; "
+                 "field.dispatchEvent(new Event('change')); })()" % word)
+        said.append(page.run("document.querySelectorAll('#exercise-asks .marked')[1].textContent"))
+    assert said == ["not so", "right", ""]
+    text = pages.source(page).replace("front", "side 1 0 0\nfront")
+    found = page.run("studio.library().then(px => px.check(%r))" % text)
+    assert (found["operations"], found["clocks"]) == (24, 403)
+
+
+def test_an_answer_goes_to_its_clocks(page: Browser) -> None:
+    """Exercise 4 counts its clocks from 393 on, where the comparison begins; after clock 3 the carry of (0, 0) is 0."""
+    exercise(page, 4)
+    click(page, "#exercise-answer summary")
+    assert page.run("document.querySelector('.to-clock').textContent") == "clock 3"
+    click(page, ".to-clock")
+    page.until("document.body.dataset.shown === '396'")
+    assert "next its clock 3 " in pages.text_of(page, "#line")
+    page.run("document.activeElement.blur()")
+    page.press("s")
+    page.until("document.body.dataset.shown === '397'")
+    assert page.run("studio.library().then(px => px.state(studio.editor.text, 397).bit('carry', 0, 0))") == 0
+    page.press("1")
+    exercise(page, 10)
+    click(page, "#exercise-answer summary")
+    page.press("1")
+    page.run("[...document.querySelectorAll('.to-clock')].pop().click()")
+    page.until("document.querySelector('main').dataset.tab === 'machine' && document.body.dataset.shown === '7'")
+
+
+WALKED = """() => {
+  const seen = document.activeElement, {left, top, width, height} = seen.getBoundingClientRect();
+  return [seen.id || seen.dataset.inside || seen.className || seen.tagName, width > 0 && height > 0, Math.round(left), Math.round(top),
+    seen.matches(":focus-visible") && getComputedStyle(seen).outlineStyle !== "none"];
+}"""
+
+
+def test_the_tab_key_goes_through_the_machine_in_order_and_is_seen(page: Browser) -> None:
+    """From the choice of a view over the triangle and its corners to the parts of a pixel and the transport; what has the focus is in
+    the page, and has an outline. A group of radio buttons is one stop."""
+    page.call("Emulation.setFocusEmulationEnabled", enabled=True)
+    shown(page, "circuit")
+    page.run("document.getElementById('view').focus()")
+    walked = []
+    for _ in range(40):
+        page.press("Tab", 9)
+        walked.append(pages.called(page, WALKED))
+    names = [each[0] for each in walked]
+    for one, other in (("beside", "edges"), ("edges", "triangle"), ("triangle", "triangle-scene"), ("triangle-scene", "array"), ("array", "corner"),
+                       ("corner", "circuit"), ("circuit", "clock"), ("clock", "stop"), ("stop", "play")):
+        assert names.index(one) < names.index(other), names
+    assert names.count("corner") == 3
+    assert not {"bits", "way", "waveform", "life"} & set(names)
+    assert [each for each in walked[:names.index("play")] if not (each[1] and each[4])] == []
+
+
 @pytest.mark.parametrize("dark", [False, True], ids=["light", "dark"])
 def test_words_stand_out_from_their_ground(page: Browser, dark: bool) -> None:
     with open(os.path.join(os.path.dirname(__file__), "contrast.js"), encoding="utf-8") as file:
         found = file.read()
     page.size(1280, 720, dark)
-    page.run("document.activeElement.blur()")
-    for tab in "1234":
-        page.press(tab)
-        if tab == "2":
-            page.until("document.body.dataset.shown")
+    for tab in ("1", "2", "3", "4", "circuit", "way", "life", "exercise"):
+        shown(page, tab)
         assert pages.called(page, found) == []
+        if tab in INSIDE:
+            click(page, "#triangle")
     # (and the check finds words that do not)
     page.run("document.getElementById('about').style.color = getComputedStyle(document.body).backgroundColor")
     assert any("Draws solids" in each for each in pages.called(page, found))
+
+
+def test_small_pictures_are_of_their_own_clocks_and_hatched_until_made(page: Browser) -> None:
+    """Each picture is of a clock in its own part of the stretch that the time line shows: key B as the library has it."""
+    page.run("document.activeElement.blur()")
+    page.press("2")
+    page.until("document.querySelectorAll('.thumb').length")
+    assert page.run("document.querySelectorAll('.thumb:not(.made)').length") > 0
+    for first, last in ((0, 5396), (2678, 3257)):
+        pages.go(page, 3000)
+        for _ in range(10 if first else 0):
+            page.press("c")
+        page.until("document.querySelectorAll('.thumb').length && !document.querySelector('.thumb:not(.made)')")
+        found = pages.called(page, pages.THUMBS, [[x, 16] for x in range(48)])
+        wide = (last - first) / len(found)
+        assert len(found) == 40
+        assert all(first + at * wide - 1 <= clock <= first + (at + 1) * wide + 1 for at, (clock, _, _, _) in enumerate(found))
+        due = pages.called(page, """clocks => studio.library().then(async px => {
+          const {facesOf} = await studio.ask("draw", {}, studio.editor.text), red = Object.fromEntries(facesOf.map(face => [face[0], face[3][0]]));
+          return clocks.map(clock => { const state = px.state(studio.editor.text, clock), bits = Math.floor(Math.log2(facesOf.length)) + 1;
+            return Array.from({length: 48}, (_, x) => red[state.number(0, bits, x, 16)] ?? 0); }); })""", [each[0] for each in found])
+        assert [[colour[0] for colour in each[3]] for each in found] == due
 
 
 def test_at_most_eight_tabs_are_in_sight(page: Browser) -> None:
@@ -194,6 +299,34 @@ def test_at_most_eight_tabs_are_in_sight(page: Browser) -> None:
     page.run("(() => { const more = document.querySelector('#texts select'); more.selectedIndex = 1; "
              "more.dispatchEvent(new Event('change')); })()")
     assert page.run("document.querySelector('.text-tab[aria-selected=true]').textContent") == "first"
+
+
+ROWS = """clocks => {
+  const line = document.getElementById("line-of-passes"), pen = line.getContext("2d"), [from, to] = studio.machine.course.view;
+  const hex = ([red, green, blue]) => "#" + [red, green, blue].map(part => part.toString(16).padStart(2, "0")).join("");
+  return clocks.map(clock => [0, 1, 2, 3, 4].map(row => hex(pen.getImageData(Math.floor((clock + .5 - from) / (to - from) * line.width),
+    Math.floor(line.height * (row + .5) / 5), 1, 1).data)));
+}"""
+
+
+def test_the_time_line_has_rows_of_solids_literals_and_clocks(page: Browser) -> None:
+    """The first scene draws pyramid * - shaft and then bar: three literals. A solid's bar has its colour, and of neighbours among the
+    literals, and among the clocks, one is darker."""
+    page.run("document.activeElement.blur()")
+    page.press("2")
+    page.until("document.body.dataset.shown")
+    found = pages.asked(page, "program", {}, pages.source(page))
+    starts = [next(row[3] for row in found["operations"] if row[0] == number) for number in range(len(found["passes"]))]
+    # (words are at the left end of a bar)
+    last = {each["literal"]: starts[number] + 10 for number, each in enumerate(found["passes"]) if each["literal"]}
+    rows = pages.called(page, ROWS, [last[literal] for literal in (1, 2, 3)])
+    assert [row[0] for row in rows] == ["#c8b4a0", "#000000", "#c83c28"]
+    assert rows[0][1] == rows[2][1] != rows[1][1]
+    pages.go(page, 3000)
+    for _ in range(20):
+        page.press("c")
+    row = [each[4] for each in pages.called(page, ROWS, list(range(2996, 3004)))]
+    assert row[::2] == [row[0]] * 4 and row[1::2] == [row[1]] * 4 and row[0] != row[1]
 
 
 def test_the_time_line_shows_fewer_clocks_about_the_one_that_is_shown(page: Browser) -> None:

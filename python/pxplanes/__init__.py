@@ -16,13 +16,13 @@ from .errors import Limit, Malformed, NoClock, NoCommand, NoLibrary, NoMicro, No
 from .explain.explained import Explanation, Ray, Run, explain, ray
 from .machine.states import Micro, Pixel, State, clocked, micros, pixels, state
 from .machine.operations import Operation, course
-from .pictures import Cost, Picture, check, colour, products, render, version, window
+from .pictures import Cost, Face, Picture, check, colour, face, products, render, version, window
 from .running import run
 from .version_number import VERSION
 
-__all__ = ["Comparison", "Cost", "Explanation", "Expression", "Limit", "Malformed", "Micro", "NoClock", "NoCommand", "NoLibrary",
+__all__ = ["Comparison", "Cost", "Explanation", "Expression", "Face", "Limit", "Malformed", "Micro", "NoClock", "NoCommand", "NoLibrary",
            "NoMicro", "NoModel", "NoOperation", "Operation", "OverBudget", "Picture", "Pixel", "Ray", "Refused", "Run", "Scene", "Solid",
-           "State", "check", "clocked", "colour", "compare", "course", "explain", "from_file", "listing", "micros", "pixels", "play",
+           "State", "check", "clocked", "colour", "compare", "course", "explain", "face", "from_file", "listing", "micros", "pixels", "play",
            "products", "ray", "refine", "render", "run", "shadow", "state", "tidy", "tile", "version", "window"]
 
 __version__ = VERSION

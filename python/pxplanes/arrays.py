@@ -15,8 +15,8 @@ SIZES = {"B": 1, "I": 4, "i": 4, "Q": 8}
 
 
 class Buffer:
-    """Room for so many elements of a kind: B, I, i or Q, of 1, 4, 4 and 8 bytes, or another of a size that is given. The system
-    hands out its pages as they are written, so too much room costs nothing."""
+    """Room for so many elements of a kind: B, I, i or Q, of 1, 4, 4 and 8 bytes, or another of a size that is given.
+    The system hands out its pages as they are written, so too much room costs nothing."""
 
     def __init__(self, kind: str, count: int, size: int = 0):
         self.kind, self.count, self.size = kind, count, size or SIZES[kind]
@@ -41,6 +41,17 @@ def shaped(flat: memoryview, kind: str, shape: Sequence[int]) -> Any:
     if numpy is not None:
         return numpy.frombuffer(flat, dtype=kind).reshape(shape)
     return flat.cast(kind, list(shape)) if all(shape) else flat.cast(kind)
+
+
+def put(whole: Any, x: int, y: int, part: Any) -> None:
+    """Writes an array of two dimensions into another from column x and row y on."""
+    high, wide = part.shape
+    if numpy is not None:
+        whole[y:y + high, x:x + wide] = part
+        return
+    row, (target, source) = whole.shape[1], (each.cast("B").cast("I") for each in (whole, part))
+    for at in range(high):
+        target[(y + at) * row + x:(y + at) * row + x + wide] = source[at * wide:(at + 1) * wide]
 
 
 def spread(words: memoryview, wide: int, high: int, words_per_row: int) -> Any:

@@ -12,8 +12,7 @@ from .errors import Limit, Malformed, NoClock, NoCommand, NoLibrary, NoMicro, No
 from .finding import loaded
 
 OK, USAGE, MALFORMED, LIMIT, MEMORY, NO_ROOM, NO_CLOCK, NO_GRID, NO_MICRO, NO_OPERATION = 0, 2, 3, 4, 7, 8, 9, 10, 11, 12
-LONGEST_NAME = 64
-
+NO_FACE, LONGEST_NAME = 14, 64
 
 
 class Written(Protocol):
@@ -41,6 +40,12 @@ class FoundState(ctypes.Structure):
         (name, c_uint64) for name in ("clock", "clocks", "operation", "operation_clock", "next_micro")]
 
 
+class FoundFace(ctypes.Structure):
+    """`struct pxplanes_numbered_face`: what a face number means."""
+
+    _fields_ = [(name, c_uint32) for name in ("solid", "kind", "plane", "line", "red", "green", "blue")]
+
+
 class FoundOperation(ctypes.Structure):
     """`struct pxplanes_operation`: an operation, and what it is for."""
 
@@ -52,7 +57,8 @@ LIST: list[Any] = [c_void_p, c_size_t]
 TEXT: list[Any] = [c_char_p, c_size_t]
 FOUND: list[Any] = [POINTER(Found)]
 CALLS: dict[str, list[Any]] = {"check": TEXT + FOUND, "render": TEXT + LIST + LIST + FOUND, "colour": TEXT + LIST + FOUND,
-         "window": TEXT + [c_uint32] * 4 + LIST + LIST + FOUND, "products": TEXT + LIST + FOUND, "state": TEXT + [c_uint64] + LIST + [POINTER(FoundState)] + FOUND,
+         "window": TEXT + [c_uint32] * 4 + LIST + LIST + FOUND, "products": TEXT + LIST + FOUND,
+         "face": TEXT + [c_uint32] + LIST + [POINTER(FoundFace)] + FOUND, "state": TEXT + [c_uint64] + LIST + [POINTER(FoundState)] + FOUND,
          "micros": TEXT + [c_uint64] + LIST + FOUND, "course": TEXT + [c_uint64] + LIST + FOUND,
          "clocks": LIST + [c_uint32] * 2 + LIST + FOUND, "run": TEXT + TEXT + LIST + FOUND}
 NAMES: dict[str, list[Any]] = {"cause_name": [c_uint32] + LIST, "kind_name": [c_uint32] + LIST, "version": LIST}
@@ -72,7 +78,11 @@ def call(name: str) -> Any:
 
 
 def from_file(path: Union[str, bytes, "os.PathLike[str]", "os.PathLike[bytes]"]) -> bytes:
-    """The text in a file."""
+    """The text in a file.
+
+    >>> pxplanes.check(pxplanes.from_file("docs/scenes/first.scene")).faces
+    10
+    """
     with open(path, "rb") as file:
         return file.read()
 
@@ -133,6 +143,8 @@ def refusal(status: int, found: Found) -> Exception:
         return NoClock(found.clocks)
     if status == NO_OPERATION:
         return NoOperation(found.operations)
+    if status == NO_FACE:
+        return ValueError("faces are numbered from 1 to %d" % found.faces)
     if status == NO_MICRO:
         return NoMicro(found.number)
     return NoLibrary("the library answers the unknown status %d" % status)

@@ -1,16 +1,22 @@
 """Scenes judged and drawn."""
 from __future__ import annotations
 
+import contextlib
+import ctypes
+import functools
 import operator
 import os
-from typing import TYPE_CHECKING, Any, NamedTuple, Optional, Union
+from typing import TYPE_CHECKING, Any, Callable, NamedTuple, Optional, Sequence, Tuple, Union
 
-from .apart import Progress
-from .arrays import Buffer, rows, shaped
-from .calls import Found, Text, asked, word_of
-from .errors import OverBudget
-from .running import done, filled
+from .arrays import Buffer, put, rows, shaped
+from .calls import LONGEST_NAME, FoundFace, Text, asked, content, word_of
+from .errors import OverBudget, Refused
+from .running import MANY, Progress, done, filled, gathered, run
 from .scene.limits import MAX_PICTURE_SIZE, MAX_WIDE_PICTURE_SIZE
+
+Out = Optional[Tuple[Any, Any]]
+# A part of a picture: column, row, width and height.
+Window = Tuple[int, int, int, int]
 
 if TYPE_CHECKING:
     import numpy as np
@@ -18,10 +24,14 @@ if TYPE_CHECKING:
 
     from .compare.comparing import Comparison
 
+# Rows of a strip: so many that strips together take no longer than the whole.
+STRIP = 64
+KINDS_OF_FACES = ("near", "front", "back")
+
 
 class Cost(NamedTuple):
-    """What a scene is and takes: `width` and `height` in pixels, how many faces it has, and how many broadcast operations
-    and clocks draw it."""
+    """What a scene is and takes: `width` and `height` in pixels, how many faces it has, and how many broadcast
+    operations and clocks draw it."""
 
     width: int
     height: int
@@ -34,8 +44,8 @@ class Picture(NamedTuple):
     """The two maps of a picture, each of shape (height, width) and of unsigned numbers of 32 bits, rows from the top.
     Two are equal where their sizes and numbers are; since arrays can be written, none has a hash.
 
-    `depths` counts cells from the eye; the background has the far limit, `2**W - 1`. `faces` has the number of the face that
-    shows, from 1 on in the order of the text, and 0 for the background."""
+    `depths` counts cells from the eye; the background has the far limit, `2**W - 1`. `faces` has the number of the face
+    that shows, from 1 on in the order of the text, and 0 for the background."""
 
     depths: NDArray[np.uint32]
     faces: NDArray[np.uint32]
@@ -48,6 +58,9 @@ class Picture(NamedTuple):
             return False
         return (self.width, self.height) == (other.width, other.height) and all(
             rows(ours) == rows(theirs) for ours, theirs in zip(self[:2], other[:2]))
+
+    def __repr__(self) -> str:
+        return "<pxplanes.Picture: %d by %d pixels>" % (self.width, self.height)
 
     def __ne__(self, other: object) -> bool:
         return not self == other
@@ -68,15 +81,17 @@ class Picture(NamedTuple):
         return comparing.compare(self, other, tolerance)
 
     def save(self, path: Union[str, "os.PathLike[str]"], what: str = "depths") -> None:
-        """Writes an image, in place of an older file: a PNG of the depths in greys, or of the faces in colours if `what` is
-        `faces`. A path that doesn't end in .png gets both `maps()`."""
+        """Writes an image, in place of an older file: a PNG of the depths in greys, or of the faces in colours if
+        `what` is `faces`. A path that doesn't end in .png gets both `maps()`."""
         from .image import netpbm, show
         flat = [[number for row in rows(each) for number in row] for each in self[:2]]
         if what not in ("depths", "faces"):
             raise ValueError("what is 'depths' or 'faces', and not %r" % (what,))
-        colours = show.colours_of_faces(flat[1]) if what == "faces" else show.greys_of_depths(flat[0], [face != 0 for face in flat[1]])
+        greys = show.greys_of_depths(flat[0], [face != 0 for face in flat[1]])
+        colours = show.colours_of_faces(flat[1]) if what == "faces" else greys
+        is_png = os.fspath(path).lower().endswith(".png")
         with open(path, "wb") as file:
-            file.write(netpbm.png(self.width, self.height, colours, 1) if os.fspath(path).lower().endswith(".png") else self.maps())
+            file.write(netpbm.png(self.width, self.height, colours, 1) if is_png else self.maps())
 
     def maps(self) -> bytes:
         """Both maps as `pxplanes render` writes them: P6, three bytes a number, highest first."""
@@ -110,67 +125,181 @@ def check(text: Text) -> Cost:
     return Cost(found.width, found.height, found.faces, found.operations, found.clocks)
 
 
-def render(text: Text, clocks: Optional[int] = None, progress: Optional[Progress] = None) -> Picture:
-    """The depths and the faces of a scene. Raises as `check` does, and `OverBudget`, before anything is drawn, where it takes more
-    than so many clocks. A picture that may take longer than some tenths of a second is drawn by a process of its own, which
-    Ctrl-C ends; `progress` is called meanwhile, twenty times a second, with the seconds that have passed, and what it raises ends the
-    drawing too.
+def render(text: Text, clocks: Optional[int] = None, progress: Optional[Progress] = None, threads: int = 1,
+           out: Out = None) -> Picture:
+    """The depths and the faces of a scene. Raises as `check` does, and `OverBudget`, before anything is drawn, where it
+    takes more than so many `clocks`.
+
+    A picture that takes long, or has `progress`, is drawn in strips by so many `threads`. `progress` is called with the
+    share that is drawn, from 0 to 1, after each strip and ten times a second. What it raises, and Ctrl-C, end the call
+    within a second: no other strip begins, and one under way ends in its thread.
+
+    `out` is two arrays of NumPy for depths and faces, of shape (height, width) and any numbers and strides: views of
+    larger ones, `float32`, or `[::-1]` for rows from the bottom. The picture has these; after an error they may have
+    some strips.
 
     >>> picture = pxplanes.render(text)
     >>> int(picture.depths[16, 24]), int(picture.faces[16, 24])
     (320, 9)
     """
-    (depths, faces), found = drawn("render", "II", text, clocks, progress)
-    shape = found.height, found.width
-    return Picture(depths.shaped(*shape), faces.shaped(*shape), found.width, found.height)
+    judges, threads = list[Callable[[], Cost]](), counted(threads)
+    if threads > 1 and clocks is None:
+        # To plan the whole takes about as long as to draw a strip: one thread checks the text while others draw.
+        size, judges = size_of(text), [functools.partial(check, text)]
+    else:
+        due = check(text)
+        within(due.clocks, clocks)
+        size = due.width, due.height
+        if due.clocks < MANY and progress is None:
+            return drawn(text, [(0, 0, *size)], size, out)
+    try:
+        return drawn(text, strips(*size, threads), size, out, threads, progress, judges)
+    except Refused:
+        # The text is; or a plane's constant is past its limit in a lower row, where the whole picture can be drawn.
+        check(text)
+        return drawn(text, [(0, 0, *size)], size, out, 1, progress)
+
+
+def counted(threads: int) -> int:
+    """How many threads draw."""
+    if operator.index(threads) < 1:
+        raise ValueError("%d threads draw nothing" % threads)
+    return operator.index(threads)
+
+
+def size_of(text: Text) -> tuple[int, int]:
+    """The columns and rows of a scene. Raises as `tidy` does."""
+    _, picture, *_ = run(text, "tidy").splitlines()
+    _, width, height = picture.split()
+    return int(width), int(height)
+
+
+def strips(width: int, height: int, threads: int) -> list[Window]:
+    """The windows (x, y, width, height) of a picture that so many threads share alike."""
+    rows_of_each = -(-height // (threads * -(-height // (threads * STRIP))))
+    return [(0, y, width, min(rows_of_each, height - y)) for y in range(0, height, rows_of_each)]
+
+
+def drawn(text: Text, windows: Sequence[Window], size: tuple[int, int], out: Out,
+          threads: int = 0, progress: Optional[Progress] = None, judges: Sequence[Callable[[], Cost]] = ()) -> Picture:
+    """A picture made of windows, each (x, y, width, height), by so many threads, if no judge refuses it meanwhile."""
+    maps, area, data = taken(out, *size), 0, content(text)
+    calls: list[Callable[[], Any]] = [*judges, *(functools.partial(piece, data, *each) for each in windows)]
+    with contextlib.closing(gathered(calls, threads)) as pieces:
+        for found in pieces:
+            if found is not None and not isinstance(found, Cost):
+                (x, y), part = found
+                for array, numbers in zip(maps, part[:2]):
+                    put(array, x, y, numbers)
+                area += part.width * part.height
+            if progress is not None:
+                progress(area / (size[0] * size[1]))
+    return Picture(*maps, *size)
+
+
+def taken(out: Out, width: int, height: int) -> tuple[Any, Any]:
+    """The two arrays that a picture is written to."""
+    depths, faces = out or (Buffer("I", width * height).shaped(height, width) for _ in range(2))
+    for array in depths, faces:
+        if getattr(array, "shape", None) != (height, width):
+            found = getattr(array, "shape", array)
+            raise ValueError("out has arrays of shape (%d, %d), and not %r" % (height, width, found))
+    return depths, faces
+
+
+def piece(data: bytes, x: int, y: int, width: int, height: int) -> tuple[tuple[int, int], Picture]:
+    """A window, and where it is."""
+    depths, faces = Buffer("I", width * height), Buffer("I", width * height)
+    asked("window", data, x, y, width, height, *depths.given(), *faces.given())
+    return (x, y), Picture(depths.shaped(height, width), faces.shaped(height, width), width, height)
 
 
 def window(text: Text, x: int, y: int, width: int, height: int) -> Picture:
-    """A part of a picture, `width` by `height` pixels from column `x` and row `y` on, in about the time and memory of a picture of its
-    size: strips one after another show progress, and threads draw one each. It may lie outside of the scene's picture, in the wider one
-    that `tile` draws. Raises as `check` does; `Limit` too where a plane's constant at (x, y) is past its limit; `ValueError` where a
-    side is not 1 to 512, or the window does not end within 4096 by 4096 pixels."""
+    """A part of a picture, `width` by `height` pixels from column `x` and row `y` on, in about the time and memory of a
+    picture of its size. It may lie outside of the scene's picture, in the wider one that `tile` draws. Raises as
+    `check` does; `Limit` too where a plane's constant at (x, y) is past its limit; `ValueError` where a side is not 1
+    to 512, or the window does not end within 4096 by 4096 pixels.
+
+    >>> int(pxplanes.window(text, 20, 10, 8, 8).depths[6, 4])
+    320
+    """
     x, y, width, height = (operator.index(number) for number in (x, y, width, height))
     for first, count in ((x, width), (y, height)):
         if first < 0 or not 1 <= count <= MAX_PICTURE_SIZE or first + count > MAX_WIDE_PICTURE_SIZE:
             raise ValueError("there is no window of %d by %d pixels at (%d, %d)" % (width, height, x, y))
-    depths, faces = buffers = [Buffer("I", width * height) for _ in range(2)]
-    done("window", text, (x, y, width, height), buffers)
-    return Picture(depths.shaped(height, width), faces.shaped(height, width), width, height)
+    return piece(content(text), x, y, width, height)[1]
 
 
-def colour(text: Text, clocks: Optional[int] = None, progress: Optional[Progress] = None) -> NDArray[np.uint8]:
-    """The picture in the colours of its faces: red, green and blue from 0 to 255, of shape (height, width, 3), rows from the
-    top; the background is black. Raises as `render` does, with the same budget and progress.
+class Face(NamedTuple):
+    """What a face number means: the solid's number, from 1 in the order of the text, and its name; `kind` is "near",
+    "front" or "back"; `plane` says which front or back of the solid it is, from 1, and is 0 for the near face; `line`
+    is the line of the text, from 1; and the colour has red, green and blue from 0 to 255."""
+
+    solid: int
+    name: str
+    kind: str
+    plane: int
+    line: int
+    colour: Tuple[int, int, int]
+
+
+def face(text: Text, number: int) -> Face:
+    """What a face number of a scene's picture means. Raises as `check` does, but for the limits of drawing;
+    `ValueError` where the scene has no face of this number, as for 0, the background.
+
+    >>> pxplanes.face(text, 3)
+    Face(solid=1, name='pyramid', kind='front', plane=2, line=6, colour=(120, 105, 90))
+    """
+    name, found = Buffer("B", LONGEST_NAME), FoundFace()
+    number = operator.index(number)
+    if not 0 <= number < 2 ** 32:
+        raise ValueError("face numbers are from 1 on, and not %d" % number)
+    asked("face", text, number, *name.given(), ctypes.byref(found))
+    return Face(found.solid, bytes(name.room).rstrip(b"\0").decode("ascii"), KINDS_OF_FACES[found.kind - 1],
+                found.plane, found.line, (found.red, found.green, found.blue))
+
+
+def colour(text: Text, clocks: Optional[int] = None, progress: Optional[Progress] = None,
+           out: Any = None) -> NDArray[np.uint8]:
+    """The picture in the colours of its faces: red, green and blue from 0 to 255, of shape (height, width, 3), rows
+    from the top; the background is black. Raises as `render` does. It is drawn in one piece: `progress` is called ten
+    times a second with 0, and then with 1.
+
+    `out` is an array of NumPy to write to, of any strides, with 3 numbers a pixel, or 4, whose last is 255 then.
 
     >>> [int(pxplanes.colour(text)[16, 24, part]) for part in range(3)]
     [200, 60, 40]
     """
-    (rgb,), found = drawn("colour", "B", text, clocks, progress)
-    shown: NDArray[np.uint8] = rgb.shaped(found.height, found.width, 3)
-    return shown
+    due = check(text)
+    within(due.clocks, clocks)
+    shape = due.height, due.width
+    if out is not None and getattr(out, "shape", None) not in ((*shape, 3), (*shape, 4)):
+        raise ValueError("out has the shape (%d, %d, 3 or 4), and not %r" % (*shape, getattr(out, "shape", out)))
+    rgb = Buffer("B", 3 * due.width * due.height)
+    done("colour", text, (), [rgb], clocks=due.clocks, progress=progress)
+    shown: NDArray[np.uint8] = rgb.shaped(*shape, 3)
+    if out is None:
+        return shown
+    out[..., :3] = shown
+    out[..., 3:] = 255
+    given: NDArray[np.uint8] = out
+    return given
 
 
-def drawn(name: str, kinds: str, text: Text, clocks: Optional[int], progress: Optional[Progress]) -> tuple[list[Buffer], Found]:
-    """The buffers of a call that draws, within so many clocks."""
-    budget = None if clocks is None else operator.index(clocks)
-
-    def work(found: Found) -> tuple[int, int]:
-        if budget is not None and found.clocks > budget:
-            raise OverBudget(found.clocks, budget)
-        return found.clocks, found.width * found.height
-
-    return filled(name, kinds, text, work=work, progress=progress)
+def within(clocks: int, budget: Optional[int]) -> None:
+    """Refuses what takes more clocks than it may."""
+    if budget is not None and clocks > operator.index(budget):
+        raise OverBudget(clocks, operator.index(budget))
 
 
 def products(text: Text) -> list[tuple[int, ...]]:
-    """The kept products of a scene (docs/PICTURE.md, "Boxes and pruning"), each with its literals in order: the number of a
-    solid, from 1 on in the order of the text, with a minus where it is taken away. Raises as `check` does.
+    """The kept products of a scene (docs/PICTURE.md, "Boxes and pruning"), each with its literals in order: the number
+    of a solid, from 1 on in the order of the text, with a minus where it is taken away. Raises as `check` does.
 
     >>> pxplanes.products(text)
     [(1, -2), (3,)]
     """
-    (numbers,), _ = filled("products", "i", text)
+    numbers, _ = filled("products", "i", text)
     found: list[tuple[int, ...]] = []
     literals: list[int] = []
     for number in numbers.numbers:
@@ -183,5 +312,9 @@ def products(text: Text) -> list[tuple[int, ...]]:
 
 
 def version() -> str:
-    """The version of the library, as CHANGES.md counts it."""
+    """The version of the library, as CHANGES.md counts it.
+
+    >>> pxplanes.version().startswith(pxplanes.__version__)
+    True
+    """
     return word_of("version")

@@ -1,4 +1,5 @@
 """Runs the built program for the tools. It is no tool itself."""
+import contextlib
 import os
 import re
 import shutil
@@ -112,7 +113,10 @@ def unproved(folder: str) -> str:
             raise Trouble("not built: %s" % notes.read().decode("utf-8", "replace").strip().split("\n")[0])
         finally:
             if tried.poll() is None:
-                os.killpg(tried.pid, signal.SIGKILL)
+                # (rt runs the program in a session of its own)
+                for pid in (*descendants(tried.pid), tried.pid):
+                    with contextlib.suppress(ProcessLookupError):
+                        os.kill(pid, signal.SIGKILL)
                 tried.wait()
 
 

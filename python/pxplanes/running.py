@@ -1,107 +1,114 @@
-"""Calls of a text that fill buffers, and the program's commands by one of them; in a process of their own if they may take long."""
+"""Calls of a text that fill buffers, and the program's commands by one of them. Long calls are made in threads, so that
+Ctrl-C and `progress` are heard meanwhile."""
 from __future__ import annotations
 
-import ctypes
+import collections
+import contextlib
+import queue
 import re
-from typing import Any, Callable, Optional
+import threading
+from typing import Any, Callable, Generator, Optional, Sequence, TypeVar
 
-from .apart import Progress, called, is_long
 from .arrays import Buffer
-from .calls import NO_ROOM, OK, Found, FoundState, Text, asked, content
-from .errors import Refused
+from .calls import NO_ROOM, OK, Found, Text, asked
 
-Work = Callable[[Found], "tuple[int, int]"]
-# Room for the output of a command that is no wide picture and no listing's: as many bytes as two pixel maps of 512 by 512 have.
+T = TypeVar("T")
+# What is called with the share that is done, from 0 to 1, after each part and ten times a second.
+Progress = Callable[[float], Any]
+# A call of fewer clocks takes milliseconds. Seconds between two looks at the keyboard.
+MANY, LOOK = 10000, 0.1
+# Room for the output of a command that is no wide picture and no listing's: as many bytes as two pixel maps of 512 by
+# 512 have.
 ROOM = 2 * (3 * 512 * 512 + 20)
-# How often a command draws the picture of its scene.
-DRAWN = {"render": 1, "colour": 1, "list": 1, "tile": 1, "refine": 2, "shadow": 2, "debug": 1}
-# Planes that a state has: the bits of memory, three registers, the leaves, and four that the nodes fill.
-PLANES = 80
-END = re.compile(rb"^[ \t\r]*end[ \t\r]*(#.*)?(\n|\Z)", re.MULTILINE)
+# Commands that draw nothing, and take milliseconds.
+QUICK = (["cost"], ["plan"], ["sample"], ["tidy"])
 
 
-def no_work(found: Found) -> tuple[int, int]:
-    """Of a call that makes no clocks."""
-    return 0, 0
+def gathered(calls: Sequence[Callable[[], T]], threads: int) -> Generator[Optional[T], None, None]:
+    """What each call gives, made by so many threads, in the order in which they end; and None ten times a second. If
+    this is closed no other call begins; those under way end in their threads, or with the process, and nobody gets what
+    they give. By 0 threads calls are made here."""
+    if threads == 0:
+        yield from (call() for call in calls)
+        return
+    waiting, ended = collections.deque(calls), queue.SimpleQueue[Any]()
+
+    def work() -> None:
+        with contextlib.suppress(IndexError):
+            while True:
+                call = waiting.popleft()
+                try:
+                    ended.put((call(), None))
+                except Exception as error:
+                    ended.put((None, error))
+
+    try:
+        for _ in range(min(threads, len(calls))):
+            threading.Thread(target=work, daemon=True).start()
+        left = len(calls)
+        while left:
+            try:
+                given, error = ended.get(timeout=LOOK)
+            except queue.Empty:
+                yield None
+                continue
+            if error is not None:
+                raise error
+            left -= 1
+            yield given
+    finally:
+        waiting.clear()
+
+
+def heard(call: Callable[[], T], clocks: int, progress: Optional[Progress] = None) -> T:
+    """What a call of so many clocks gives. A long one is made in a thread: Ctrl-C, or what `progress` raises, leaves it
+    at once."""
+    with contextlib.closing(gathered([call], int(clocks >= MANY or progress is not None))) as answers:
+        for answer in answers:
+            if progress is not None:
+                progress(float(answer is not None))
+            if answer is not None:
+                break
+    assert answer is not None
+    return answer
 
 
 def done(name: str, text: Text, before: tuple[Any, ...], buffers: list[Buffer], behind: tuple[Any, ...] = (),
-         work: tuple[int, int] = (0, 0), progress: Optional[Progress] = None) -> tuple[int, Found]:
-    """What a call finds, as `asked` gives it, if it makes so many clocks of so many pixels."""
-    if is_long(*work):
-        return called(name, content(text), before, buffers, behind, progress)
-    return asked(name, text, *before, *(word for each in buffers for word in each.given()), *behind)
+         clocks: int = 0, progress: Optional[Progress] = None) -> tuple[int, Found]:
+    """What a call finds, as `asked` gives it, if it makes so many clocks."""
+    given = [word for each in buffers for word in each.given()]
+    return heard(lambda: asked(name, text, *before, *given, *behind), clocks, progress)
 
 
-def filled(name: str, kinds: str, text: Text, *before: Any, behind: tuple[Any, ...] = (), work: Work = no_work,
-           progress: Optional[Progress] = None) -> tuple[list[Buffer], Found]:
-    """The buffers of a call, one of each kind, which it filled. By what it found, where it was asked for their size, `work` gives
-    how many clocks it makes of how many pixels, or raises."""
-    buffers = [Buffer(kind, 0) for kind in kinds]
-    status, found = asked(name, text, *before, *[None, 0] * len(kinds), *behind)
+def filled(name: str, kind: str, text: Text, *before: Any, behind: tuple[Any, ...] = (),
+           clocks: int = 0) -> tuple[Buffer, Found]:
+    """The buffer of a call that makes so many clocks, which it filled."""
+    buffer, (status, found) = Buffer(kind, 0), asked(name, text, *before, None, 0, *behind)
     while status != OK:
-        buffers = [Buffer(kind, found.room) for kind in kinds]
-        status, found = done(name, text, before, buffers, behind, work(found), progress)
-    return buffers, found
+        buffer = Buffer(kind, found.room)
+        status, found = done(name, text, before, [buffer], behind, clocks)
+    return buffer, found
 
 
 def run(text: Text, words: str = "render", progress: Optional[Progress] = None) -> bytes:
     """What the program writes for the words of a command, as `tile 1024 768`, with the text as its standard input.
 
-    Raises `Malformed`, `Limit` and `NoCommand`, each a `Refused`: `status` is the one with which the program ends, and `said` what
-    it writes to its standard error. Ctrl-C and `progress` end it as they end `render`.
+    Raises `Malformed`, `Limit` and `NoCommand`, each a `Refused`: `status` is the one with which the program ends, and
+    `said` what it writes to its standard error. Ctrl-C, and what `progress` raises, leave it within a second: its
+    thread goes on until the command is done or the process ends. A command that must be killed is one of another
+    process, as `python -m pxplanes list`.
 
     >>> run("", "sample 1")
     b'shown 9\\ndepths 2111\\nproducts 1\\nclocks 3133\\n'
     """
     if not isinstance(words, str):
         raise TypeError("the words of a command are a str, and no %s" % type(words).__name__)
-    given, work, status = words.encode(), work_of(text, words), NO_ROOM
-    command, numbers = parted(words)
-    room = 2 * (3 * numbers[0] * numbers[1] + 20) if command == "tile" and len(numbers) == 2 else ROOM
+    given, status = words.encode(), NO_ROOM
+    wide = re.fullmatch(r" *tile +([1-9][0-9]{0,3}) +([1-9][0-9]{0,3}) *", words)
+    room = 6 * int(wide[1]) * int(wide[2]) + 40 if wide else ROOM
     while status == NO_ROOM:
         out = Buffer("B", room)
-        status, found = done("run", text, (given, len(given)), [out], work=work, progress=progress)
+        clocks = 0 if words.split()[:1] in QUICK else MANY
+        status, found = done("run", text, (given, len(given)), [out], clocks=clocks, progress=progress)
         room = found.room
     return bytes(memoryview(out.room)[:room])
-
-
-def parted(words: str) -> tuple[str, list[int]]:
-    """The first word of a command, and those behind it that are numbers as it takes them."""
-    command, *others = words.split() or ["render"]
-    return command, [int(each) for each in others if re.fullmatch("[1-9][0-9]{0,3}", each)]
-
-
-def work_of(text: Text, words: str) -> tuple[int, int]:
-    """At most how many clocks of how many pixels a command makes; none of a text that it refuses."""
-    command, numbers = parted(words)
-    data = content(text)
-    scene = scene_part(data)
-    try:
-        if command == "play":
-            words_of_state = asked("state", data, 0, None, 0, ctypes.byref(FoundState()))[1].room
-            return int(asked("micros", data, 0, None, 0)[1].clocks), pixels_of(words_of_state)
-        if command not in DRAWN:
-            return 0, 0
-        found = asked("check", scene)[1]
-    except Refused:
-        return 0, 0
-    pixels, times = found.width * found.height, DRAWN[command]
-    if command == "tile" and len(numbers) == 2:
-        times = -(-numbers[0] // found.width) * -(-numbers[1] // found.height)
-    elif command == "refine" and numbers:
-        pixels *= numbers[0] ** 2
-    elif command == "debug":
-        times += data.count(b"\n", len(scene))
-    return times * found.clocks, pixels
-
-
-def pixels_of(words: int) -> int:
-    """About how many pixels a state of so many words has."""
-    return 64 * words // PLANES
-
-
-def scene_part(text: bytes) -> bytes:
-    """The lines up to the first whose one word is `end`."""
-    end = END.search(text)
-    return text[:end.end()] if end else text

@@ -56,7 +56,7 @@ OF_LIGHTS = ("unexpected", "word-count", "bad-name", "unknown-name")
 OF_SCENES_ALONE = ("bad-name", "second-name", "bad-expression", "unknown-name", "missing-end")
 OWN_TROUBLE = "1"
 # What a document names, and a command that stands beside it makes.
-MADE = ("examples/c/draw",)
+MADE = ("examples/c/command",)
 MOST_WORDS = 800
 # The words that a paragraph and a cell of a table may have.
 PARAGRAPH_WORDS, CELL_WORDS = 90, 30

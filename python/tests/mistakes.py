@@ -9,6 +9,7 @@ TOP = os.path.dirname(os.path.dirname(os.path.dirname(os.path.abspath(__file__))
 sys.path[:0] = [os.path.join(TOP, "python")]
 import renderer_by_events
 import renderer_by_products
+import renderer_by_rays
 from pxplanes.compare import causes, picture, verdict
 from pxplanes.suite import golden
 
@@ -20,7 +21,8 @@ def samples_of(draw):
     """The samples of a run of `draw`, which gives depths and faces of a case."""
     rows = [(case.scene, *(np.asarray(each).ravel() for each in draw(case))) for case in CASES]
     whole = verdict.is_whole([depths.astype(float) for _, depths, _ in rows])
-    return [verdict.Sample(scene, *picture.grid(scene), depths.astype(float), faces.astype(np.int64), whole) for scene, depths, faces in rows]
+    return [verdict.Sample(scene, *picture.grid(scene), depths.astype(float), faces.astype(np.int64), whole)
+            for scene, depths, faces in rows]
 
 
 def outcome(draw, word):
@@ -38,6 +40,10 @@ def planted():
         yield "events", name, word, lambda case, renderer=renderer: renderer.draw(case.scene)
     for name, (word, renderer) in renderer_by_products.MISTAKES.items():
         yield "products", name, word, lambda case, renderer=renderer: renderer.draw(case.text.decode())
+    for kind, rows in (("rays", renderer_by_rays.MISTAKES), ("held out", renderer_by_rays.HELD_OUT)):
+        for name, renderer in rows.items():
+            word = renderer_by_rays.CAUSES.get(name)
+            yield kind, name, word, lambda case, renderer=renderer: renderer.draw(case.text.decode())
 
 
 def main(words):

@@ -205,14 +205,14 @@ PLANTS: dict[str, tuple[str | None, Renderer]] = {
     "half a pixel of depths alone": (None, Renderer(plane=lambda a, b, c, x, y, k, s: a * (x + .5) + b * (y + .5) + c if k != "side" else a * x + b * y + c, cell=ceiled)),
     "first three bits of fraction of C alone": (None, Renderer(plane=lambda a, b, c, x, y, k, s: a * x + b * y + (
         c if k == "side" else c >> max(s.fraction - 3, 0) << max(s.fraction - 3, 0)))),
-    "backs rounded down, fronts up": (None, Renderer(plane=lambda a, b, c, x, y, k, s: (
+    "backs rounded down, fronts up": ("values of backs are rounded down", Renderer(plane=lambda a, b, c, x, y, k, s: (
         a * x + b * y + c if k != "back" else (a * x + b * y + c) >> s.fraction << s.fraction))),
     "least 3 bits of depth lost": (None, Renderer(after=depth(lambda d, s: np.floor(d / 8) * 8))),
     "deeper than 200 is background": (None, Renderer(after=lambda d, f, s: (np.where(d > 200 * s.far // 255, s.far, d), np.where(d > 200 * s.far // 255, 0, f)))),
     "C of 20 bits": (None, Renderer(plane=lambda a, b, c, x, y, k, s: a * x + b * y + (c + 2**19) % 2**20 - 2**19)),
-    "C ends at 2^31": (None, Renderer(plane=lambda a, b, c, x, y, k, s: a * x + b * y + max(-2**31, min(c, 2**31 - 1)))),
+    "C ends at 2^31": ("at the limits of 32 bits", Renderer(plane=lambda a, b, c, x, y, k, s: a * x + b * y + max(-2**31, min(c, 2**31 - 1)))),
     "11 solids": (None, Renderer(solid=lambda o, at, s: o if at < 11 else hidden(o))),
-    "7 planes, the last kept": (None, Renderer(solid=lambda o, at, s: Solid(o.near, o.fronts[-1:], o.backs, o.sides))),
+    "7 planes, the last kept": ("only the last 1 fronts", Renderer(solid=lambda o, at, s: Solid(o.near, o.fronts[-1:], o.backs, o.sides))),
     "solids in two lots, sides of the first": (None, Renderer(solid=lambda o, at, s: Solid(o.near, o.fronts, o.backs, s.solids[0].sides))),
     "* by the nearer front": (None, Renderer(after=lambda d, f, s: (d + (f % 7 == 3), f))),
     "face 0 of the last solid": (None, Renderer(after=lambda d, f, s: (d, np.where(f >= s.solids[-1].near, 0, f)))),

@@ -25,15 +25,23 @@ def one(lines, at, chance):
     return lines[:at] + [slipped] + lines[at + 1:], what, {at}
 
 
-def slipped(text, count, chance):
-    """A text with so many slips, in lines of their own, each of which alone has it refused; and what they are. None if one has not."""
+def is_mended(text, meant):
+    """Whether a refused text is mended, as it was meant."""
+    mending = readings.mended(text)
+    return mending.is_whole and not kinds.cure(text) and drawn(mending.text) == drawn(meant)
+
+
+def slipped(text, count, chance, plain=False):
+    """A text with so many slips, in lines of their own, each of which alone has it refused, or, if `plain`, is mended alone as
+    meant; and what they are. None if one has not."""
     lines, whats, taken = text.split("\n")[:-1], [], set()
     own = [place for place, line in enumerate(lines) if line.split("#")[0].strip()]
     out = list(lines)
     for at in chance.sample(own, count):
         state = chance.getstate()
         alone, what, touched = one(lines, at, chance)
-        if touched & taken or drawn("\n".join(alone).encode() + b"\n") is not None:
+        alone = "\n".join(alone).encode() + b"\n"
+        if touched & taken or drawn(alone) is not None or plain and not is_mended(alone, text.encode()):
             return None
         chance.setstate(state)
         out = one(out, at, chance)[0]
@@ -53,22 +61,22 @@ def drawn(text):
     return scene.width, scene.height, scene.depth_bits, scene.fraction_bits, [each.colour for each in scene.solids], planes, scene.show
 
 
-def counted(texts, count, most, seed):
-    """Of so many refused texts with one slip, or with two up to `most`: how many have one reading at each mistake, are mended as meant, and
-    otherwise; those mended otherwise, and those not mended."""
+def counted(texts, count, most, seed, plain=False):
+    """Of so many refused texts with one slip, or with two up to `most`: how many have one reading at each mistake, are mended as
+    meant, and otherwise; those mended otherwise, and those not mended."""
     chance = random.Random(seed)
     counts, wrong, left = {"refused": 0, "one reading": 0, "as meant": 0, "otherwise": 0}, [], []
     while counts["refused"] < count:
         text = chance.choice(texts)
-        found = slipped(text, 1 if most == 1 else chance.randint(2, most), chance)
+        found = slipped(text, 1 if most == 1 else chance.randint(2, most), chance, plain)
         if found is None or drawn(found[0].encode()) is not None:
             continue
         new, whats = found
         counts["refused"] += 1
         mending = readings.mended(new.encode())
-        is_mended = mending.is_whole and not kinds.cure(new.encode())
-        counts["one reading"] += is_mended or all(len(each.candidates) == 1 for each in mending.mistakes)
-        if not is_mended:
+        is_whole = mending.is_whole and not kinds.cure(new.encode())
+        counts["one reading"] += is_whole or all(len(each.candidates) == 1 for each in mending.mistakes)
+        if not is_whole:
             left.append((whats, [(each.number, str(each.refusal.note), len(each.candidates)) for each in mending.mistakes], new, text))
         elif drawn(mending.text) == drawn(text.encode()):
             counts["as meant"] += 1

@@ -1,20 +1,23 @@
 """The calls of the library from Python: their examples, and arguments of each wrong kind in each place."""
 import doctest
+import glob
 import importlib
 import os
 import pickle
 import random
 import resource
-import sys
 
 import pytest
 
 import support
 import pxplanes
-from pxplanes import apart
+from pxplanes.scene import scenes
 
 FIRST = pxplanes.from_file(os.path.join(support.TOP, "docs", "scenes", "first.scene"))
-MODULES = ("building", "commands", "machine.operations", "machine.states", "pictures", "running")
+MODULES = ("building", "calls", "commands", "compare.comparing", "explain.explained", "machine.operations",
+           "machine.states", "pictures", "running")
+SCENES = sorted(path for folder in ("docs/scenes", "gallery")
+                for path in glob.glob(os.path.join(support.TOP, folder, "*.scene")))
 # What a wrong call may raise.
 NAMED = (TypeError, ValueError, IndexError, MemoryError, OverflowError, pxplanes.OverBudget)
 pytestmark = pytest.mark.after_build
@@ -27,10 +30,32 @@ def need_library(library):
 
 
 @pytest.mark.parametrize("name", MODULES)
-def test_examples_in_docstrings(name):
+def test_examples_in_docstrings(name, monkeypatch):
+    if name.startswith("compare"):
+        pytest.importorskip("numpy")
+    monkeypatch.chdir(support.TOP)
     module = importlib.import_module("pxplanes." + name)
     done = doctest.testmod(module, extraglobs={"pxplanes": pxplanes, "text": FIRST, **vars(pxplanes)})
     assert done.attempted and not done.failed
+
+
+def test_each_call_has_an_example():
+    calls = [getattr(pxplanes, name) for name in pxplanes.__all__ if name.islower()]
+    assert len(calls) > 20 and [call.__name__ for call in calls if ">>>" not in call.__doc__] == []
+
+
+@pytest.mark.parametrize("path", SCENES, ids=[os.path.basename(path) for path in SCENES])
+def test_each_face_is_that_of_a_reader_written_apart(path):
+    text, due = pxplanes.from_file(path), {}
+    for at, solid in enumerate(scenes.read(text).solids, 1):
+        due[solid.near] = at, solid.name, "near", 0, solid.line, tuple(solid.colour)
+        for kind, faces in (("front", solid.fronts), ("back", solid.backs)):
+            due.update({face.number: (at, solid.name, kind, plane, face.line, tuple(face.colour))
+                        for plane, face in enumerate(faces, 1)})
+    assert {number: tuple(pxplanes.face(text, number)) for number in due} == due and max(due) == pxplanes.check(text).faces
+    for number in (0, len(due) + 1, 2 ** 32 - 1):
+        with pytest.raises(ValueError, match="from 1 to %d" % len(due)):
+            pxplanes.face(text, number)
 
 
 def test_hostile_arguments():
@@ -40,7 +65,9 @@ def test_hostile_arguments():
     things = [None, True, -1, 0, 1, 7, 4096, 1 << 31, 1 << 63, 1 << 64, -1 << 70, 1.5, float("nan"), "", "7", b"", b"\0", "\ud800",
               bytearray(5), memoryview(bytes(8)).cast("Q"), [], [1], {}, set(), object(), len, state, micro, [micro], [None], FIRST[:99],
               FIRST + b"x", FIRST.replace(b"64", b"99999999999999999999"), "render", "tile 0 0", "sample 1"]
-    each = [(pxplanes.check, [FIRST]), (pxplanes.render, [FIRST, None, None]), (pxplanes.colour, [FIRST, None]), (pxplanes.products, [FIRST]),
+    each = [(pxplanes.check, [FIRST]), (pxplanes.render, [FIRST, None, None, 1, None]),
+            (pxplanes.colour, [FIRST, None, None, None]),
+            (pxplanes.window, [FIRST, 1, 1, 5, 5]), (pxplanes.products, [FIRST]), (pxplanes.face, [FIRST, 1]),
             (pxplanes.state, [FIRST, 5]), (pxplanes.micros, [FIRST, 5, 5]), (pxplanes.pixels, [FIRST, 1, 1, 5, 2]),
             (pxplanes.course, [FIRST, 0, 5]), (pxplanes.clocked, [state, [micro]]), (pxplanes.run, [FIRST, "cost"]),
             (pxplanes.tidy, [FIRST]), (pxplanes.tile, [FIRST, 9, 9]), (pxplanes.refine, [FIRST, 2]), (pxplanes.shadow, [FIRST]),
@@ -62,23 +89,63 @@ def test_hostile_arguments():
 
 
 def test_memory_stays_flat():
+    small = "pxscene 1\npicture 4 2\ndepth 4\nsolid a 1 2 3\nfront 1 0 0\nback 0 0 9\nshow a\nend\n"
     for _ in range(500):
-        pxplanes.render(FIRST)
+        pxplanes.render(small)
     before = resource.getrusage(resource.RUSAGE_SELF).ru_maxrss
-    for at in range(10000):
-        pxplanes.render(FIRST)
-        pxplanes.run(FIRST, "tile %d 7" % (1 + at % 90) if at % 50 == 0 else "cost")
+    for at in range(100000):
+        pxplanes.render(small)
+        if at % 50 == 0:
+            pxplanes.run(FIRST, "tile %d 7" % (1 + at % 90))
+            pxplanes.render(FIRST, threads=2, progress=lambda share: None)
     assert resource.getrusage(resource.RUSAGE_SELF).ru_maxrss - before < 2048
 
 
-def test_interpreter_inside_of_a_program(monkeypatch):
-    monkeypatch.setattr(apart, "SHORT", -1)
-    due = pxplanes.run(FIRST, "cost")
-    monkeypatch.setattr(sys, "executable", "/bin/echo")
-    assert pxplanes.run(FIRST, "cost") == due
-    monkeypatch.setattr(apart, "is_interpreter", lambda: True)
-    with pytest.raises(pxplanes.NoLibrary, match="/bin/echo was begun .* no answer"):
-        pxplanes.run(FIRST, "cost")
+def test_pictures_in_the_callers_arrays():
+    numpy = pytest.importorskip("numpy")
+    due, colours = pxplanes.render(FIRST), pxplanes.colour(FIRST)
+    wide = pxplanes.tile(FIRST, 70, 40)
+    for threads, progress in (1, None), (3, lambda share: None):
+        depths = numpy.zeros((32, 2 * 48), numpy.float32)[:, ::2]
+        faces = numpy.zeros((34, 50), numpy.uint16)
+        given = pxplanes.render(FIRST, threads=threads, progress=progress, out=(depths[::-1], faces[1:33, 1:49]))
+        assert (depths[::-1] == due.depths).all() and (faces[1:33, 1:49] == due.faces).all()
+        assert faces.sum() == due.faces.sum()
+        assert numpy.shares_memory(given.depths, depths)
+    maps = numpy.zeros((40, 70)), numpy.zeros((40, 70), numpy.int64)
+    assert pxplanes.tile(FIRST, 70, 40, threads=2, out=maps) == wide
+    rgba = numpy.zeros((32, 48, 4), numpy.uint8)
+    assert pxplanes.colour(FIRST, out=rgba[::-1]).base is rgba
+    assert (rgba[::-1, :, :3] == colours).all() and (rgba[..., 3] == 255).all()
+    wrong = (pxplanes.render, maps), (pxplanes.render, (1, 2)), (pxplanes.colour, rgba[1:]), (pxplanes.colour, 5)
+    for call, out in wrong:
+        with pytest.raises(ValueError, match="out has .* shape"):
+            call(FIRST, out=out)
+    for call in pxplanes.render, lambda text, threads: pxplanes.tile(text, 9, 9, threads=threads):
+        with pytest.raises(ValueError, match="0 threads"):
+            call(FIRST, threads=0)
+
+
+class Box:
+    """A mesh of 12 by 6 by 3, exported as trimesh does it."""
+
+    def export(self, path):
+        corner = [(x, y, z) for x in (0, 12) for y in (0, 6) for z in (0, 3)]
+        with open(path, "w", encoding="ascii") as file:
+            file.write("solid box\n")
+            for a, b, c, d in (0, 1, 3, 2), (4, 6, 7, 5), (0, 4, 5, 1), (2, 3, 7, 6), (0, 2, 6, 4), (1, 5, 7, 3):
+                for triangle in (a, b, c), (a, c, d):
+                    file.write("facet normal 0 0 0\nouter loop\n%sendloop\nendfacet\n" % "".join(
+                        "vertex %d %d %d\n" % corner[at] for at in triangle))
+            file.write("endsolid\n")
+
+
+def test_first_use_by_a_user_of_trimesh(monkeypatch):
+    pytest.importorskip("numpy")
+    monkeypatch.syspath_prepend(os.path.join(support.TOP, "examples", "python"))
+    picture, notes = importlib.import_module("mesh_depths").picture_of(Box(), size=(48, 32), scale=2, view=(0, 0, 0))
+    shown = picture.depths[picture.faces > 0]
+    assert len(shown) == 25 * 13 and len(set(shown.tolist())) == 1 and "rounded" in notes[0]
 
 
 def test_pictures_and_states_are_values(tmp_path):

@@ -64,9 +64,9 @@ def check(tree, *words, **settings):
 
 def test_only_the_very_same_is_kept(tree):
     assert check(tree, FAIL="1") == (1, [])
-    assert check(tree) == (0, ["behind-build"]), "the half that passed is kept, and not the one that failed"
-    assert check(tree) == (0, ["beside-build", "behind-build"])
-    assert check(tree, "--anew") == (0, [])
+    assert check(tree) == (0, ["after-build"]), "the half that passed is kept, and not the one that failed"
+    assert check(tree) == (0, ["before-build", "after-build"])
+    assert check(tree, "--again") == (0, [])
     assert check(tree, PXPLANES_SETTING="1") == (0, [])
     (tree / "a_file").write_text("more\n")
     assert check(tree) == (0, []), "a file that is not committed"

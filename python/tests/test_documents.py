@@ -1,6 +1,7 @@
 """The documents: the runs that they show, the files, pictures and numbers that they quote, and their links."""
 import os
 import re
+import subprocess
 import tempfile
 
 import pytest
@@ -52,6 +53,19 @@ def test_runs(leaf, built):
 def test_check(name):
     wrong = next(documents.CHECKS[name](), None)
     assert wrong is None, wrong
+
+
+def test_site(tmp_path):
+    """The documents become a site: every link leads somewhere, the page and the pictures of its states are in it, and
+    the search knows the words."""
+    pytest.importorskip("myst_parser", reason="python3-myst-parser is not installed")
+    done = subprocess.run([os.path.join(TOP, "tools", "docs"), "--html", str(tmp_path)], capture_output=True, text=True, check=False)
+    assert done.returncode == 0, done.stderr
+    assert content(str(tmp_path), "page/pxplanes.html") == content(TOP, "page/pxplanes.html")
+    frames = re.findall(r'<iframe class="live" src="\.\./(page/pxplanes\.html)\?embed#[^"]+"[^>]*></iframe><img class="still" src="([^"]+)"',
+                        content(str(tmp_path), "docs/MACHINE.html").decode())
+    assert frames and all((tmp_path / "docs" / still).is_file() for _, still in frames)
+    assert b'"docs/GLOSSARY"' in content(str(tmp_path), "searchindex.js")
 
 
 @pytest.mark.parametrize("leaf, quoted", QUOTED)

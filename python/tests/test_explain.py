@@ -42,6 +42,12 @@ def test_two_or_three_slips():
     assert counts["refused"] == 60 and not wrong and counts["as meant"] >= 5
 
 
+def test_two_or_three_slips_that_are_mended_alone():
+    """Of 60 texts with two or three mistakes, each of which alone has one reading, at least 45 are mended as meant, and none otherwise."""
+    counts, wrong, _ = slips.counted(TEXTS, 60, 3, SEED, plain=True)
+    assert counts["refused"] == 60 and not wrong and counts["as meant"] >= 45
+
+
 @pytest.mark.parametrize("name", OTHERS)
 def test_other_files(name, tmp_path):
     """What is no scene is declined, and stays as it is."""

@@ -1,7 +1,9 @@
 // Runs a whole board, rtl/boards/icebreaker.v as Verilator translates it: its serial port is standard input and output, and at the end of
 // the input the picture that a monitor would show goes to a file, P6, each dot twice as it is twice as wide as a line is high.
 //
-// Use: run_board CLOCKS_A_BIT PICTURE
+// Use: run_board CLOCKS_A_BIT PICTURE [FILM]
+//
+// FILM takes each frame that differs from the one before: its number, 4 bytes, and its dots, 2 bytes each, as this machine stores them.
 #include <unistd.h>
 
 #include <cstdint>
@@ -19,7 +21,7 @@ constexpr int kLeft = 46 + 23, kTop = 2 + 33, kWide = 305, kHigh = 480;
 
 class Board {
  public:
-  explicit Board(int clocks_a_bit) : clocks_a_bit_(clocks_a_bit) {
+  Board(int clocks_a_bit, FILE* film) : clocks_a_bit_(clocks_a_bit), film_(film) {
     top_.receives = 1;
     top_.reset_n = 1;
   }
@@ -45,7 +47,7 @@ class Board {
   }
 
   bool show(const char* path) {
-    for (int begun = frames_; frames_ < begun + 2;) clock();
+    for (const uint32_t begun = frames_; frames_ < begun + 2;) clock();
     FILE* file = fopen(path, "wb");
     if (!file) return false;
     fprintf(file, "P6\n%d %d\n255\n", 2 * kWide, kHigh);
@@ -86,6 +88,11 @@ class Board {
     if (had_vsync_ && !top_.vsync) {
       y_ = 0;
       ++frames_;
+      if (film_ && shown_ != filmed_) {
+        filmed_ = shown_;
+        fwrite(&frames_, 4, 1, film_);
+        fwrite(filmed_.data(), 2, filmed_.size(), film_);
+      }
     }
     had_hsync_ = top_.hsync;
     had_vsync_ = top_.vsync;
@@ -97,20 +104,25 @@ class Board {
   Vicebreaker top_;
   const int clocks_a_bit_;
   std::deque<uint8_t> waiting_;
-  std::vector<uint16_t> shown_ = std::vector<uint16_t>(kWide * kHigh);
-  int shifted_ = 0, out_left_ = 0, heard_ = 0, in_left_ = 0, x_ = 0, y_ = 0, frames_ = 0;
+  std::vector<uint16_t> shown_ = std::vector<uint16_t>(kWide * kHigh), filmed_;
+  FILE* const film_;
+  int shifted_ = 0, out_left_ = 0, heard_ = 0, in_left_ = 0, x_ = 0, y_ = 0;
+  uint32_t frames_ = 0;
   bool had_hsync_ = true, had_vsync_ = true;
 };
 
 }  // namespace
 
-int main(int, char** words) {
-  Board board(atoi(words[1]));
+int main(int count_of_words, char** words) {
+  FILE* film = count_of_words > 3 ? fopen(words[3], "wb") : nullptr;
+  if (count_of_words > 3 && !film) return 1;
+  Board board(atoi(words[1]), film);
   uint8_t bytes[4096];
   board.settle();
   for (ssize_t count; (count = read(0, bytes, sizeof bytes)) > 0;) {
     board.receive(bytes, count);
     board.settle();
   }
-  return board.show(words[2]) ? 0 : 1;
+  const bool is_shown = board.show(words[2]);
+  return is_shown && (!film || fclose(film) == 0) ? 0 : 1;
 }

@@ -2,9 +2,11 @@
 import os
 import re
 import select
+import struct
 import subprocess
 import termios
 import tty
+import zlib
 from typing import Any, Iterable, Iterator
 
 import numpy as np
@@ -17,7 +19,12 @@ from pxplanes.image import maps, shades, show
 BITS = 72
 OPERATIONS = proving.OPERATIONS + ("scan", "paint")
 FORMED = ("keep-sign", "keep-at-most", "load-linear", "add-linear")
-SHOWN_BITS, TRIES, SECONDS, CLOCKS_A_BIT = 7, 5, 1.0, 8
+SHOWN_BITS, TRIES, SECONDS = 7, 5, 1.0
+CLOCKS_A_BIT, CLOCKS_A_BIT_OF_BOARDS = 8, 104
+# What rtl/bench/run_board.cpp writes of each frame; a monitor shows 60 in a second, and the film its last one for two.
+FRAME = np.dtype([("number", "=u4"), ("dots", "=u2", (480, 305))])
+FRAMES_A_SECOND, LAST_FRAMES = 60, 120
+HEAD, END = 33, 12  # bytes of a PNG file before its pixels and after them
 MEMORY = re.compile(rb"^pixel (\d+) (\d+) m ([01]+) e ([01])$", re.M)
 SOURCES = list(map(ports.file_of, ("board", "video", "chip", "sequencer", "serial", "word", "tree", "node")))
 # A board's FPGA: how yosys, nextpnr and the packer are asked, and its array if no other size is said.
@@ -124,12 +131,14 @@ class Port(Link):
 
 
 class Simulated(Link):
-    """A whole board in Verilator. `close` gives what its monitor shows."""
+    """A whole board in Verilator. `close` gives what its monitor shows. A film gets the frames of each board, with the
+    serial line as slow as that of a real board."""
 
-    def __init__(self, path: str, folder: str):
-        self.picture = os.path.join(folder, "picture.ppm")
-        self.process = subprocess.Popen([path, str(CLOCKS_A_BIT), self.picture], stdin=subprocess.PIPE,
-                                        stdout=subprocess.PIPE)
+    def __init__(self, path: str, folder: str, film: "list[tuple[Pixels, int]] | None" = None):
+        self.picture, self.film, self.frames = os.path.join(folder, "picture.ppm"), film, os.path.join(folder, "film")
+        speed = CLOCKS_A_BIT if film is None else CLOCKS_A_BIT_OF_BOARDS
+        words = [path, str(speed), self.picture] + [self.frames] * (film is not None)
+        self.process = subprocess.Popen(words, stdin=subprocess.PIPE, stdout=subprocess.PIPE)
         assert self.process.stdin and self.process.stdout
         super().__init__(self.process.stdout.fileno(), self.process.stdin.fileno())
 
@@ -139,14 +148,35 @@ class Simulated(Link):
         if self.process.wait() != 0:
             raise Bad("the simulation ended before its time")
         self.process.stdout.close()
+        if self.film is not None:
+            frames = np.fromfile(self.frames, FRAME)
+            lasts = np.append(np.diff(frames["number"]), LAST_FRAMES)
+            dots = frames["dots"].repeat(2, 2)
+            colours = 17 * np.stack([dots >> 8, dots >> 4 & 15, dots & 15], -1).astype(np.uint8)
+            self.film += zip(colours, map(int, lasts))
         with open(self.picture, "rb") as file:
             return colours_of(maps.of_netpbm(file.read())[0].numbers)
 
 
-def built(nx: int, ny: int) -> str:
+def animated(frames: list[tuple[Pixels, int]]) -> bytes:
+    """An animated PNG of pictures of one size, each with how many 60ths of a second it is shown. What shows no
+    animation shows the last of them."""
+    def chunk(name: bytes, body: bytes) -> bytes:
+        return struct.pack(">I", len(body)) + name + body + struct.pack(">I", zlib.crc32(name + body))
+
+    still, moving = maps.png(frames[-1][0]), b""
+    for at, (picture, shown) in enumerate(frames):
+        lines = zlib.compress(b"".join(b"\0" + row.tobytes() for row in picture), 9)
+        control = struct.pack(">5I2H2B", 2 * at, picture.shape[1], picture.shape[0], 0, 0, shown, FRAMES_A_SECOND, 0, 0)
+        moving += chunk(b"fcTL", control) + chunk(b"fdAT", struct.pack(">I", 2 * at + 1) + lines)
+    return still[:HEAD] + chunk(b"acTL", struct.pack(">II", len(frames), 0)) + still[HEAD:-END] + moving + still[-END:]
+
+
+def built(nx: int, ny: int, clocks_a_bit: int = CLOCKS_A_BIT) -> str:
     """The program that runs a board of this size; it is made if it is not kept."""
-    words = ["-GNX=%d" % nx, "-GNY=%d" % ny, "-GCLOCKS_A_BIT=%d" % CLOCKS_A_BIT]
-    return simulation.kept("icebreaker", words, [ports.file_of("icebreaker")] + SOURCES, simulation.bench("run_board.cpp"))
+    words = ["-GNX=%d" % nx, "-GNY=%d" % ny, "-GCLOCKS_A_BIT=%d" % clocks_a_bit]
+    sources = [ports.file_of("icebreaker")] + SOURCES
+    return simulation.kept("icebreaker", words, sources, simulation.bench("run_board.cpp"))
 
 
 class Drawing:

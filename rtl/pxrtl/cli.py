@@ -7,11 +7,12 @@ import sys
 import tempfile
 from typing import Callable, Iterator
 
-from pxrtl import against, directed, marking, ports, programs, proving, simulation, sources
+from pxrtl import against, directed, marking, ports, programs, proving, reading, simulation, sources, structure, yosys
 from pxrtl.shared import RTL, Bad, ends, frame
 
 BITS, RANDOM, FIELD, FEW = 72, 1000, 8, 4
 SIZES = ((1, 1), (1, 2), (2, 2), (3, 2)) + tuple((nx, 1) for nx in range(3, 10)) + tuple((1, ny) for ny in range(3, 10))
+SKELETONS = ("pixel", "node", "tree", "column", "sequencer")
 STATUS = "Ends with 0 if all is right (prove: for every size that docs/PROMISES.md names), 1 if something is wrong,\n" \
     "3 if something is not decided or not asked, 2 for trouble."
 
@@ -45,18 +46,29 @@ def sizes_for(asked) -> list[tuple[int, int]]:
 
 
 def directed_runs(asked, files, said, folder) -> Iterator[tuple]:
-    """Directed runs of single modules: a title, the rows of its table, the faults, and the rows in which nothing moved."""
+    """Directed runs of single modules: a title, the rows of its table, the faults, and the rows that were not seen."""
     run = said.simulator, said.seconds
     if "pixel" in asked:
         clocks, faults, still = directed.pixel(folder, files, *run, RANDOM, said.seed, said.waves)
         yield "one pixel, %d clocks, each act at each place" % clocks, directed.ROWS, faults, still
     if "node" in asked:
         clocks, faults = directed.node(folder, files, *run, said.seed, said.waves)
-        rows = ["%s %s" % (kind, move) for kind in ("even", "odd") for move in directed.MOVES]
-        yield "both nodes, %d clocks" % clocks, rows, faults, ()
+        yield "both nodes, %d clocks" % clocks, directed.NODE_ROWS, faults, directed.unseen(directed.NODE_ROWS, faults)
     if "tree" in asked:
         levels, faults = directed.tree(folder, files, *run, said.seed, said.waves)
-        yield ("a tree of %d levels" if faults else "trees of 1 to %d levels") % levels, directed.MOVES, faults, ()
+        title = ("a tree of %d levels" if faults else "trees of 1 to %d levels") % levels
+        yield title, directed.MOVES, faults, directed.unseen(directed.MOVES, faults)
+
+
+def unfit(files, folder) -> list[str]:
+    """Why `prove` would not even ask about a pixel, as for a latch in it; nothing if there is no Yosys."""
+    try:
+        yosys.alone(folder, "pixel", [files["pixel"]], ports.parameters("pixel"))
+    except structure.Refused as why:
+        return [str(why)]
+    except Bad:
+        pass
+    return []
 
 
 def check_modules(files, given, said, folder) -> int:
@@ -64,14 +76,14 @@ def check_modules(files, given, said, folder) -> int:
     asked = set(given) or set(simulation.MODULES)
     for title, rows, faults, still in directed_runs(asked, files, said, folder):
         if faults:
-            latches = sources.latches(files["pixel"], "pixel", folder) if rows == directed.ROWS else []
             print("\n".join([title + ":", *row_lines(rows, faults, still), "waveforms of the clocks around the first, "
-                             "found and expected: %s" % said.waves, *latches]))
+                             "found and expected: %s" % said.waves] + unfit(files, folder) * ("pixel" in given)))
             return proving.WRONG
         print("%s: nothing differs" % title)
     count, sizes = said.random or RANDOM, sizes_for(asked)
     runs = itertools.chain(
-        [("%d random microinstructions on 4 by 2 pixels" % count, against.at_random(count, said.seed, BITS), 2, 1, BITS, 1)],
+        [("%d random microinstructions on 4 by 2 pixels" % count, against.at_random(count, said.seed, BITS), 2, 1, BITS,
+          1)],
         (("sums on %d by %d pixels" % (1 << nx, 1 << ny), against.sums(nx, ny, said.seed, FIELD), nx, ny, FIELD, 4)
          for nx, ny in sizes))
     for title, made, nx, ny, bits, every in runs:
@@ -89,7 +101,7 @@ def check_modules(files, given, said, folder) -> int:
 
 def noted(given) -> int:
     """Prints what tools read differently in the given files: then a run says nothing about what Yosys makes of them."""
-    notes = ["%s: not decided: %s" % (module, note) for module, path in given.items() for note in sources.notes(path)]
+    notes = ["%s: not decided: %s" % (module, note) for module, path in given.items() for note in reading.notes(path)]
     print("".join(note + "\n" for note in notes), end="")
     return proving.UNDECIDED if notes else proving.PROVED
 
@@ -102,8 +114,8 @@ def check(said) -> int:
         if said.micros:
             nx, ny, made = against.read_micros(ends.content(said.micros))
             lines = against.check_micros(made, nx, ny, BITS, files, said, folder)
-            print("\n".join(lines or ["%s: %d microinstructions on %d by %d pixels, compared after each: nothing differs" % (
-                said.micros, len(made), 1 << nx, 1 << ny)]))
+            print("\n".join(lines or ["%s: %d microinstructions on %d by %d pixels, compared after each: "
+                                      "nothing differs" % (said.micros, len(made), 1 << nx, 1 << ny)]))
             return int(bool(lines))
         if not said.texts:
             return check_modules(files, given, said, folder)
@@ -154,9 +166,18 @@ def drawings(said, links, named: str) -> int:
 
 
 def simulate_board(said) -> int:
+    film = [] if said.film else None
     with tempfile.TemporaryDirectory(prefix="px-rtl-") as folder:
-        return drawings(said, lambda board: iter(lambda: board.Simulated(board.built(*said.size), folder), None),
-                        "a simulated board")
+        def link(board):
+            speed = [] if film is None else [board.CLOCKS_A_BIT_OF_BOARDS]
+            return board.Simulated(board.built(*said.size, *speed), folder, film)
+
+        status = drawings(said, lambda board: iter(lambda: link(board), None), "a simulated board")
+    if film:
+        from pxrtl import board
+        with open(said.film, "wb") as file:
+            file.write(board.animated(film))
+    return status
 
 
 def send(said) -> int:
@@ -199,7 +220,13 @@ def gates(said) -> int:
 
 
 def marks(said) -> int:
-    return marking.marked(said.folder, said.simulator, said.seconds, said.prove, ends.jobs(said.jobs), said.page)
+    return marking.marked(said.folder, said.module, said.simulator, said.seconds, said.prove, ends.jobs(said.jobs),
+                          said.page)
+
+
+def skeleton(said) -> int:
+    print(ports.skeleton(said.module), end="")
+    return proving.PROVED
 
 
 def number_from(least: int) -> Callable[[str], int]:
@@ -225,7 +252,8 @@ def reader() -> ends.Words:
         return part
 
     checking = command("check",
-                       "run modules, scenes or listings in a simulator, and compare them with the tables or the program", check)
+                       "run modules, scenes or listings in a simulator, and compare them with tables or the program",
+                       check)
     checking.add_argument("texts", nargs="*", metavar="TEXT", help="a scene or a listing; - is standard input")
     checking.add_argument("--clocks", type=number_from(1), default=sys.maxsize, metavar="N",
                           help="run only the first N microinstructions")
@@ -243,19 +271,25 @@ def reader() -> ends.Words:
         proofs.add_argument("--" + module, metavar="FILE", help="prove this file instead of rtl/chip/%s.v" % module)
     proofs.add_argument("--levels", type=int, choices=range(1, proving.LEVELS + 1), default=proving.SMALL, metavar="N",
                         help="the largest tree that is proved state by state, 1 to %d levels" % proving.LEVELS)
-    grading = command("marks", "check each file of a folder as a pixel, and print a table of files by acts", marks)
+    beginning = command("skeleton", "print a module to be filled in: its ports are ours, and it does nothing yet",
+                        skeleton)
+    beginning.add_argument("module", choices=SKELETONS, help="the module")
+    grading = command("marks", "check each file of a folder, and print a table of files by acts or moves", marks)
+    grading.add_argument("--module", choices=SKELETONS, default="pixel", help="the module that the files have")
     grading.add_argument("folder", metavar="FOLDER", help="the folder of the files (%s)" % ", ".join(sources.KINDS))
     grading.add_argument("--page", metavar="FILE", help="write the table as an HTML page too")
     grading.add_argument("--prove", action="store_true", help="prove each file too")
     grading.add_argument("--jobs", metavar="N", help="files that are looked at side by side")
     drawing = command("draw", "print the picture that the array holds after a scene's last clock", draw)
     drawing.add_argument("scene", metavar="SCENE")
-    simulated = command("simulate-board", "draw scenes or listings on a whole board in Verilator, and compare what comes "
-                        "back with `play` and `render`", simulate_board)
+    simulated = command("simulate-board", "draw scenes or listings on a whole board in Verilator, and compare what "
+                        "comes back with `play` and `render`", simulate_board)
     sending = command("send", "draw scenes or listings on a board at a serial port, and compare what comes back", send)
     sending.add_argument("--port", required=True, metavar="PORT", help="the serial port, as /dev/ttyUSB1")
+    simulated.add_argument("--film", metavar="PICTURE", help="write what the monitor shows as an animated PNG")
     for part in (simulated, sending):
-        part.add_argument("texts", nargs="+", metavar="TEXT", help="a scene, drawn in windows if it is larger, or a listing")
+        part.add_argument("texts", nargs="+", metavar="TEXT",
+                          help="a scene, drawn in windows if it is larger, or a listing")
         part.add_argument("-o", "--output", metavar="PICTURE", help="write the picture as PNG")
         part.add_argument("--size", type=int, choices=range(1, 6), nargs=2, default=(3, 4), metavar=("NX", "NY"),
                           help="the board has 2^NX by 2^NY pixels")

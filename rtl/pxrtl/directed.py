@@ -14,7 +14,8 @@ BITS, AROUND, WIDE = 72, 12, 8
 BETWEEN = "no clock"
 ROWS = micros.ACTS + ("open",)
 MOVES = ("hold", "clear", "feed")
-# What an act reads or may spoil of a pixel: e(nable), c(arry), s(tored) bit, l(atch), and its inputs t(ree) and v(alue).
+NODE_ROWS = tuple("%s %s" % (kind, move) for kind in ("even", "odd") for move in MOVES)
+# What an act reads or may spoil of a pixel: e(nable), c(arry), s(tored) bit, l(atch), inputs t(ree), v(alue).
 READS = {"nop": "ecst", "enable-all": "ec", "enable-carry": "ecv", "enable-tree": "etv", "enable-bit": "esv",
          "set-carry": "ecv", "fetch": "es", "store-tree": "et", "store-latch": "el", "store-const": "ev",
          "toggle": "es", "carry-tree": "ects", "carry-latch": "ecls", "add-tree": "ects"}
@@ -149,6 +150,12 @@ def fault_of(match, told):
         "it comes one clock late" if late == "1" else "as before" if found == before else ""
     text = "`%s` with %s: %s%s" % (step.text(), ", ".join(seen), "; ".join(wrong_of(found, due)), when and "; " + when)
     return Fault(ROWS[int(row)], int(clock), text)
+
+
+def unseen(rows, faults):
+    """The rows of a node or a tree that were not seen, since a clear does not bring it into a known state."""
+    kinds = [fault.row[:-len("clear")] for fault in faults if fault.row.endswith("clear")]
+    return [row for row in rows if any(map(row.startswith, kinds)) and all(row != fault.row for fault in faults)]
 
 
 def shown(bench, faults, waves):

@@ -1,19 +1,22 @@
-"""One table of a class's pixels: files by acts, as text and as a page. Each row is printed as its file ends."""
+"""One table of a class's files of a module: files by acts or moves, as text and as a page. Each row is printed as its
+file ends."""
 import concurrent.futures
 import html
 import os
 import tempfile
 
-from pxrtl import directed, ports, programs, proving, simulation, sources
+from pxrtl import agreeing, directed, ports, programs, proving, reading, sources
 from pxrtl.shared import Bad
 
 SHORT = {"enable-all": "enA", "enable-carry": "enC", "enable-tree": "enT", "enable-bit": "enB", "set-carry": "set",
          "fetch": "fet", "store-tree": "stT", "store-latch": "stL", "store-const": "stC", "toggle": "tog",
          "carry-tree": "caT", "carry-latch": "caL", "add-tree": "add", "nop": "nop", "open": "opn"}
+WHOLE = "as-a-whole"
+ROWS = {"pixel": directed.ROWS, "node": directed.NODE_ROWS, "tree": directed.MOVES}
 SIGNS = {"right": ".", "wrong": "X", "unseen": "?"}
 SEED = 1
 HEAD = """<!doctype html>
-<html lang="en"><meta charset="utf-8"><title>Pixels of %(folder)s</title>
+<html lang="en"><meta charset="utf-8"><title>%(module)s of %(folder)s</title>
 <style>
   body { font: 16px/1.5 system-ui, sans-serif; margin: 2rem auto; max-width: 70rem; padding: 0 1rem; color: #111;
   background: #fff }
@@ -24,10 +27,10 @@ HEAD = """<!doctype html>
   color: #555 }
   dt { font-weight: bold; margin-top: .8rem } dd { margin-left: 1.5rem } code { font-size: .9em }
 </style>
-<h1>Pixels of %(folder)s</h1>
-<p>%(right)d of %(all)d are right. A row is a file, a column an act of docs/MACHINE.md; the first difference of each
-act stands below.
-An act is unseen where it had nothing to change in any state that the pixel reached.</p>
+<h1>%(module)s of %(folder)s</h1>
+<p>%(right)d of %(all)d are right. A row is a file, a column an act or a move of docs/MACHINE.md; the first
+difference of each is below.
+An act is unseen if it had nothing to change in any state that the pixel reached.</p>
 """
 
 
@@ -81,42 +84,53 @@ class Mark:
                                    if line.status != proving.PROVED]
 
 
-def marked_file(path, simulator, seconds, is_asked):
+def ran(module, folder, files, simulator, seconds):
+    """The faults of a module in a simulator, and the rows in which nothing had to change."""
+    if module == "pixel":
+        return directed.pixel(folder, files, simulator, seconds, 1000, SEED)[1:]
+    if module in ROWS:
+        _, faults = (directed.node if module == "node" else directed.tree)(folder, files, simulator, seconds, SEED)
+        return faults, directed.unseen(ROWS[module], faults)
+    why = agreeing.RUNS[module](folder, files, simulator or "iverilog", seconds)
+    return [directed.Fault(WHOLE, 0, why)] * bool(why), ()
+
+
+def marked_file(module, path, simulator, seconds, is_asked):
     """A file that is run, and proved if that is asked for."""
     name, proof = os.path.basename(path), None
     with tempfile.TemporaryDirectory(prefix="px-rtl-") as folder:
         try:
-            files = {module: ports.file_of(module) for module in simulation.MODULES}
-            files["pixel"] = sources.ready(path, "pixel", folder)
-            _, faults, still = directed.pixel(folder, files, simulator, seconds, 1000, SEED)
+            files = {each: ports.file_of(each) for each in ports.MODULES}
+            files[module] = sources.ready(path, module, folder)
+            faults, still = ran(module, folder, files, simulator, seconds)
             if is_asked:
-                proof = list(proving.proved("pixel", files, seconds, only=simulator or "iverilog"))
+                proof = list(proving.proved(module, files, seconds, only=simulator or "iverilog"))
         except (Bad, OSError) as trouble:
             return Mark(name, [], trouble=str(trouble).replace(path, name))
-        return Mark(name, faults, still, None, proof, () if is_asked else sources.notes(files["pixel"]))
+        return Mark(name, faults, still, None, proof, () if is_asked else reading.notes(files[module]))
 
 
-def table_row(mark, wide, is_asked):
+def table_row(mark, rows, wide, is_asked):
     """The row of a file as text."""
     if mark.trouble:
         return "%-*s %s" % (wide, mark.name, mark.trouble)
-    cells = " ".join(" %s " % SIGNS[mark.of(row)] for row in directed.ROWS)
+    cells = " ".join(SIGNS[mark.of(row)].center(len(SHORT.get(row, row))) for row in rows)
     between = "  and between the clocks" if directed.BETWEEN in mark.faults else ""
     noted = "".join("  not decided: " + note for note in mark.notes)
     return ("%-*s %s%s%s%s" % (wide, mark.name, cells, between, "  " + mark.proved if is_asked else "", noted)).rstrip()
 
 
-def page_rows(found, is_asked):
+def page_rows(found, rows, is_asked):
     yield "<table><tr><th>file</th>%s%s</tr>" % ("".join("<th>%s</th>" % row.replace("-", "-<wbr>")
-                                                         for row in directed.ROWS),
+                                                         for row in rows),
                                                  "<th>proved</th>" if is_asked else "")
     for mark in found:
         name = html.escape(mark.name)
         link = name if mark.is_right else '<a href="#%s">%s</a>' % (name, name)
         if mark.trouble:
-            cells = '<td class="none" colspan="%d">not run</td>' % (len(directed.ROWS) + is_asked)
+            cells = '<td class="none" colspan="%d">not run</td>' % (len(rows) + is_asked)
         else:
-            cells = "".join('<td class="%s">%s</td>' % (mark.of(row), mark.of(row)) for row in directed.ROWS)
+            cells = "".join('<td class="%s">%s</td>' % (mark.of(row), mark.of(row)) for row in rows)
             proved = ("wrong", "no") if mark.not_proved else ("right", "yes")
             cells += '<td class="%s">%s</td>' % proved if is_asked else ""
         yield "<tr><td>%s</td>%s</tr>" % (link, cells)
@@ -128,26 +142,29 @@ def page_rows(found, is_asked):
     yield "</dl>\n</html>"
 
 
-def marked(folder, simulator, seconds, is_asked, jobs, page):
+def marked(folder, module, simulator, seconds, is_asked, jobs, page):
     """Prints the table, a row as each file ends, writes the page if there is to be one, and gives the status."""
     names = sorted(name for name in os.listdir(folder) if name.endswith(sources.KINDS))
     if not names:
         raise Bad("%s: it has no file in Verilog (.v, .sv) or VHDL (.vhd)" % folder)
     if is_asked:
         programs.needed("yosys")
+    rows = ROWS.get(module, (WHOLE,))
     wide, found = max([4] + [len(name) for name in names]), []
-    print("%-*s %s%s" % (wide, "file", " ".join(SHORT[row] for row in directed.ROWS), "  proved" if is_asked else ""),
+    print("%-*s %s%s" % (wide, "file", " ".join(SHORT.get(row, row) for row in rows), "  proved" if is_asked else ""),
           flush=True)
     with concurrent.futures.ThreadPoolExecutor(jobs) as pool:
-        for mark in pool.map(lambda name: marked_file(os.path.join(folder, name), simulator, seconds, is_asked), names):
+        paths = [os.path.join(folder, name) for name in names]
+        for mark in pool.map(lambda path: marked_file(module, path, simulator, seconds, is_asked), paths):
             found.append(mark)
-            print(table_row(mark, wide, is_asked), flush=True)
+            print(table_row(mark, rows, wide, is_asked), flush=True)
     if any(mark.still for mark in found):
-        print("? nothing had to change, in the states that the pixel reached")
+        print("? nothing had to change, in the states that were reached")
     print("%d files, %d right" % (len(found), sum(mark.is_right for mark in found)))
     if page:
         head = HEAD % {"folder": html.escape(os.path.basename(os.path.abspath(folder))), "all": len(found),
+                       "module": "Files with a %s" % module,
                        "right": sum(mark.is_right for mark in found)}
         with open(page, "w", encoding="utf-8") as file:
-            file.write(head + "\n".join(page_rows(found, is_asked)) + "\n")
+            file.write(head + "\n".join(page_rows(found, rows, is_asked)) + "\n")
     return proving.worst(proving.WRONG if mark.trouble else mark.status for mark in found)

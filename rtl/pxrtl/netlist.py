@@ -11,7 +11,8 @@ class Wrong(Exception):
 
 
 def number(text):
-    return int(text, 2)
+    """A parameter, which may be a text too."""
+    return int(text, 2) if set(text) <= {"0", "1"} else int.from_bytes(text.encode(), "big")
 
 
 def negated(value):
@@ -69,10 +70,10 @@ class Netlist:
         return bits
 
     def value(self, bit, given, seen=None):
-        """A net where some are 0 or 1: 0, 1, or a name for what it hangs on."""
+        """A net where some are 0 or 1: 0, 1, or a name for what it hangs on. No undefined bit is another."""
         seen = {} if seen is None else seen
-        if bit in ("0", "1"):
-            return bit
+        if isinstance(bit, str):
+            return bit if bit in ("0", "1") else object()
         if bit in given:
             return given[bit]
         if bit not in seen:
@@ -87,6 +88,8 @@ class Netlist:
         cell = self.cells[name]
         take = lambda port: [self.value(it, given, seen) for it in cell["connections"][port]]
         kind, unknown = cell["type"], ("net", bit)
+        if any(number(cell["parameters"].get(name, "0")) for name in ("A_SIGNED", "B_SIGNED")):
+            return unknown
         one = lambda port: (take(port) + ["0"] * (at + 1))[at]
         if kind in ("$not", "$_NOT_"):
             return negated(one("A"))
@@ -115,7 +118,7 @@ class Netlist:
                 return "1" if differ == (kind == "$ne") else "0"
         if kind in ("$shiftx", "$shr"):
             shift = take("B")
-            if all(it in ("0", "1") for it in shift) and not number(cell["parameters"].get("B_SIGNED", "0")):
+            if all(it in ("0", "1") for it in shift):
                 a, from_ = take("A"), sum(1 << k for k, it in enumerate(shift) if it == "1") + at
                 return a[from_] if from_ < len(a) else "0" if kind == "$shr" else unknown
         return unknown

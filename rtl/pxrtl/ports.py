@@ -73,6 +73,18 @@ def head(name: str, module: str, values: dict[str, int]) -> str:
                                     declared(module))
 
 
+def skeleton(module: str) -> str:
+    """A module with what ours says of itself and its ports, and nothing inside; of a pixel four acts stand."""
+    if module == "pixel":
+        with open(os.path.join(RTL, "pixel_student.v"), encoding="utf-8") as file:
+            return file.read()
+    with open(file_of(module), encoding="utf-8") as file:
+        text = file.read()
+    head = HEAD.search(text)
+    assert head
+    return text[:head.end()] + "\n  // What it does is yours to write.\n\nendmodule\n"
+
+
 def stub(module: str) -> str:
     """A closed box with the ports of a module."""
     return "(* blackbox *) %s endmodule\n" % head(module, module, parameters(module))

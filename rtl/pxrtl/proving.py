@@ -9,7 +9,7 @@ import re
 import tempfile
 from typing import Callable, Iterable, Iterator, NamedTuple
 
-from pxrtl import agreeing, netlist, ports, sources, structure, yosys
+from pxrtl import agreeing, netlist, ports, reading, sources, structure, yosys
 from pxrtl.shared import micros
 from pxrtl.yosys import Model
 
@@ -25,9 +25,9 @@ CLAIM = "one.always_holds"
 SHOWN_BY_PORTS = ("memory", "enable", "carry", "latch", "out", "outs", "carries", "stored", "enables")
 UNSURE = "not decided: a state was assumed that may not be reachable"
 VACUOUS = "not decided: a table that is wrong in this row is not refused either"
-CURE = ("    the hidden registers may depend on each other in a way that this tool does not know. Say in the module what\n"
-        "    always holds of them, as in `wire always_holds = (twin == carry);`: that is proved too, from `%s` on, and\n"
-        "    then used")
+CURE = ("    the hidden registers may depend on each other in a way that this tool does not know. Say in the module\n"
+        "    what always holds of them, as in `wire always_holds = (twin == carry);`: that is proved too, from `%s`\n"
+        "    on, and then used")
 Files = dict[str, str]
 
 
@@ -561,7 +561,7 @@ PROOFS: dict[str, Callable[..., Iterator[Line]]] = {
 def proved(module: str, files: Files, seconds: int, only: str | None = None, **how: int) -> Iterator[Line]:
     """The lines of a module's proof, and then whether simulators agree, or only one. A file that tools read
     differently is not called right."""
-    notes = [note for path in sorted(set(files.values())) for note in sources.notes(path)]
+    notes = [note for path in sorted(set(files.values())) for note in reading.notes(path)]
     lines = []
     with tempfile.TemporaryDirectory(prefix="px-rtl-") as folder:
         for line in PROOFS[module](folder, files, seconds, **how):

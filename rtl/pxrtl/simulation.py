@@ -102,7 +102,8 @@ class Bench:
 
     def __init__(self, folder, files, nx, ny, bits, made_, simulator=None, seconds=SECONDS, has_waves=True):
         self.folder, self.nx, self.ny, self.bits, self.micros, self.clocks = folder, nx, ny, bits, made_, len(made_)
-        self.pixels, self.ports_alone = 1 << nx + ny, files["array"] != ports.file_of("array") or files["column"] != ports.file_of("column")
+        self.pixels = 1 << nx + ny
+        self.ports_alone = any(files[module] != ports.file_of(module) for module in ("array", "column"))
         self.write("program.hex", ["%05x" % micro.code() for micro in made_])
         self.write("texts.hex", [in_hex(micro.text(), 40) for micro in made_] + [in_hex("", 40)])
         values = {"NX": nx, "NY": ny, "N": bits, "CLOCKS": len(made_)}

@@ -12,6 +12,11 @@ ASSUMPTIONS = {"$assume", "$fair", "$anyconst", "$anyseq", "$allconst", "$allseq
 STORES = re.compile(r"^\$_?(ad|ald|dl|adl|s|ds|d|sd)\w*(ff|latch|sr)\w*$|^\$(sr|ff)$", re.I)
 
 
+WIRE = re.compile(r"^  wire width (\d+) .*?([\\$]\S+)$", re.M)
+CONNECTED = re.compile(r"^  connect (\{.*?\}|[\\$]\S+(?: \[[\d:]+\])?) (.*)$", re.M)
+PART = re.compile(r"(?<!\S)(?:\d+'([01xzm-]+)|([\\$]\S+)(?: \[(\d+)(?::(\d+))?\])?|(-?\d+))(?!\S)")
+
+
 class Refused(Exception):
     """Why a module is not asked at all, in words."""
 
@@ -78,6 +83,35 @@ def refuse_double_drivers(design: dict[str, Any], drivers: dict[Any, list[dict[s
         elif len(cells) > 1:
             raise Refused("%s is driven twice, by %s" % (
                 names.get(bit, "a net"), " and by ".join(kind_of(cell) + line_of(cell) for cell in cells[:2])))
+
+
+def bits_of(text: str, widths: dict[str, int]) -> list[str]:
+    """The bits of a signal as Yosys writes it in RTLIL, highest first: a name with a number, or a constant."""
+    found: list[str] = []
+    for constant, name, high, low, number in PART.findall(text):
+        first = int(high or widths.get(name, 1) - 1)
+        found += constant or "{:032b}".format(int(number or 0) & 0xffffffff) if not name else [
+            "%s %d" % (name, at) for at in range(first, int(low or (high or 0)) - 1, -1)]
+    return found
+
+
+def refuse_two_constants(text: str) -> None:
+    """No net is joined to 0 and to 1, in a module as Yosys writes it in RTLIL: no cell would show that."""
+    widths = {name: int(width) for width, name in WIRE.findall(text)}
+    joined: dict[str, str] = {}
+
+    def root(bit: str) -> str:
+        while bit in joined:
+            bit = joined[bit]
+        return bit
+
+    for target, source in CONNECTED.findall(text):
+        for bit, other in zip(bits_of(target, widths), bits_of(source, widths)):
+            ends = sorted({root(bit), root(other)}, key=lambda it: it in ("0", "1"))
+            if ends == ["0", "1"] or ends == ["1", "0"]:
+                raise Refused("%s is driven by the constants 0 and 1" % bit.split()[0].lstrip("\\"))
+            if len(ends) == 2:
+                joined[ends[0]] = ends[1]
 
 
 def refuse(design: dict[str, Any], module: str, values: dict[str, int]) -> None:

@@ -48,9 +48,8 @@ def run(folder: str, script: str, seconds: int | None = None) -> str:
 
 
 def read_of(sources: Iterable[str]) -> str:
-    """The lines of a script that read these files."""
-    return "".join("read_verilog %s-I%s %s\n" % ("-sv " if path.endswith(".sv") else "", os.path.dirname(path), path)
-                   for path in sources)
+    """The lines of a script that read these files. Yosys looks for what a file includes in the folder of that file."""
+    return "".join("read_verilog %s\"%s\"\n" % ("-sv " * path.endswith(".sv"), path) for path in sources)
 
 
 def top_of(folder: str, leaf: str) -> dict[str, Any]:
@@ -81,6 +80,8 @@ def alone(folder: str, module: str, sources: list[str], values: dict[str, int]) 
     except Bad as why:
         raise Bad("%s%s" % (why, programs.hint(list(sources))))
     structure.refuse(top_of(folder, "alone.json"), module, values)
+    with open(os.path.join(folder, "alone.il"), encoding="utf-8") as file:
+        structure.refuse_two_constants(file.read())
     design = top_of(folder, "mapped.json")
     if CONFLICT.search(printed):
         told = re.search(r"multiple conflicting drivers for \S+?\.\\?(\S+?)( \S*)?:", printed)
@@ -105,9 +106,11 @@ def name_words(path: str) -> None:
 
 
 def refuse_clocks(design: dict[str, Any]) -> None:
-    """Each register must be clocked by the rise of clk and by nothing else."""
+    """Each register must be clocked by the rise of clk and by nothing else; a module without a text is not known."""
     clk, names = design["ports"]["clk"]["bits"], structure.names_of(design)
     for cell in design["cells"].values():
+        if not cell["type"].startswith("$"):
+            raise structure.Refused("the module %s is a black box%s" % (cell["type"], structure.line_of(cell)))
         if not structure.STORES.match(cell["type"]):
             continue
         name = next((names[bit] for bit in cell["connections"]["Q"] if bit in names), "a register")

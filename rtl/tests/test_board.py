@@ -7,6 +7,7 @@ import re
 import shutil
 import subprocess
 import tty
+import zlib
 from typing import Callable
 
 import pytest
@@ -174,6 +175,26 @@ def test_send_over_a_pseudo_terminal(tmp_path: pathlib.Path) -> None:
         served.wait()
     assert status == 0 and "it holds what `play` prints, and `render` draws the same" in printed
     assert (tmp_path / "sent.png").read_bytes()[:4] == b"\x89PNG"
+
+
+@needs
+def test_film(tmp_path: pathlib.Path) -> None:
+    """The picture is empty first and ends as `-o` has it; each frame is a picture of its own."""
+    words = ("simulate-board", "--size", NX, NY, SCENE, "-o", "last.png", "--film", "film.png")
+    status, printed = run(*words, folder=tmp_path)
+    assert status == 0, printed
+    film, last = (tmp_path / "film.png").read_bytes(), (tmp_path / "last.png").read_bytes()
+    chunks, at = [], 8
+    while at < len(film):
+        size = int.from_bytes(film[at:at + 4], "big")
+        chunks.append((film[at + 4:at + 8], film[at + 8:at + 8 + size]))
+        at += 12 + size
+    frames = [zlib.decompress(body[4:]) for name, body in chunks if name == b"fdAT"]
+    still = next(body for name, body in chunks if name == b"IDAT")
+    assert len(frames) > 2 and not any(frames[0]) and all(a != b for a, b in zip(frames, frames[1:]))
+    assert zlib.decompress(still) == frames[-1] and still in last
+    numbers = [int.from_bytes(body[:4], "big") for name, body in chunks if name in (b"fcTL", b"fdAT")]
+    assert numbers == list(range(2 * len(frames)))
 
 
 @needs

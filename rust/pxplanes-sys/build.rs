@@ -5,6 +5,10 @@ use std::process::Command;
 
 fn main() {
     println!("cargo:rerun-if-env-changed=PXPLANES_LIB_DIR");
+    // (documents are made without a library, as docs.rs makes them)
+    if env::var_os("DOCS_RS").is_some() {
+        return;
+    }
     let own = PathBuf::from(env::var("CARGO_MANIFEST_DIR").unwrap()).join("../../package/lib");
     let named = env::var_os("PXPLANES_LIB_DIR").map(PathBuf::from);
     let place = named.clone().unwrap_or(own);
@@ -21,9 +25,7 @@ fn main() {
 /// Links the shared library of version 1 that pkg-config knows, if there is one.
 fn is_installed() -> bool {
     println!("cargo:rerun-if-env-changed=PKG_CONFIG_PATH");
-    let found = Command::new("pkg-config")
-        .args(["--libs", "pxplanes >= 1.0"])
-        .output();
+    let found = Command::new("pkg-config").args(["--libs", "pxplanes >= 1.0"]).output();
     let Ok(found) = found else { return false };
     for word in String::from_utf8_lossy(&found.stdout).split_whitespace() {
         if let Some(folder) = word.strip_prefix("-L") {

@@ -71,7 +71,7 @@ def in_kit(*leaves):
     return os.path.join(kit(), *leaves)
 
 
-def handed(pid, word=MODULE.encode()):
+def handed(pid, word):
     """The module that a compiler below a process reads, called with a word, if there is one now."""
     for child in program.descendants(pid):
         try:
@@ -138,6 +138,17 @@ def lines_of(top):
     return {name: rest.split() for name, _, rest in LINE.findall(text)}
 
 
+def with_below(lines, aims):
+    """The names of these crates and all below them, sorted; `lines` as `lines_of` gives it."""
+    found, left = set(), list(aims)
+    while left:
+        name = left.pop()
+        if name in lines and name not in found:
+            found.add(name)
+            left += lines[name]
+    return sorted(found)
+
+
 @contextlib.contextmanager
 def started(words, **how):
     """A command in a session of its own. If it still runs at the end of this, it is ended with all that it started."""
@@ -163,14 +174,16 @@ def end_all():
         end(running)
 
 
-def ran(words, folder, copy=None):
-    """Runs a command of the kit in a folder: its status, what it says, and whether a copy was made, where one is wanted, of the module
-    which is handed to clang meanwhile."""
+def ran(words, folder, copy=None, word=MODULE.encode(), is_copy_enough=False):
+    """Runs a command of the kit in a folder: its status, what it says, and whether a copy was made, if one is asked for, of the
+    module that is handed to clang with a word. If the copy is enough, the command is ended then."""
     kept = copy is None
     with tempfile.TemporaryFile() as notes, started(words, cwd=folder, stdout=notes, stderr=notes) as running:
         while not kept and running.poll() is None:
             time.sleep(LOOKED_AFTER)
-            kept = copied(handed(running.pid), copy)
+            kept = copied(handed(running.pid, word), copy)
+        if is_copy_enough and kept:
+            end(running)
         status = running.wait()
         notes.seek(0)
         return status, notes.read().decode("utf-8", "replace"), kept
@@ -200,10 +213,10 @@ def calls_of(path):
 
 class Proved:
     """A folder of crates in which `rt ci` has proved all that crates.txt names. What was proved for one processor is kept, where a
-    folder is given for it, and is not proved again for another; `anew`, what was built earlier of the same is built again."""
+    folder is given for it, and is not proved again for another."""
 
-    def __init__(self, top, jobs, kept=None, anew=False):
-        self.top, self.jobs, self.kept, self.anew = os.path.abspath(top), str(jobs), kept, anew
+    def __init__(self, top, jobs, kept=None):
+        self.top, self.jobs, self.kept = os.path.abspath(top), str(jobs), kept
         self.lines = lines_of(self.top)
 
     def folder(self, crate):
@@ -218,13 +231,7 @@ class Proved:
 
     def below(self, crate):
         """The libraries of this folder below a crate."""
-        found, left = [], list(self.lines[crate])
-        while left:
-            name = left.pop()
-            if name in self.lines and name not in found:
-                found.append(name)
-                left += self.lines[name]
-        return sorted(found)
+        return with_below(self.lines, self.lines[crate])
 
     def above(self, crate):
         """The crates of this folder above one, by their names."""
@@ -282,7 +289,7 @@ class Proved:
         """A file, the line of its proof, and whether it was kept of these very crates and this kit; else `make` makes it now, and
         it is kept with the files beside it that `make` leaves. Of another folder than this repository nothing is kept."""
         leaf, of = os.path.basename(made), of_crates() if self.top == ends.TOP else None
-        found, line = (None, None) if of is None or self.anew else kept_of(leaf)
+        found, line = (None, None) if of is None else kept_of(leaf)
         if found == of != None and all(kept_of(each)[0] == of for each in beside):
             shutil.copy(os.path.join(STORE, leaf), made)
             return made, line, True

@@ -10,12 +10,12 @@ import web_page
 
 # What .ci/run passed last, beside what it built: the checksum of its crates, and a line for each file that packages are made of.
 PASSED = os.path.join(ends.TOP, "crates", "px_program", "out", "passed")
-HEADERS = tuple(os.path.join("include", leaf) for leaf in ("pxplanes.h", "pxplanes.hpp", "pxplanes_scene.h"))
+HEADERS = ("include/pxplanes.h", "include/pxplanes.hpp", "include/pxplanes_image.h", "include/pxplanes_scene.h")
 ARCHIVE = os.path.join("crates", "px_c", "out", "libpx_c.a")
 NEWER_ARCHIVE = os.path.join("crates", "px_c", "out", "libpx_c-x86-64-v3.a")
 LIBC = "liblibc_c.a"
 # They make the libraries, the packages and the page.
-MAKERS = (os.path.join("tools", "package"), os.path.join("tools", "lib"), "pyproject.toml", "setup.py", "debian", os.path.join("page", "library"), os.path.join("page", "src"))
+MAKERS = ("tools/package", "tools/lib", "MANIFEST.in", "pyproject.toml", "setup.py", "debian", "page/library", "page/src")
 
 
 def crates():

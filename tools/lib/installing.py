@@ -2,7 +2,7 @@
 
     bin/pxplanes, bin/pxplanes-rtl       the command with all its words, and that of the machine in Verilog
     lib/pxplanes/                        what they need, laid out as in the checkout
-    lib/python3/dist-packages/pxplanes   the Python package
+    lib/python3/dist-packages/pxplanes   the Python package, and its .dist-info
     share/man/man1/                      the manual, with a page for each word
     share/doc/pxplanes, share/doc/libpxplanes-dev    the documents, and the examples
 """
@@ -23,11 +23,13 @@ MODULE = os.path.join("python", "pxplanes")
 FOLDERS = ("docs", "editors", "examples", "gallery", "man", os.path.join("page", "pxplanes.html"), MODULE, "rtl", "suite")
 FILES = ("CHANGES.md", "README.md", "pxplanes")
 # What the examples are built to.
-BUILT = ("draw",)
+BUILT = ("command", "within")
 MANUALS = os.path.join("share", "man", "man1")
 # The manual pages that are written by hand.
 PAGES = ("pxplanes.1", "pxplanes-rtl.1")
 MODULES = os.path.join("lib", "python3", "dist-packages")
+# By this pip and importlib.metadata know the Python package.
+METADATA = "Metadata-Version: 2.1\nName: pxplanes\nVersion: %s\nRequires-Python: >=3.10\n"
 DOCUMENTS = os.path.join("share", "doc", "pxplanes")
 EXAMPLES = os.path.join("share", "doc", "libpxplanes-dev")
 # Each link, with what it leads to. The documents name some folders as if those were next to them.
@@ -121,6 +123,9 @@ def lay_out(usr, programs):
             put(programs[os.path.basename(place)], os.path.join(usr, TREE, os.path.relpath(place, ends.TOP)))
     for name, target in LINKS.items():
         os.symlink(os.path.relpath(target, os.path.dirname(name)), made(os.path.join(usr, name)))
+    known_to_pip = os.path.join(usr, MODULES, "pxplanes-%s.dist-info" % version(), "METADATA")
+    with open(made(known_to_pip), "w", encoding="ascii") as file:
+        file.write(METADATA % version())
     for page in PAGES:
         put(os.path.join(ends.TOP, "man", page), os.path.join(usr, MANUALS, page))
     for word in frame.WORDS:

@@ -49,13 +49,7 @@ def spoken(seconds: float) -> str:
 
 def with_below(aims: Iterable[str]) -> list[str]:
     """The names of these crates and all below them, sorted."""
-    lines, found, left = building.lines_of(ends.TOP), set(), list(aims)
-    while left:
-        name = left.pop()
-        if name in lines and name not in found:
-            found.add(name)
-            left += lines[name]
-    return sorted(found)
+    return building.with_below(building.lines_of(ends.TOP), aims)
 
 
 def sources(aim: str) -> tuple[list[str], list[str]]:
@@ -348,7 +342,7 @@ def made(parts: set[str], changed: bool) -> None:
         builds = [each for each in (THE_PROGRAM, THE_LIBRARY) if each.aim in parts]
         due = {each.aim for each in builds if not (changed and each.is_current())}
         if due:
-            need_rt()
+            building.kit()
             prove(due, lock)
         if LIBRARY in parts:
             tool = os.path.join(ends.TOP, "tools", "package")
@@ -357,17 +351,12 @@ def made(parts: set[str], changed: bool) -> None:
                 raise Trouble(package.stderr.strip() or "tools/package ended with status %d" % package.returncode)
 
 
-def need_rt() -> None:
-    if shutil.which("rt") is None:
-        raise Trouble("there is no command rt; README.md says what is needed")
-
-
 def made_unproved() -> None:
     """Builds the program without proofs, unless it is kept of these sources."""
     with turn():
         if UNPROVED.is_current():
             return
-        need_rt()
+        building.kit()
         say("building the program without proofs, once for these sources: that takes about a minute")
         sum_of = summed(PROGRAM)
         os.makedirs(building.STORE, exist_ok=True)

@@ -2,26 +2,19 @@
 import hashlib
 import importlib.metadata
 import os
-import subprocess
 import sys
 
 import building
 from pxplanes import ends
 import gate
+import installing
 from pxplanes import program
+from pxplanes.errors import Trouble
 
 # What is installed here, by Debian.
 INSTALLED = "/var/lib/dpkg/status"
 # The settings that a check may hear of.
 OWN = ("PXPLANES_", "PATH", "PYTHON")
-
-
-def git(*words):
-    """What git says at the top of the repository; None where that is none."""
-    if not os.path.exists(os.path.join(ends.TOP, ".git")):
-        return None
-    done = subprocess.run(["git", "-C", ends.TOP, *words], capture_output=True, text=True)
-    return done.stdout.strip() if done.returncode == 0 else None
 
 
 def all_built():
@@ -36,8 +29,11 @@ def key(tried, built):
     """One checksum of all that checks of a program stand on: the files that git tracks, what was built that they need, what is
     installed, Python with what it has, and the settings. None where a file differs from the last commit, or where what is installed
     is not known."""
-    tree = git("rev-parse", "HEAD^{tree}")
-    if not tree or git("status", "--porcelain") != "" or not os.path.isfile(INSTALLED):
+    try:
+        tree = installing.git("rev-parse", "HEAD^{tree}")
+        if installing.git("status", "--porcelain") or not os.path.isfile(INSTALLED):
+            return None
+    except Trouble:
         return None
     files = {path: hashlib.sha256(ends.content(path)).hexdigest() for path in (INSTALLED, tried, *built) if os.path.isfile(path)}
     modules = sorted((each.name or "", each.version) for each in importlib.metadata.distributions())

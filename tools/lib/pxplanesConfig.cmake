@@ -4,8 +4,8 @@ get_filename_component(_pxplanes_place "${CMAKE_CURRENT_LIST_FILE}" REALPATH)
 get_filename_component(_pxplanes_libraries "${_pxplanes_place}/../../.." ABSOLUTE)
 get_filename_component(_pxplanes_headers "${_pxplanes_libraries}/@INCLUDE@" ABSOLUTE)
 
-foreach(_pxplanes_path "${_pxplanes_headers}/pxplanes.h" "${_pxplanes_headers}/pxplanes.hpp" "${_pxplanes_headers}/pxplanes_scene.h"
-    "${_pxplanes_libraries}/libpxplanes.so.0" "${_pxplanes_libraries}/libpxplanes.a")
+foreach(_pxplanes_path "${_pxplanes_headers}/pxplanes.h" "${_pxplanes_headers}/pxplanes.hpp" "${_pxplanes_headers}/pxplanes_image.h"
+    "${_pxplanes_headers}/pxplanes_scene.h" "${_pxplanes_libraries}/libpxplanes.so.0" "${_pxplanes_libraries}/libpxplanes.a")
   if(NOT EXISTS "${_pxplanes_path}")
     set(pxplanes_FOUND FALSE)
     set(pxplanes_NOT_FOUND_MESSAGE "there is no ${_pxplanes_path}")

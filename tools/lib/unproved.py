@@ -6,8 +6,6 @@ crate: they get those of the header, and the module is compiled again, to an arc
 what it says of its version tells so."""
 import os
 import re
-import tempfile
-import time
 
 import building
 from pxplanes import ends
@@ -17,13 +15,10 @@ from building import done, in_kit
 from pxplanes.errors import Trouble
 
 CRATE = "px_c"
-# The module is compiled for some seconds; a look at all processes costs more than it seems.
-LOOKED_AFTER = 0.1
 # The module with checks is the one that is compiled so.
 CHECKED = b"-fsanitize=address"
 FLAGS = ("--target=x86_64-unknown-linux-gnu", "-fPIC", "-O1", "-ffunction-sections", "-fdata-sections")
 NAMES, SAID = os.path.join("src", "names.rt"), 'b"%s"'
-SECONDS = 600
 MAIN = """
 fn main(rt: HostRuntime) {
     let alloc = rt.alloc();
@@ -35,6 +30,15 @@ fn main(rt: HostRuntime) {
     let mut literals = [0i32; 1];
     let mut words = [0u64; 1];
     let mut micros = [0u64; 1];
+    let mut face = NumberedFace {
+        solid: 0,
+        kind: 0,
+        plane: 0,
+        line: 0,
+        red: 0,
+        green: 0,
+        blue: 0,
+    };
     let mut state = State {
         grid_width: 0,
         grid_height: 0,
@@ -50,6 +54,7 @@ fn main(rt: HostRuntime) {
     let _ = pxplanes_check(alloc, text, &mut found);
     let _ = pxplanes_render(alloc, text, &mut depths, &mut faces, &mut found);
     let _ = pxplanes_window(alloc, text, 0, 0, 1, 1, &mut depths, &mut faces, &mut found);
+    let _ = pxplanes_face(alloc, text, 1, &mut rgb, &mut face, &mut found);
     let _ = pxplanes_colour(alloc, text, &mut rgb, &mut found);
     let _ = pxplanes_products(alloc, text, &mut literals, &mut found);
     let _ = pxplanes_state(alloc, text, 0, &mut words, &mut state, &mut found);
@@ -95,14 +100,9 @@ def become_program(own):
 def tried(own, copy):
     """Has `rt try` compile the program, and copies its module."""
     words = ["rt", "try", "--steps", "1000", "--seconds", "60"]
-    with tempfile.TemporaryFile() as notes, building.started(words, cwd=own, stdout=notes, stderr=notes) as running:
-        limit = time.monotonic() + SECONDS
-        while running.poll() is None and time.monotonic() < limit:
-            if building.copied(building.handed(running.pid, CHECKED), copy):
-                return
-            time.sleep(LOOKED_AFTER)
-        notes.seek(0)
-        raise Trouble("rt try: %s" % notes.read().decode("utf-8", "replace").strip().split("\n")[0][:200])
+    _, said, is_copied = building.ran(words, own, copy, CHECKED, is_copy_enough=True)
+    if not is_copied:
+        raise Trouble("rt try: %s" % said.strip().split("\n")[0][:200])
 
 
 def named(text):

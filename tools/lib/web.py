@@ -8,7 +8,6 @@ import io
 import json
 import os
 import re
-import shutil
 import tarfile
 import tempfile
 
@@ -92,24 +91,16 @@ def make(out: str) -> None:
 
 
 def npm(wasm: bytes, version: str, out: str) -> str:
-    """Makes the tarball for npm in a folder, by `npm pack` if npm is there; its path."""
+    """Makes the tarball for npm in a folder, as `npm pack` does, and the same bytes each time; its path."""
     with open(os.path.join(WEB, "package.json"), encoding="utf-8") as file:
         described = {**json.load(file), "version": version}
     files = {leaf: ends.content(os.path.join(WEB, leaf)) for leaf in (*MODULES, "README.md")}
     files.update({"package.json": json.dumps(described, indent=2).encode() + b"\n", "pxplanes.wasm": wasm})
     path = os.path.join(out, "pxplanes-%s.tgz" % version)
-    if shutil.which("npm") is None:
-        with open(path, "wb") as packed, gzip.GzipFile("", "wb", mtime=0, fileobj=packed) as unpacked:
-            with tarfile.open(fileobj=unpacked, mode="w") as tar:
-                for leaf, content in sorted(files.items()):
-                    entry = tarfile.TarInfo("package/" + leaf)
-                    entry.size = len(content)
-                    tar.addfile(entry, io.BytesIO(content))
-        return path
-    with tempfile.TemporaryDirectory(prefix="px-npm-") as place:
-        for leaf, content in files.items():
-            with open(os.path.join(place, leaf), "wb") as file:
-                file.write(content)
-        own = dict(os.environ, npm_config_cache=os.path.join(place, "cache"), npm_config_update_notifier="false")
-        done(["npm", "pack", "--offline", "--silent", "--pack-destination", os.path.abspath(out), place], "npm", env=own)
+    with open(path, "wb") as packed, gzip.GzipFile("", "wb", mtime=0, fileobj=packed) as unpacked:
+        with tarfile.open(fileobj=unpacked, mode="w") as tar:
+            for leaf, content in sorted(files.items()):
+                entry = tarfile.TarInfo("package/" + leaf)
+                entry.size = len(content)
+                tar.addfile(entry, io.BytesIO(content))
     return path

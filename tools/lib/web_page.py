@@ -22,7 +22,8 @@ LARGEST = 650000
 # Where Debian's libjs-codemirror is.
 LIBRARIES = "/usr/share/javascript"
 # The browsers whose syntax is written: those that have SIMD (page/library/README.md).
-ESBUILD = ("esbuild", "--bundle", "--minify", "--log-level=error", "--target=chrome91,firefox90,safari16.4",
+OLDEST = ("chrome91", "firefox89", "safari16.4")
+ESBUILD = ("esbuild", "--bundle", "--minify", "--log-level=error", "--target=" + ",".join(OLDEST),
            "--define:import.meta.url=location.href")
 # The scenes that the page offers, by folders.
 OFFERED = (("gallery", "gallery"), ("docs/scenes", "of the documents"), ("suite", "the suite"))
@@ -30,6 +31,9 @@ GALLERY = os.path.join(ends.TOP, "docs", "GALLERY.md")
 TAUGHT = re.compile(r"(?m)^!\[its colours\]\(\.\./gallery/(\w+)\.png\).*\n\n((?:- .+\n)+)$")
 POLICY = ("default-src 'none'; script-src 'wasm-unsafe-eval' blob: '%s'; style-src %s; img-src blob: data:; worker-src blob:; "
           "connect-src 'self'")
+# (a Chromium before 97 knows no word for WebAssembly alone)
+POLICED = ("document.write(`<meta http-equiv=\"Content-Security-Policy\" content=\"%s\">`"
+           ".replace('wasm-', /Chrom\\w+\\/9[1-6]\\./.test(navigator.userAgent) ? '' : 'wasm-'))")
 LIBRARY = re.compile(r'<script type="text/plain" id="library" data-of="(\w+)">\n([A-Za-z0-9+/=\n]*)</script>')
 PACKED = re.compile(r'(<script type="text/plain" id="(?:library|offered)"[^>]*>\n)([A-Za-z0-9+/=\n]*)(?=</script>)')
 LINE = 120
@@ -102,8 +106,8 @@ def page(wasm: bytes, crates: str) -> str:
     given = {"version": installing.version(), "gallery": offered(), "lesson": lessons.exercises()}
     parts = {
         '<link rel="stylesheet" href="studio.css">': "<style>%s</style>" % style,
-        '<meta charset="utf-8">': '<meta charset="utf-8">\n<meta http-equiv="Content-Security-Policy" content="%s">' % (
-            POLICY % (sum_of(script), "'%s'" % sum_of(style))),
+        '<meta charset="utf-8">': '<meta charset="utf-8">\n<script>%s</script>' % (
+            POLICED % (POLICY % (sum_of(script), "'%s'" % sum_of(style)))),
         '<script type="module" src="main.js"></script>\n': "",
         "</body>": '<script type="text/plain" id="offered">\n%s</script>\n<script type="application/json" id="own">null</script>\n'
                    '<script type="text/plain" id="library" data-of="%s">\n%s</script>\n<script type="text/plain" id="worker">%s</script>\n'

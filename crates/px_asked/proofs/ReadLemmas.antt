@@ -4,7 +4,7 @@ use Rattle.px_num.proofs.Basics.{OnErr, ap, sym, ◌∙◌, ◌++◌, min, drop-
 use Rattle.px_num.proofs.Basics.{take-append-le, take-take, Consumes}
 use Rattle.std.proofs.lemmas.List.{length-append, length-drop, length-take}
 use Rattle.std.proofs.Math.Nat.{min-le_left, min-le_right}
-use Rattle.px_io.specs.Told.{ConsumesAtMost}
+use Rattle.px_io.specs.Reports.{ConsumesAtMost}
 use Rattle.px_asked.specs.Asks.{Ask}
 use Rattle.px_asked.specs.Hearings.{HearingBegun, Heard, Waits}
 use Rattle.px_asked.specs.Parts.{part_end}

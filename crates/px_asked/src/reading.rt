@@ -3,7 +3,7 @@ ghost use Rattle.std.specs.Prelude.{◌≡◌, ◌+◌, ◌-◌, ◌<◌, ◌≤
 ghost use Rattle.std.specs.Io.KnownBytes.{Consumes, IsAtEnd};
 ghost use Rattle.px_num.specs.Want.{want};
 ghost use Rattle.px_io.specs.Counts.{Rose};
-ghost use Rattle.px_io.specs.Told.{ConsumesAtMost};
+ghost use Rattle.px_io.specs.Reports.{ConsumesAtMost};
 ghost use Rattle.px_asked.specs.Hearings.{HearingBegun, Heard, Waits};
 ghost use Rattle.px_asked.specs.Listenings.{ListenedTo, Listens};
 ghost use Rattle.px_asked.specs.Parts.{part_end};

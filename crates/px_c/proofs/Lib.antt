@@ -1,5 +1,6 @@
 pub mod AnswerLemmas
 pub mod BufferLemmas
+pub mod FaceLemmas
 pub mod RunLemmas
 pub mod StateLemmas
 pub mod WindowLemmas

@@ -1,6 +1,7 @@
 -- What a call answers for a text: its status, and what it found. Clauses of public calls stand on it.
-use Rattle.std.specs.Prelude.{◌≡◌, ◌⊎◌, ℕ, ◌*◌, pos, List, length, min, nat_lt, if◌then◌else◌, Option, Some, None}
+use Rattle.std.specs.Prelude.{◌≡◌, ◌⊎◌, ℕ, ℤ, ◌*◌, pos, List, length, min, nat_lt, if◌then◌else◌, Option, Some, None}
 use Rattle.px_num.specs.Want.{want}
+use Rattle.px_show.specs.declared.fault.Cause.{Cause}
 use Rattle.px_show.specs.declared.fault.LimitKind.TheVariants as kind
 use Rattle.px_show.specs.Judged.{SceneFault}
 use Rattle.px_show.specs.declared.fault.TextFault.TheVariants as f
@@ -41,12 +42,20 @@ scene_found scene = record nothing { width = scene.width; height = scene.height;
 abbrev pub cost_found : SceneView → Found
 cost_found scene = record (scene_found scene) { operations = length (passes scene); clocks = total scene }
 
+-- a bad line, and why
+abbrev pub malformed_answer : (line : ℕ) → Cause → Answer
+malformed_answer line cause =
+    record { status = MALFORMED; found = record nothing { line = line; cause = cause_number cause } }
+
+-- what is found past the limit of a kind
+abbrev pub limit_answer : (line kind : ℕ) → (number : ℤ) → Answer
+limit_answer line kind number =
+    record { status = LIMIT; found = record nothing { line = line; kind = kind; number = number } }
+
 -- the refusal of a text: its first bad line, and why, or what it found past a limit
 abbrev pub refused_answer : SceneFault → Answer
-refused_answer (f.Malformed line cause) =
-    record { status = MALFORMED; found = record nothing { line = line; cause = cause_number cause } }
-refused_answer (f.Limit line limit found) =
-    record { status = LIMIT; found = record nothing { line = line; kind = kind_number limit; number = found } }
+refused_answer (f.Malformed line cause) = malformed_answer line cause
+refused_answer (f.Limit line limit found) = limit_answer line (kind_number limit) found
 refused_answer (f.Memory _) = record { status = MEMORY; found = nothing }
 
 -- a refusal of the array as one of the text: a limit of no one line

@@ -19,6 +19,7 @@ pub use Rattle.px_commands.specs.Words
 pub mod Answers
 pub mod Buffers
 pub mod ClocksAnswer
+pub mod FaceAnswers
 pub mod Literals
 pub mod Names
 pub mod Numbers

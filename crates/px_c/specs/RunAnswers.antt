@@ -8,9 +8,9 @@ use Rattle.px_commands.specs.declared.refusal.Refusal.TheVariants as r
 use Rattle.px_commands.specs.Outcomes.{Outcome, cut, done, refused, usage}
 use Rattle.px_draw.specs.Runs.{commanded}
 use Rattle.px_c.specs.declared.answer.Answer.{Answer}
-use Rattle.px_c.specs.declared.status.TheConstants.{BITS, LIMIT, MALFORMED, NO_ROOM, OK, USAGE, WIDE_BITS}
-use Rattle.px_c.specs.Answers.{nothing}
-use Rattle.px_c.specs.Numbers.{cause_number, limit_number}
+use Rattle.px_c.specs.declared.status.TheConstants.{BITS, NO_ROOM, OK, USAGE, WIDE_BITS}
+use Rattle.px_c.specs.Answers.{limit_answer, malformed_answer, nothing}
+use Rattle.px_c.specs.Numbers.{limit_number}
 
 -- how many bits the pixels of a command have
 abbrev pub pixel_bits_of : Option Command → ℕ
@@ -26,10 +26,8 @@ run_outcome text words = outcome_of (command_of (words_in words)) text
 
 -- the answer to a refusal: the first bad line, and why, or what was found past a limit
 abbrev pub refusal_answer : Refusal → Answer
-refusal_answer (r.Malformed line cause) =
-    record { status = MALFORMED; found = record nothing { line = line; cause = cause_number cause } }
-refusal_answer (r.Limit line kind found) =
-    record { status = LIMIT; found = record nothing { line = line; kind = limit_number kind; number = found } }
+refusal_answer (r.Malformed line cause) = malformed_answer line cause
+refusal_answer (r.Limit line kind found) = limit_answer line (limit_number kind) found
 
 -- so many bytes are found, where a buffer of so much room has enough of it
 abbrev pub bytes_answer : (room due : ℕ) → Answer

@@ -11,18 +11,16 @@ use Rattle.px_state.specs.Refusals.{course_of, micros_refusal, operations_refusa
 use Rattle.px_state.specs.Words.{row_words}
 use Rattle.px_state.specs.declared.fault.StateFault.{StateFault}
 use Rattle.px_state.specs.declared.fault.StateFault.TheVariants as f
-use Rattle.px_c.specs.Answers.{nothing, refused_answer, text_fault_of}
-use Rattle.px_c.specs.Numbers.{cause_number, list_number}
+use Rattle.px_c.specs.Answers.{limit_answer, malformed_answer, nothing, refused_answer, text_fault_of}
+use Rattle.px_c.specs.Numbers.{list_number}
 use Rattle.px_c.specs.declared.answer.Answer.{Answer}
 use Rattle.px_c.specs.declared.state.State.{State}
-use Rattle.px_c.specs.declared.status.TheConstants.{BITS, LIMIT, MALFORMED, NO_CLOCK, NO_OPERATION, NO_ROOM, OK}
+use Rattle.px_c.specs.declared.status.TheConstants.{BITS, NO_CLOCK, NO_OPERATION, NO_ROOM, OK}
 
 -- the refusal of a listing: its first bad line, and why, or what it found past a limit
 abbrev pub list_refused : ListFault → Answer
-list_refused (text_fault.Malformed line cause) =
-    record { status = MALFORMED; found = record nothing { line = line; cause = cause_number cause } }
-list_refused (text_fault.Limit line limit found) =
-    record { status = LIMIT; found = record nothing { line = line; kind = list_number limit; number = found } }
+list_refused (text_fault.Malformed line cause) = malformed_answer line cause
+list_refused (text_fault.Limit line limit found) = limit_answer line (list_number limit) found
 list_refused (text_fault.Memory m) = refused_answer (text_fault.Memory m)
 
 -- why there is no state, or there are no micros or operations: the text, its clocks, its operations, or too little room

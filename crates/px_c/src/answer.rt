@@ -1,7 +1,7 @@
 //! What a call answers: its status, and what it found.
 ghost use Rattle.std.specs.Prelude.{◌≡◌};
 ghost use Rattle.px_control.specs.declared.fault.JobFault.{JobFault};
-ghost use Rattle.px_c.specs.Answers.{refused_answer, text_fault_of};
+ghost use Rattle.px_c.specs.Answers.{limit_answer, malformed_answer, refused_answer, text_fault_of};
 ghost use Rattle.px_c.specs.StateAnswers.{list_refused, state_refused};
 ghost use Rattle.px_c.specs.declared.status.TheConstants.{OK};
 
@@ -9,7 +9,7 @@ use crate::found::{Found, cause_number, kind_number, list_number, nothing};
 use crate::status::{LIMIT, MALFORMED, MEMORY, NO_CLOCK, NO_OPERATION, NO_ROOM};
 use px_control::JobFault;
 use px_listing::ListFault;
-use px_scene::{LimitKind, SceneFault};
+use px_scene::{Cause, LimitKind, SceneFault};
 use px_state::StateFault;
 
 /// What a call answers.
@@ -30,28 +30,42 @@ impl Answer {
     }
 }
 
+/// The answer to a bad line.
+pub(crate) fn malformed(line: u32, cause: Cause) -> Answer
+    ensures { result ≡ malformed_answer line cause }
+{
+    Answer {
+        status: MALFORMED,
+        found: Found {
+            line,
+            cause: cause_number(cause),
+            ..nothing()
+        },
+    }
+}
+
+/// The answer to what is past the limit of a kind.
+pub(crate) fn past_limit(line: u32, kind: u32, number: i64) -> Answer
+    ensures { result ≡ limit_answer line kind number }
+{
+    Answer {
+        status: LIMIT,
+        found: Found {
+            line,
+            kind,
+            number,
+            ..nothing()
+        },
+    }
+}
+
 /// The answer to a text that is refused.
 pub(crate) fn refused(fault: SceneFault) -> Answer
     ensures { result ≡ refused_answer fault }
 {
     match fault {
-        SceneFault::Malformed { line, cause } => Answer {
-            status: MALFORMED,
-            found: Found {
-                line,
-                cause: cause_number(cause),
-                ..nothing()
-            },
-        },
-        SceneFault::Limit { line, kind, found } => Answer {
-            status: LIMIT,
-            found: Found {
-                line,
-                kind: kind_number(kind),
-                number: found,
-                ..nothing()
-            },
-        },
+        SceneFault::Malformed { line, cause } => malformed(line, cause),
+        SceneFault::Limit { line, kind, found } => past_limit(line, kind_number(kind), found),
         SceneFault::Memory(_) => Answer {
             status: MEMORY,
             found: nothing(),
@@ -83,23 +97,8 @@ pub(crate) fn list_refused(fault: ListFault) -> Answer
     ensures { result ≡ list_refused fault }
 {
     match fault {
-        ListFault::Malformed { line, cause } => Answer {
-            status: MALFORMED,
-            found: Found {
-                line,
-                cause: cause_number(cause),
-                ..nothing()
-            },
-        },
-        ListFault::Limit { line, kind, found } => Answer {
-            status: LIMIT,
-            found: Found {
-                line,
-                kind: list_number(kind),
-                number: found,
-                ..nothing()
-            },
-        },
+        ListFault::Malformed { line, cause } => malformed(line, cause),
+        ListFault::Limit { line, kind, found } => past_limit(line, list_number(kind), found),
         ListFault::Memory(lack) => refused(SceneFault::Memory(lack)),
     }
 }

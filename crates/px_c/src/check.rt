@@ -2,10 +2,10 @@
 ghost use Rattle.std.specs.Prelude.{◌≡◌, ◌⊎◌, IfErr, IfOk, None, Some};
 ghost use Rattle.px_num.specs.Want.{want};
 ghost use Rattle.px_show.specs.declared.fault.TextFault.TheVariants as TextFault;
-ghost use Rattle.px_c.specs.Answers.{Answers, TellsAnswer, check_answer, cost_found, drawn_answer, refused_answer, undrawn};
+ghost use Rattle.px_c.specs.Answers.{TellsAnswer, check_answer, cost_found, undrawn};
 ghost use Rattle.px_c.specs.declared.status.TheConstants.{OK};
 
-use crate::answer::{Answer, refused, scene_fault};
+use crate::answer::{refused, scene_fault};
 use crate::found::{Found, cost_found};
 use crate::status::{BITS, OK};
 use px_control::{JobFault, cost};
@@ -16,30 +16,20 @@ use std::alloc::Global;
 
 /// Judges a text: its picture's size, how many faces its scene has and what its passes cost, or why it
 /// has no picture. Nothing is drawn.
+#[tactic(auto, using(crate::proofs::AnswerLemmas::refuses, crate::proofs::AnswerLemmas::accepts))]
 #[unsafe(no_mangle)]
 pub extern "C" fn pxplanes_check(alloc: Global, text: &[u8], found: &mut Found) -> u32
     ensures answer { TellsAnswer (check_answer text.now) result found.new }
 {
-    check(alloc, text).report_to(found)
-}
-
-#[tactic(auto, using(crate::proofs::AnswerLemmas::refuses, crate::proofs::AnswerLemmas::accepts))]
-fn check(alloc: Global, text: &[u8]) -> Answer
-    ensures { Answers (check_answer text.now) result }
-{
     match read_scene(alloc, text) {
-        Ok(scene) => check_scene(alloc, &scene),
-        Err(fault) => refused(fault),
-    }
-}
-
-#[tactic(auto, using(crate::proofs::AnswerLemmas::refuses, crate::proofs::AnswerLemmas::accepts))]
-fn check_scene(alloc: Global, scene: &Scene) -> Answer
-    ensures { Answers (drawn_answer 0 0 scene.now) result }
-{
-    match found_in(alloc, scene) {
-        Ok(found) => Answer { status: OK, found },
-        Err(fault) => refused(fault),
+        Ok(scene) => match found_in(alloc, &scene) {
+            Ok(cost) => {
+                *found = cost;
+                OK
+            }
+            Err(fault) => refused(fault).report_to(found),
+        },
+        Err(fault) => refused(fault).report_to(found),
     }
 }
 

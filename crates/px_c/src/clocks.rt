@@ -1,11 +1,9 @@
 //! `pxplanes_clocks`: clocks of a state that the caller keeps.
 ghost use Rattle.std.specs.Prelude.{◌≡◌, ◌≤◌, ℕ, IfSome, Some, length};
-ghost use Rattle.px_tree.specs.Nodes.{IsGrid};
 ghost use Rattle.px_state.specs.Clocking.{AreClocked};
-ghost use Rattle.px_c.specs.ClocksAnswer.{answer_on, clocks_answer, exponent_of_side};
+ghost use Rattle.px_c.specs.ClocksAnswer.{clocks_answer, exponent_of_side};
 ghost use Rattle.px_c.specs.declared.status.TheConstants.{BITS, OK};
 
-use crate::answer::Answer;
 use crate::found::{Found, nothing};
 use crate::status::{BITS, NO_GRID, NO_MICRO, NO_ROOM, OK};
 use px_state::{make_clocks, room_of};
@@ -26,58 +24,26 @@ pub extern "C" fn pxplanes_clocks(
     ensures kept { (result ≡ OK → ⊥) → words.new ≡ words.old }
     ensures length { length words.new ≡ length words.old }
 {
-    clocks_of(words, grid_width, grid_height, micros).report_to(found)
-}
-
-fn clocks_of(words: &mut [u64], grid_width: u32, grid_height: u32, micros: &[u64]) -> Answer
-    ensures answer { clocks_answer (length words.old) grid_width grid_height micros.now ≡ result }
-    ensures words { result.status ≡ OK → (nx ny : ℕ) → exponent_of_side grid_width ≡ Some nx
-        → exponent_of_side grid_height ≡ Some ny → AreClocked BITS nx ny micros.now words.old words.new }
-    ensures kept { (result.status ≡ OK → ⊥) → words.new ≡ words.old }
-    ensures length { length words.new ≡ length words.old }
-{
+    *found = nothing();
     match (exponent_of(grid_width), exponent_of(grid_height)) {
-        (Some(nx), Some(ny)) => clocks_on(words, nx, ny, micros),
-        _ => Answer {
-            status: NO_GRID,
-            found: nothing(),
-        },
-    }
-}
-
-/// Makes clocks on words that hold a grid of `2^nx` by `2^ny` pixels.
-fn clocks_on(words: &mut [u64], nx: u32, ny: u32, micros: &[u64]) -> Answer
-    requires grid { IsGrid nx ny }
-    ensures answer { answer_on (length words.old) nx ny micros.now ≡ result }
-    ensures words { result.status ≡ OK → AreClocked BITS nx ny micros.now words.old words.new }
-    ensures kept { (result.status ≡ OK → ⊥) → words.new ≡ words.old }
-    ensures length { length words.new ≡ length words.old }
-{
-    let room = room_of(BITS, nx, ny);
-    if words.len() < room {
-        return Answer {
-            status: NO_ROOM,
-            found: Found {
-                room: room as u64,
-                ..nothing()
-            },
-        };
-    }
-    match make_clocks(words, BITS, nx, ny, micros) {
-        Ok(()) => Answer {
-            status: OK,
-            found: Found {
-                clocks: micros.len() as u64,
-                ..nothing()
-            },
-        },
-        Err(stray) => Answer {
-            status: NO_MICRO,
-            found: Found {
-                number: stray as i64,
-                ..nothing()
-            },
-        },
+        (Some(nx), Some(ny)) => {
+            let room = room_of(BITS, nx, ny);
+            if words.len() < room {
+                found.room = room as u64;
+                return NO_ROOM;
+            }
+            match make_clocks(words, BITS, nx, ny, micros) {
+                Ok(()) => {
+                    found.clocks = micros.len() as u64;
+                    OK
+                }
+                Err(stray) => {
+                    found.number = stray as i64;
+                    NO_MICRO
+                }
+            }
+        }
+        _ => NO_GRID,
     }
 }
 

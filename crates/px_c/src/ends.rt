@@ -65,7 +65,7 @@ pub(crate) struct Output {
 
 impl Model for Output {
     ghost use Rattle.std.specs.Prelude.{◌<◌, IsSome, None, Some};
-    ghost use Rattle.px_io.specs.Told.{SinkState};
+    ghost use Rattle.px_io.specs.Reports.{SinkState};
 
     ghost Value = { SinkState };
 

@@ -2,7 +2,7 @@
 ghost use Rattle.std.specs.Prelude.{◌≡◌, ◌+◌, ◌*◌, ◌<◌, ◌≤◌, ℕ, get_or, length};
 ghost use Rattle.px_array.specs.Arrays.{pixel_of};
 ghost use Rattle.px_macro.specs.Fields.{number_in};
-ghost use Rattle.px_model.specs.Scenes.{colour_in_scene, faces_of};
+ghost use Rattle.px_model.specs.Scenes.{colour_in_scene};
 ghost use Rattle.px_sched.specs.Layouts.{layout_of};
 ghost use Rattle.px_frame.specs.Drawn.{IsDrawn};
 ghost use Rattle.px_frame.specs.Picture.{colour_at, depth_at, face_at};
@@ -100,8 +100,6 @@ pub(crate) fn write_colours<A: Array>(array: &A, layout: &Layout, scene: &Scene,
 /// Writes the colours of the faces that row `y` shows.
 fn write_coloured_row(strip: &Strip, scene: &Scene, y: u32, rgb: &mut [u8])
     requires columns { length strip.now ≡ 8 * scene.now.width }
-    requires faces { (x : ℕ) → x < scene.now.width
-        → strip_number strip.now x y ≤ faces_of scene.now.solids }
     requires room { 3 * (y * scene.now.width + scene.now.width) ≤ length rgb.old }
     ensures row { (x : ℕ) → x < scene.now.width → HasColour rgb.new (3 * (y * scene.now.width + x))
         (colour_in_scene scene.now.solids (strip_number strip.now x y)) }

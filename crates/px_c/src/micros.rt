@@ -2,17 +2,18 @@
 ghost use Rattle.std.specs.Prelude.{◌≡◌, length};
 ghost use Rattle.px_state.specs.Packed.{HasMicros};
 ghost use Rattle.px_state.specs.Refusals.{course_of};
-ghost use Rattle.px_c.specs.Answers.{Answers, TellsAnswer};
+ghost use Rattle.px_c.specs.Answers.{TellsAnswer};
 ghost use Rattle.px_c.specs.StateAnswers.{micros_answer};
 ghost use Rattle.px_c.specs.declared.status.TheConstants.{OK};
 
-use crate::answer::{Answer, state_refused};
+use crate::answer::state_refused;
 use crate::found::{Found, course_found};
 use crate::status::{BITS, OK};
 use px_state::write_micros;
 use std::alloc::Global;
 
 /// Writes the micros of a text from a clock on, each packed into a word, as many as `micros` has.
+#[tactic(auto, using(crate::proofs::StateLemmas::faulty, crate::proofs::StateLemmas::faultless))]
 #[unsafe(no_mangle)]
 pub extern "C" fn pxplanes_micros(
     alloc: Global,
@@ -26,21 +27,11 @@ pub extern "C" fn pxplanes_micros(
     ensures kept { (result ≡ OK → ⊥) → micros.new ≡ micros.old }
     ensures length { length micros.new ≡ length micros.old }
 {
-    micros_of(alloc, text, first, micros).report_to(found)
-}
-
-#[tactic(auto, using(crate::proofs::StateLemmas::faulty, crate::proofs::StateLemmas::faultless))]
-fn micros_of(alloc: Global, text: &[u8], first: u64, micros: &mut [u64]) -> Answer
-    ensures answer { Answers (micros_answer text.now first (length micros.old)) result }
-    ensures micros { result.status ≡ OK → HasMicros (course_of text.now) first micros.new }
-    ensures kept { (result.status ≡ OK → ⊥) → micros.new ≡ micros.old }
-    ensures length { length micros.new ≡ length micros.old }
-{
     match write_micros(alloc, text, BITS as u32, first, micros) {
-        Ok(course) => Answer {
-            status: OK,
-            found: course_found(course.operations, course.clocks),
-        },
-        Err(fault) => state_refused(fault),
+        Ok(course) => {
+            *found = course_found(course.operations, course.clocks);
+            OK
+        }
+        Err(fault) => state_refused(fault).report_to(found),
     }
 }

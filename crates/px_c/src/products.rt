@@ -3,25 +3,26 @@ ghost use Rattle.std.specs.Prelude.{◌≡◌, ◌++◌, ◌≤◌, IfOk, OnOk, 
 ghost use Rattle.px_scene.specs.Reading.{scene_of};
 ghost use Rattle.px_scene.specs.Text.{worded};
 ghost use Rattle.px_prune.specs.Kept.{plan_of};
-ghost use Rattle.px_c.specs.Answers.{Answers, TellsAnswer, listed_answer, products_answer};
+ghost use Rattle.px_c.specs.Answers.{TellsAnswer, products_answer};
 ghost use Rattle.px_c.specs.Buffers.{HoldsFront};
 ghost use Rattle.px_c.specs.Literals.{all_literals, barred_literal, literal_numbers, plain_literal};
 ghost use Rattle.px_c.specs.declared.status.TheConstants.{OK};
 
-use crate::answer::{Answer, refused, scene_fault};
+use crate::answer::{refused, scene_fault};
 use crate::found::{Found, scene_found};
 use crate::status::{NO_ROOM, OK};
 use px_control::JobFault;
 use px_normal::Product;
 use px_num::Memory;
 use px_prune::plan_of;
-use px_scene::{Scene, SceneFault, read_scene};
+use px_scene::{SceneFault, read_scene};
 use std::alloc::Global;
 
 /// Lists the products that can show anything, as the command `plan` does: for each the number of each
 /// plain solid, counted from 1, then the numbers of the barred ones, below 0, then a 0.
 ///
 /// `literals` has room for all of these numbers, or more, which stay as they are.
+#[tactic(auto, using(crate::proofs::AnswerLemmas::refuses, crate::proofs::AnswerLemmas::accepts, crate::proofs::AnswerLemmas::roomy, crate::proofs::AnswerLemmas::scant))]
 #[unsafe(no_mangle)]
 pub extern "C" fn pxplanes_products(
     alloc: Global,
@@ -34,49 +35,25 @@ pub extern "C" fn pxplanes_products(
         literals.old literals.new }
     ensures kept { (result ≡ OK → ⊥) → literals.new ≡ literals.old }
 {
-    products(alloc, text, literals).report_to(found)
-}
-
-#[tactic(auto, using(crate::proofs::AnswerLemmas::refuses, crate::proofs::AnswerLemmas::accepts))]
-fn products(alloc: Global, text: &[u8], literals: &mut [i32]) -> Answer
-    ensures answer { Answers (products_answer text.now (length literals.old)) result }
-    ensures literals { result.status ≡ OK
-        → HoldsFront (all_literals (plan_of (scene_of (worded text.now)))) literals.old literals.new }
-    ensures kept { (result.status ≡ OK → ⊥) → literals.new ≡ literals.old }
-{
-    match read_scene(alloc, text) {
-        Ok(scene) => products_of(alloc, &scene, literals),
-        Err(fault) => refused(fault),
-    }
-}
-
-#[tactic(auto, using(crate::proofs::AnswerLemmas::refuses, crate::proofs::AnswerLemmas::accepts, crate::proofs::AnswerLemmas::roomy, crate::proofs::AnswerLemmas::scant))]
-fn products_of(alloc: Global, scene: &Scene, literals: &mut [i32]) -> Answer
-    ensures answer { Answers (listed_answer (length literals.old) scene.now) result }
-    ensures literals { result.status ≡ OK
-        → HoldsFront (all_literals (plan_of scene.now)) literals.old literals.new }
-    ensures kept { (result.status ≡ OK → ⊥) → literals.new ≡ literals.old }
-{
-    let plan = match plan_of(alloc, scene) {
+    let scene = match read_scene(alloc, text) {
+        Ok(scene) => scene,
+        Err(fault) => return refused(fault).report_to(found),
+    };
+    let plan = match plan_of(alloc, &scene) {
         Ok(plan) => plan,
-        Err(fault) => return refused(scene_fault(JobFault::from(fault))),
+        Err(fault) => return refused(scene_fault(JobFault::from(fault))).report_to(found),
     };
     let all = match all_literals(alloc, plan.products.as_slice()) {
         Ok(all) => all,
-        Err(lack) => return refused(SceneFault::Memory(lack)),
+        Err(lack) => return refused(SceneFault::Memory(lack)).report_to(found),
     };
-    let found = scene_found(scene);
+    *found = scene_found(&scene);
     if literals.len() < all.len() {
-        return Answer {
-            status: NO_ROOM,
-            found: Found {
-                room: all.len() as u64,
-                ..found
-            },
-        };
+        found.room = all.len() as u64;
+        return NO_ROOM;
     }
     copy_to_front(all.as_slice(), literals);
-    Answer { status: OK, found }
+    OK
 }
 
 /// The literals of each product, and a 0 behind them.

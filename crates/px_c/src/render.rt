@@ -24,6 +24,7 @@ use std::alloc::Global;
 /// the rows from the top and each from the left.
 ///
 /// Each of the two has an element a pixel, or more, which stay as they are.
+#[tactic(auto, using(crate::proofs::AnswerLemmas::refuses, crate::proofs::AnswerLemmas::accepts))]
 #[unsafe(no_mangle)]
 pub extern "C" fn pxplanes_render(
     alloc: Global,
@@ -42,24 +43,9 @@ pub extern "C" fn pxplanes_render(
         faces.old faces.new }
     ensures kept { (result ≡ OK → ⊥) → (depths.new ≡ depths.old) × (faces.new ≡ faces.old) }
 {
-    render(alloc, text, depths, faces).report_to(found)
-}
-
-#[tactic(auto, using(crate::proofs::AnswerLemmas::refuses, crate::proofs::AnswerLemmas::accepts))]
-fn render(alloc: Global, text: &[u8], depths: &mut [u32], faces: &mut [u32]) -> Answer
-    ensures answer { Answers (render_answer text.now (length depths.old) (length faces.old)) result }
-    ensures depths { result.status ≡ OK → HoldsNumbers (scene_of (worded text.now)).width
-        (scene_of (worded text.now)).height (depth_at (scene_of (worded text.now)))
-        depths.old depths.new }
-    ensures faces { result.status ≡ OK → HoldsNumbers (scene_of (worded text.now)).width
-        (scene_of (worded text.now)).height (face_at (scene_of (worded text.now)))
-        faces.old faces.new }
-    ensures kept { (result.status ≡ OK → ⊥)
-        → (depths.new ≡ depths.old) × (faces.new ≡ faces.old) }
-{
     match read_scene(alloc, text) {
-        Ok(scene) => render_scene(alloc, &scene, depths, faces),
-        Err(fault) => refused(fault),
+        Ok(scene) => render_scene(alloc, &scene, depths, faces).report_to(found),
+        Err(fault) => refused(fault).report_to(found),
     }
 }
 
@@ -83,7 +69,14 @@ pub(crate) fn render_scene(
     if depths.len().min(faces.len()) < due {
         return short_of_room(alloc, scene, due);
     }
-    render_within(alloc, scene, depths, faces)
+    let mut array = PlaneArray::<BITS>::new(alloc);
+    match draw(alloc, scene, &mut array) {
+        Ok((layout, found)) => {
+            write_keys(&array, &layout, scene, depths, faces);
+            Answer { status: OK, found }
+        }
+        Err(answer) => answer,
+    }
 }
 
 /// The answer where a buffer has fewer elements than are due: nothing is drawn.
@@ -101,28 +94,6 @@ pub(crate) fn short_of_room(alloc: Global, scene: &Scene, due: usize) -> Answer
             },
         },
         Err(fault) => refused(fault),
-    }
-}
-
-/// The picture of a scene in buffers that have room for it.
-fn render_within(alloc: Global, scene: &Scene, depths: &mut [u32], faces: &mut [u32]) -> Answer
-    requires depths { pixels_of scene.now ≤ length depths.old }
-    requires faces { pixels_of scene.now ≤ length faces.old }
-    ensures answer { Answers (drawn_answer 0 0 scene.now) result }
-    ensures depths { result.status ≡ OK → HoldsNumbers scene.now.width scene.now.height
-        (depth_at scene.now) depths.old depths.new }
-    ensures faces { result.status ≡ OK → HoldsNumbers scene.now.width scene.now.height
-        (face_at scene.now) faces.old faces.new }
-    ensures kept { (result.status ≡ OK → ⊥)
-        → (depths.new ≡ depths.old) × (faces.new ≡ faces.old) }
-{
-    let mut array = PlaneArray::<BITS>::new(alloc);
-    match draw(alloc, scene, &mut array) {
-        Ok((layout, found)) => {
-            write_keys(&array, &layout, scene, depths, faces);
-            Answer { status: OK, found }
-        }
-        Err(answer) => answer,
     }
 }
 

@@ -5,16 +5,16 @@ ghost use Rattle.px_commands.specs.Commands.{HasLawfulNumbers, command_of};
 ghost use Rattle.px_commands.specs.Outcomes.{done, output};
 ghost use Rattle.px_commands.specs.Results.{Meets};
 ghost use Rattle.px_draw.specs.Runs.{commanded};
-ghost use Rattle.px_c.specs.Answers.{Answers, TellsAnswer};
+ghost use Rattle.px_c.specs.Answers.{TellsAnswer};
 ghost use Rattle.px_c.specs.Buffers.{HoldsBytes};
-ghost use Rattle.px_c.specs.RunAnswers.{bytes_answer, outcome_answer, outcome_of, refusal_answer, run_answer, run_outcome};
+ghost use Rattle.px_c.specs.RunAnswers.{outcome_of, refusal_answer, run_answer, run_outcome};
 ghost use Rattle.px_c.specs.RunStops.{IsCalm, stop_answer};
 ghost use Rattle.px_c.specs.declared.status.TheConstants.{OK};
 
-use crate::answer::{Answer, refused};
+use crate::answer::{Answer, malformed, past_limit, refused};
 use crate::ends::{Lent, Output};
-use crate::found::{Found, cause_number, limit_number, nothing};
-use crate::status::{BITS, LIMIT, MALFORMED, NO_ROOM, OK, USAGE, WIDE_BITS};
+use crate::found::{Found, limit_number, nothing};
+use crate::status::{BITS, NO_ROOM, OK, USAGE, WIDE_BITS};
 use px_commands::{Command, Refusal, Stop, command_in};
 use px_draw::perform;
 use px_planes::PlaneArray;
@@ -25,6 +25,7 @@ use std::alloc::Global;
 /// front of `out` what the program writes to its standard output.
 ///
 /// `out` has room for all of it, or more, which stays as it is.
+#[tactic(auto, using(crate::proofs::RunLemmas::answers_done, crate::proofs::RunLemmas::answers_stop))]
 #[unsafe(no_mangle)]
 pub extern "C" fn pxplanes_run(
     alloc: Global,
@@ -37,21 +38,20 @@ pub extern "C" fn pxplanes_run(
     ensures output { result ≡ OK → HoldsBytes (output (run_outcome text.now words.now)) out.old out.new }
     ensures kept { (result ≡ OK → ⊥) → out.new ≡ out.old }
 {
-    run_command(alloc, text, command_in(words), out).report_to(found)
-}
-
-/// Does what a command asks with a text, and writes its output to the front of `out`.
-#[tactic(auto, using(crate::proofs::RunLemmas::answers_done, crate::proofs::RunLemmas::answers_stop))]
-fn run_command(alloc: Global, text: &[u8], command: Option<Command>, out: &mut [u8]) -> Answer
-    requires lawful { IfSome command HasLawfulNumbers }
-    ensures answer { Answers (outcome_answer (length out.old) (outcome_of command text.now)) result }
-    ensures output { result.status ≡ OK → HoldsBytes (output (outcome_of command text.now)) out.old out.new }
-    ensures kept { (result.status ≡ OK → ⊥) → out.new ≡ out.old }
-{
-    match output_of(alloc, text, command) {
-        Ok(bytes) => handed_over(bytes.as_slice(), out),
-        Err(stop) => stopped(stop),
+    let bytes = match output_of(alloc, text, command_in(words)) {
+        Ok(bytes) => bytes,
+        Err(stop) => return stopped(stop).report_to(found),
+    };
+    *found = Found {
+        room: bytes.len() as u64,
+        ..nothing()
+    };
+    if out.len() < bytes.len() {
+        return NO_ROOM;
     }
+    let (front, _) = out.split_at_mut(bytes.len());
+    front.copy_from_slice(bytes.as_slice());
+    OK
 }
 
 /// What a command writes for a text, on an array with as many bits a pixel as it wants.
@@ -89,27 +89,6 @@ fn output_on<const N: usize>(
     }
 }
 
-/// Writes bytes to the front of a buffer, where they fit, and answers how many they are.
-fn handed_over(bytes: &[u8], out: &mut [u8]) -> Answer
-    ensures answer { result ≡ bytes_answer (length out.old) (length bytes.now) }
-    ensures output { result.status ≡ OK → HoldsBytes bytes.now out.old out.new }
-    ensures kept { (result.status ≡ OK → ⊥) → out.new ≡ out.old }
-{
-    let found = Found {
-        room: bytes.len() as u64,
-        ..nothing()
-    };
-    if out.len() < bytes.len() {
-        return Answer {
-            status: NO_ROOM,
-            found,
-        };
-    }
-    let (front, _) = out.split_at_mut(bytes.len());
-    front.copy_from_slice(bytes);
-    Answer { status: OK, found }
-}
-
 /// The answer where a command does not do its work.
 fn stopped(stop: Stop) -> Answer
     requires { IsCalm stop }
@@ -132,22 +111,7 @@ fn refused_by(reason: Refusal) -> Answer
     ensures { result ≡ refusal_answer reason }
 {
     match reason {
-        Refusal::Malformed { line, cause } => Answer {
-            status: MALFORMED,
-            found: Found {
-                line,
-                cause: cause_number(cause),
-                ..nothing()
-            },
-        },
-        Refusal::Limit { line, kind, found } => Answer {
-            status: LIMIT,
-            found: Found {
-                line,
-                kind: limit_number(kind),
-                number: found,
-                ..nothing()
-            },
-        },
+        Refusal::Malformed { line, cause } => malformed(line, cause),
+        Refusal::Limit { line, kind, found } => past_limit(line, limit_number(kind), found),
     }
 }

@@ -6,11 +6,11 @@ ghost use Rattle.px_state.specs.Courses.{device_after, total_of_listing};
 ghost use Rattle.px_state.specs.Refusals.{course_of};
 ghost use Rattle.px_state.specs.States.{IsState};
 ghost use Rattle.px_state.specs.Words.{BeginsWithState};
-ghost use Rattle.px_c.specs.Answers.{Answers, TellsAnswer};
+ghost use Rattle.px_c.specs.Answers.{TellsAnswer};
 ghost use Rattle.px_c.specs.StateAnswers.{IsComing, IsOver, TellsState, no_state, state_answer};
 ghost use Rattle.px_c.specs.declared.status.TheConstants.{BITS, OK};
 
-use crate::answer::{Answer, state_refused};
+use crate::answer::state_refused;
 use crate::found::{Found, course_found};
 use crate::status::{BITS, OK};
 use px_num::power;
@@ -47,6 +47,7 @@ pub struct State {
 /// Finds the machine after so many clocks of a text, and writes its bits to the front of `words`.
 ///
 /// `words` has room for all of them, or more, which stay as they are.
+#[tactic(auto, using(crate::proofs::StateLemmas::faulty, crate::proofs::StateLemmas::faultless))]
 #[unsafe(no_mangle)]
 pub extern "C" fn pxplanes_state(
     alloc: Global,
@@ -64,32 +65,17 @@ pub extern "C" fn pxplanes_state(
     ensures kept { (result ≡ OK → ⊥) → words.new ≡ words.old }
     ensures length { length words.new ≡ length words.old }
 {
-    let (answer, standing) = state_of(alloc, text, clock, words);
-    *state = standing;
-    answer.report_to(found)
-}
-
-/// The machine after so many clocks of a text, and what is answered.
-#[tactic(auto, using(crate::proofs::StateLemmas::faulty, crate::proofs::StateLemmas::faultless))]
-fn state_of(alloc: Global, text: &[u8], clock: u64, words: &mut [u64]) -> (Answer, State)
-    ensures answer { Answers (state_answer text.now clock (length words.old)) result.0 }
-    ensures state { result.0.status ≡ OK → TellsState (course_of text.now) clock result.1 }
-    ensures stateless { (result.0.status ≡ OK → ⊥) → result.1 ≡ no_state }
-    ensures words { result.0.status ≡ OK → BeginsWithState BITS
-        (device_after BITS (course_of text.now) clock).state words.old words.new }
-    ensures kept { (result.0.status ≡ OK → ⊥) → words.new ≡ words.old }
-    ensures length { length words.new ≡ length words.old }
-{
     let mut array = PlaneArray::<BITS>::new(alloc);
     match write_state(alloc, text, clock, words, &mut array) {
-        Ok(found) => {
-            let answer = Answer {
-                status: OK,
-                found: course_found(found.operations, found.clocks),
-            };
-            (answer, standing(&found))
+        Ok(written) => {
+            *state = standing(&written);
+            *found = course_found(written.operations, written.clocks);
+            OK
         }
-        Err(fault) => (state_refused(fault), no_state()),
+        Err(fault) => {
+            *state = no_state();
+            state_refused(fault).report_to(found)
+        }
     }
 }
 

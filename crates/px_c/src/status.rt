@@ -35,6 +35,9 @@ pub const NO_OPERATION: u32 = 12;
 /// A window has not so many columns or rows, or lies past the widest picture.
 pub const NO_WINDOW: u32 = 13;
 
+/// The scene has no face of that number.
+pub const NO_FACE: u32 = 14;
+
 /// The memory bits of a pixel of the array that draws, as of the program's own but for `shadow`.
 pub const BITS: usize = PIXEL_BITS;
 

@@ -6,7 +6,7 @@ ghost use Rattle.px_scene.specs.Reading.{scene_of};
 ghost use Rattle.px_scene.specs.Text.{worded};
 ghost use Rattle.px_tile.specs.Tiles.{tile_scene};
 ghost use Rattle.px_c.specs.Answers.{Answers, TellsAnswer};
-ghost use Rattle.px_c.specs.Windows.{HoldsWindow, is_stretch, placed_answer, shown_answer, window_answer, window_fault};
+ghost use Rattle.px_c.specs.Windows.{HoldsWindow, is_stretch, shown_answer, window_answer, window_fault};
 ghost use Rattle.px_c.specs.declared.status.TheConstants.{OK};
 
 use crate::answer::{Answer, refused};
@@ -23,6 +23,7 @@ use std::alloc::Global;
 ///
 /// The window is a scene of its own, and the work is that of this scene. It may lie outside of the scene's picture, in
 /// the wider one that `tile` draws.
+#[tactic(auto, using(crate::proofs::AnswerLemmas::refuses, crate::proofs::AnswerLemmas::accepts))]
 #[unsafe(no_mangle)]
 pub extern "C" fn pxplanes_window(
     alloc: Global,
@@ -43,61 +44,15 @@ pub extern "C" fn pxplanes_window(
         faces.old faces.new }
     ensures kept { (result ≡ OK → ⊥) → (depths.new ≡ depths.old) × (faces.new ≡ faces.old) }
 {
-    window(alloc, text, x, y, width, height, depths, faces).report_to(found)
-}
-
-#[tactic(auto, using(crate::proofs::AnswerLemmas::refuses, crate::proofs::AnswerLemmas::accepts))]
-fn window(
-    alloc: Global,
-    text: &[u8],
-    x: u32,
-    y: u32,
-    width: u32,
-    height: u32,
-    depths: &mut [u32],
-    faces: &mut [u32],
-) -> Answer
-    ensures answer { Answers (window_answer text.now x y width height (length depths.old)
-        (length faces.old)) result }
-    ensures depths { result.status ≡ OK → HoldsWindow x y width height
-        (depth_at (scene_of (worded text.now))) depths.old depths.new }
-    ensures faces { result.status ≡ OK → HoldsWindow x y width height
-        (face_at (scene_of (worded text.now))) faces.old faces.new }
-    ensures kept { (result.status ≡ OK → ⊥)
-        → (depths.new ≡ depths.old) × (faces.new ≡ faces.old) }
-{
     match read_scene(alloc, text) {
-        Ok(scene) => window_of(alloc, &scene, x, y, width, height, depths, faces),
-        Err(fault) => refused(fault),
-    }
-}
-
-/// A window of a scene, where there is such a window.
-fn window_of(
-    alloc: Global,
-    scene: &Scene,
-    x: u32,
-    y: u32,
-    width: u32,
-    height: u32,
-    depths: &mut [u32],
-    faces: &mut [u32],
-) -> Answer
-    ensures answer { Answers (placed_answer (min (length depths.old) (length faces.old)) x y width height
-        scene.now) result }
-    ensures depths { result.status ≡ OK → HoldsWindow x y width height (depth_at scene.now)
-        depths.old depths.new }
-    ensures faces { result.status ≡ OK → HoldsWindow x y width height (face_at scene.now)
-        faces.old faces.new }
-    ensures kept { (result.status ≡ OK → ⊥)
-        → (depths.new ≡ depths.old) × (faces.new ≡ faces.old) }
-{
-    if is_stretch(x, width) && is_stretch(y, height) {
-        return window_at(alloc, scene, x, y, width, height, depths, faces);
-    }
-    Answer {
-        status: NO_WINDOW,
-        found: nothing(),
+        Ok(scene) if is_stretch(x, width) && is_stretch(y, height) => {
+            window_at(alloc, &scene, x, y, width, height, depths, faces).report_to(found)
+        }
+        Ok(_) => {
+            *found = nothing();
+            NO_WINDOW
+        }
+        Err(fault) => refused(fault).report_to(found),
     }
 }
 

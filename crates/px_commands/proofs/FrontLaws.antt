@@ -1,7 +1,7 @@
 -- What was made of a text that was read was made of the input: a text of which no more was read is too long.
 use Rattle.px_num.proofs.Basics.{ℕ, ◌≡◌, ◌≤◌, inl, inr, List, length, take, Err, Result, sym, subst, ◌∙◌, arith}
 use Rattle.px_num.proofs.Basics.{length-take, cases_lt, take_all, Consumes}
-use Rattle.px_io.specs.Told.{ConsumesAtMost, IsFrontOf}
+use Rattle.px_io.specs.Reports.{ConsumesAtMost, IsFrontOf}
 use Rattle.px_io.specs.declared.reading.ReadError.{ReadError}
 use Rattle.px_array.specs.Slots.{ArrayView}
 use Rattle.px_commands.specs.declared.stop.Stop.{Stop}

@@ -5,7 +5,7 @@ use Rattle.px_num.proofs.Basics.{Consumes}
 use Rattle.std.proofs.Common.{Global, Vec}
 use Rattle.std.proofs.lemmas.List.{append-nil, append_cancel_left}
 use Rattle.px_io.specs.Counts.{Rose}
-use Rattle.px_io.specs.Told.{ConsumesAtMost, IsFrontOf, SinkState, TakesFront, Tells}
+use Rattle.px_io.specs.Reports.{ConsumesAtMost, IsFrontOf, SinkState, TakesFront, Tells}
 use Rattle.px_io.proofs.ToldLaws.{stays}
 use Rattle.px_commands.specs.declared.stop.Stop.{Stop}
 use Rattle.px_commands.specs.Outcomes.{Outcome, done}

@@ -1,6 +1,6 @@
 -- What a stop says of an outcome and of the ends.
 use Rattle.px_num.proofs.Basics.{arith, ℕ, List, Result, Ok, Err, inl, refl}
-use Rattle.px_io.specs.Told.{SinkState, TakesNone}
+use Rattle.px_io.specs.Reports.{SinkState, TakesNone}
 use Rattle.px_io.specs.declared.reading.ReadError.{ReadError}
 use Rattle.px_io.proofs.ToldLaws.{stays}
 use Rattle.px_array.specs.Arrays.{Device}

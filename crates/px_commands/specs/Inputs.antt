@@ -2,7 +2,7 @@
 -- public calls stand on it.
 use Rattle.std.specs.Prelude.{ℕ, ◌≡◌, ◌++◌, List, ⊤, Option, Some, None, Result, drop}
 use Rattle.std.specs.Io.KnownBytes.{Consumes}
-use Rattle.px_io.specs.Told.{ConsumesAtMost}
+use Rattle.px_io.specs.Reports.{ConsumesAtMost}
 use Rattle.px_array.specs.Slots.{ArrayView}
 use Rattle.px_commands.specs.declared.refusal.TheConstants.{READ_LIMIT}
 use Rattle.px_commands.specs.declared.stop.Stop.{Stop}

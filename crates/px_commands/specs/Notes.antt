@@ -2,7 +2,7 @@
 use Rattle.std.specs.Prelude.{◌⊎◌, ℕ, ℤ, List, ◌++◌, Result, Ok, Err, codes, decimal}
 use Rattle.std.specs.Fmt.{signed_decimal}
 use Rattle.px_io.specs.Counts.{Still}
-use Rattle.px_io.specs.Told.{FinishesWith, SinkState, TakesFront, TakesNone}
+use Rattle.px_io.specs.Reports.{FinishesWith, SinkState, TakesFront, TakesNone}
 use Rattle.px_show.specs.declared.fault.Cause.{Cause}
 use Rattle.px_commands.specs.Words.{cause_word, list_word, scene_word}
 use Rattle.px_commands.specs.declared.refusal.Kind.{Kind}

@@ -1,7 +1,7 @@
 -- What a run comes to, and what each result says of the outcome and of the ends. Clauses of public calls stand on it.
 use Rattle.std.specs.Prelude.{ℕ, ◌≡◌, List, ⊤, true, Some, Result, Ok, Err}
 use Rattle.px_io.specs.Counts.{Rose}
-use Rattle.px_io.specs.Told.{FinishesWith, SinkState, TakesFront, TakesNone}
+use Rattle.px_io.specs.Reports.{FinishesWith, SinkState, TakesFront, TakesNone}
 use Rattle.px_commands.specs.declared.refusal.Refusal.TheVariants as r
 use Rattle.px_commands.specs.declared.stop.Stop.{Stop}
 use Rattle.px_commands.specs.declared.stop.Stop.TheVariants as s

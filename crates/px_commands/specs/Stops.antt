@@ -2,7 +2,7 @@
 use Rattle.std.specs.Prelude.{ℕ, ◌≡◌, ◌≢◌, ⊤, Option, Some, None, Result, Err}
 use Rattle.px_num.specs.Want.{want}
 use Rattle.px_io.specs.Counts.{Rose}
-use Rattle.px_io.specs.Told.{SinkState}
+use Rattle.px_io.specs.Reports.{SinkState}
 use Rattle.px_io.specs.declared.reading.ReadError.{ReadError}
 use Rattle.px_io.specs.declared.reading.ReadError.TheVariants as read
 use Rattle.px_commands.specs.declared.refusal.Refusal.{Refusal}

@@ -2,7 +2,7 @@
 ghost use Rattle.std.specs.Prelude.{◌≡◌, ◌≤◌, IfErr, IfOk, OnErr, OnOk, None, drop, length, true};
 ghost use Rattle.std.specs.Io.KnownBytes.{Appends, Consumes};
 ghost use Rattle.px_io.specs.Counts.{HasCause};
-ghost use Rattle.px_io.specs.Told.{ConsumesAtMost, IsFrontOf, TakesFront, Tells};
+ghost use Rattle.px_io.specs.Reports.{ConsumesAtMost, IsFrontOf, TakesFront, Tells};
 ghost use Rattle.px_array.specs.Slots.{IsRunOnce};
 ghost use Rattle.px_scene.specs.Reading.{scene_of};
 ghost use Rattle.px_scene.specs.Text.{worded};

@@ -1,3 +1,4 @@
+pub mod FeedingLemmas
 pub mod FittingLemmas
 pub mod GridLemmas
 pub mod JumpLemmas
@@ -5,4 +6,5 @@ pub mod MarkingLemmas
 pub mod TraceLemmas
 pub mod TraceLineLemmas
 pub mod TracingLemmas
+pub mod TurningLemmas
 pub mod Words

@@ -6,7 +6,7 @@ use Rattle.px_debug.proofs.Words.{AreMarked, Device, HasMarks, HasSlots, IsAt, P
 use Rattle.std.specs.Bool.{MatchBool}
 use Rattle.std.proofs.Math.Nat.{mul-div_cancel}
 use Rattle.std.proofs.lemmas.Bool.Decides.{eqb_tells}
-use Rattle.px_array.specs.Slots.{after_save, no_slots}
+use Rattle.px_array.specs.Slots.{after_save}
 
 pub due : (now q n : ℕ) → 1 ≤ q → n < 4 → now ≤ n * q → MatchBool (nat_eq (now / q) n) ((n < 4) × (now ≡ n * q))
     (n < 4 → now < n * q)
@@ -37,10 +37,6 @@ pub slots_more : (bits : ℕ) (s : SceneView) (q n : ℕ) (device : Device) (slo
     → HasSlots bits s q n slots → n < length slots →
     IsAt bits s (n * q) device → HasSlots bits s q (n + 1) (after_save n device slots)
 slots_more bits s q n device slots h few at = grind (arith, below_more, eqb_tells, get_or-set_same, get_or-set_other)
-
--- no slot is saved yet
-pub slots_none : (bits : ℕ) (s : SceneView) (q : ℕ) → HasSlots bits s q 0 no_slots
-slots_none bits s q = grind arith
 
 -- fewer of them
 pub marks_front : (s : SceneView) (q n count : ℕ) (ps : List Place) → HasMarks s q count ps → 1 ≤ n → n ≤ count

@@ -1,7 +1,14 @@
 pub use Rattle.px_control.specs.Program
 pub mod Answers
+pub mod Buffers
+pub mod Catching
 pub mod Commands
 pub mod Courses
 pub mod Lines
 pub mod Marks
 pub mod Moves
+pub mod Prompts
+pub mod Servings
+pub mod SessionLaws
+pub mod Sessions
+pub mod Turns

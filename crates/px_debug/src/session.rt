@@ -1,7 +1,7 @@
 //! A session: command lines, one after another, over a scene's broadcasts.
 ghost use Rattle.std.specs.Prelude.{◌≡◌, ◌+◌, ◌-◌, ◌^◌, ◌<◌, ◌≤◌, IfOk, OnErr, OnOk};
 ghost use Rattle.px_io.specs.Counts.{HasCause};
-ghost use Rattle.px_io.specs.Told.{TakesAll, TakesFront};
+ghost use Rattle.px_io.specs.Reports.{TakesAll, TakesFront};
 ghost use Rattle.px_array.specs.Slots.{after_save, no_slots};
 ghost use Rattle.px_control.specs.Program.{IsAt};
 ghost use Rattle.px_debug.specs.Answers.{answer, answer_in};

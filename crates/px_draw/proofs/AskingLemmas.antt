@@ -8,10 +8,10 @@ use Rattle.px_asked.specs.Lines.{whole_lines}
 use Rattle.px_asked.specs.Listenings.{IsSilent, ListenedTo, Listens}
 use Rattle.px_asked.specs.declared.reading.Opening.{Opening}
 use Rattle.px_scene.specs.Scenes.{SceneView}
-use Rattle.px_session.specs.Prompts.{IsPrompt, Moment}
-use Rattle.px_session.specs.Servings.{seen}
-use Rattle.px_session.specs.Sessions.{Stand, session_opened, sitting}
-use Rattle.px_session.specs.declared.serving.Ending.{Ending}
+use Rattle.px_debug.specs.Prompts.{IsPrompt, Moment}
+use Rattle.px_debug.specs.Servings.{seen}
+use Rattle.px_debug.specs.Sessions.{Stand, session_opened, sitting}
+use Rattle.px_debug.specs.declared.serving.Ending.{Ending}
 use Rattle.px_draw.specs.Askings.{AnswersInTime, IsInTime, due}
 use Rattle.px_draw.specs.Debugs.{command_text, has_part, whole_sitting}
 use Rattle.px_draw.specs.Sittings.{Opens, Sits, more_than}

@@ -3,7 +3,6 @@ pub mod ListedLemmas
 pub mod MeanLemmas
 pub mod PartLemmas
 pub mod PlayLemmas
-pub mod RenderLemmas
 pub mod RunLemmas
 pub mod ServedLemmas
 pub mod WorkLemmas

@@ -12,10 +12,10 @@ use Rattle.px_sched.proofs.LawfulLaws.{passes_lawful}
 use Rattle.px_sched.proofs.PassesLaws.{passes_are_lawful}
 use Rattle.px_listing.proofs.AcceptedLemmas.{accepted_is_lawful, memory_is_no_refusal}
 use Rattle.px_listing.specs.Listings.{ListingView, canonical_listing}
-use Rattle.px_playing.specs.Memories.{played_text}
-use Rattle.px_playing.specs.PassesText.{CanPlay, passes_listing}
-use Rattle.px_playing.proofs.PassesLemmas.{passes_read_back, show_the_picture}
-use Rattle.px_playing.specs.Played.{HasPlayed}
+use Rattle.px_listing.specs.Memories.{played_text}
+use Rattle.px_listing.specs.PassesText.{CanPlay, passes_listing}
+use Rattle.px_listing.proofs.PassesLemmas.{passes_read_back, show_the_picture}
+use Rattle.px_listing.specs.Played.{HasPlayed}
 use Rattle.px_listing.specs.Reading.{listing_refusal_of, ListFault}
 use Rattle.px_listing.specs.RoundTrip.{IsReadAsListing}
 use Rattle.px_commands.specs.declared.refusal.Refusal.{Refusal}

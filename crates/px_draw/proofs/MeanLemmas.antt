@@ -1,6 +1,6 @@
 -- What serves the finer scene serves the refinement.
 use Rattle.std.proofs.Common.{◌≡◌, ℕ, Option, None, Result, [], ◌∷◌, ap, subst, sym, ◌∙◌}
-use Rattle.px_io.specs.Told.{SinkState}
+use Rattle.px_io.specs.Reports.{SinkState}
 use Rattle.px_scene.specs.Scenes.{SceneView}
 use Rattle.px_frame.proofs.MeanLemmas.{images_refined}
 use Rattle.px_frame.specs.Finer.{fine_scene}

@@ -10,7 +10,7 @@ use Rattle.px_asked.specs.declared.reading.Opening.{Opening}
 use Rattle.px_scene.specs.Scenes.{SceneView}
 use Rattle.px_scene.specs.Text.{worded}
 use Rattle.px_scene.specs.Reading.{scene_of}
-use Rattle.px_session.specs.Servings.{seen}
+use Rattle.px_debug.specs.Servings.{seen}
 use Rattle.px_commands.specs.declared.refusal.Refusal.{Refusal}
 use Rattle.px_commands.specs.declared.stop.SceneStop.{SceneStop}
 use Rattle.px_commands.specs.Outcomes.{Outcome, done, drawable, refusal, refused, unless_refused}

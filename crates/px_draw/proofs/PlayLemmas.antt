@@ -1,9 +1,9 @@
 -- What was played of a text that was read, it was played of the input.
 use Rattle.px_num.proofs.Basics.{ℕ, ◌≡◌, ◌≤◌, List, length, Some, None, Result, Err, refl, Consumes}
-use Rattle.px_io.specs.Told.{ConsumesAtMost, IsFrontOf}
+use Rattle.px_io.specs.Reports.{ConsumesAtMost, IsFrontOf}
 use Rattle.px_io.specs.declared.reading.ReadError.{ReadError}
 use Rattle.px_listing.specs.Listings.{ListingView}
-use Rattle.px_playing.specs.Memories.{played_text}
+use Rattle.px_listing.specs.Memories.{played_text}
 use Rattle.px_commands.specs.declared.stop.Stop.{Stop}
 use Rattle.px_commands.specs.declared.stop.SceneStop.{SceneStop}
 use Rattle.px_draw.specs.Listings.{IsPlayed, PerformsPlay, Plays, list_refusal, listing_written, played_out}

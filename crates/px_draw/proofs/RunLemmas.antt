@@ -1,14 +1,12 @@
 -- What a command does is what a run of its words does.
-use Rattle.px_num.proofs.Basics.{arith, ℕ, ◌≡◌, List, [], Option, Some, None, Ok, Err, refl, subst, Result, sym}
+use Rattle.px_num.proofs.Basics.{ℕ, ◌≡◌, List, [], Option, Some, None, Ok, Err, refl, subst, Result, sym}
 use Rattle.px_io.proofs.ToldLaws.{consumes_none, stays}
-use Rattle.px_io.specs.Told.{SinkState}
+use Rattle.px_io.specs.Reports.{SinkState}
 use Rattle.px_commands.specs.declared.command.Command.{Command}
 use Rattle.px_commands.specs.declared.stop.Stop.{Stop}
-use Rattle.px_commands.specs.declared.status.Status.{Status}
 use Rattle.px_commands.specs.Commands.{command_of}
 use Rattle.px_commands.specs.Ends.{Ends, with_notes}
-use Rattle.px_commands.specs.Notes.{IsTold, note_of}
-use Rattle.px_commands.specs.Results.{HasCauses, status_of, status_in}
+use Rattle.px_commands.specs.Results.{HasCauses, status_in}
 use Rattle.px_draw.specs.Runs.{IsRunOf, Leaves, Performs, commanded}
 use Rattle.px_commands.proofs.RunLaws.{performs_over, still}
 use Rattle.px_commands.specs.Arrays.{Draws}
@@ -25,14 +23,6 @@ pub run_done : (words : List (List ℕ)) (bits : ℕ) (u : Unit {0}) (before aft
     → IsRunOf words bits status.Done (with_notes before notes) (with_notes after notes)
 run_done words bits u before after notes performs causes =
     record { result = Ok u; status = refl; performs = performs; causes = causes; noted = stays notes }
-
--- a run that was stopped tells its line
-pub run_stopped : (words : List (List ℕ)) (bits : ℕ) (stop : Stop) (found : Status) (line : List ℕ)
-    (before after : Ends) (notes noted : SinkState) → Performs (Err stop) (command_of words) bits before after
-    → HasCauses (Err stop) before.faults after.faults before.out.faults after.out.faults → found ≡ status_of stop
-    → line ≡ note_of stop → IsTold line notes noted
-    → IsRunOf words bits found (with_notes before notes) (with_notes after noted)
-run_stopped words bits stop found line before after notes noted performs causes is same told = grind arith
 
 -- words that name no command
 pub performs_usage : (command : Option Command) (bits : ℕ) (ends : Ends) → command ≡ None

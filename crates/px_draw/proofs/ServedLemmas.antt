@@ -3,7 +3,7 @@ use Rattle.px_num.proofs.Basics.{ℕ, ◌≡◌, ◌⊎◌, ◌-◌, ◌≤◌, 
 use Rattle.px_num.proofs.Basics.{true, false, Option, Some, None, Result, Err, refl, ap, sym, ◌∙◌, arith, append_assoc}
 use Rattle.px_num.proofs.Basics.{append-nil, is_some, length-append, if◌then◌else◌, nat_tests, common_steps, Consumes}
 use Rattle.px_num.proofs.Basics.{IsAtEnd}
-use Rattle.px_io.specs.Told.{ConsumesAtMost, TakesNone}
+use Rattle.px_io.specs.Reports.{ConsumesAtMost, TakesNone}
 use Rattle.px_io.specs.declared.reading.ReadError.{ReadError}
 use Rattle.px_io.proofs.ToldLaws.{consumes_both}
 use Rattle.px_asked.specs.Asks.{Ask}
@@ -12,11 +12,11 @@ use Rattle.px_asked.specs.Readings.{TookNoPart}
 use Rattle.px_asked.specs.declared.reading.Opening.{Opening}
 use Rattle.px_scene.specs.Scenes.{SceneView}
 use Rattle.px_debug.specs.Moves.{Fits, SessionView}
-use Rattle.px_session.specs.Prompts.{Moment, moment}
-use Rattle.px_session.specs.Servings.{HasRead, HasServed, lines_in, seen}
-use Rattle.px_session.specs.SessionLaws.{QuitEnds}
-use Rattle.px_session.specs.Sessions.{session_opened, stand}
-use Rattle.px_session.specs.declared.serving.Ending.{Ending}
+use Rattle.px_debug.specs.Prompts.{Moment, moment}
+use Rattle.px_debug.specs.Servings.{HasRead, HasServed, lines_in, seen}
+use Rattle.px_debug.specs.SessionLaws.{QuitEnds}
+use Rattle.px_debug.specs.Sessions.{session_opened, stand}
+use Rattle.px_debug.specs.declared.serving.Ending.{Ending}
 use Rattle.px_commands.specs.declared.stop.SceneStop.{SceneStop}
 use Rattle.px_commands.specs.declared.stop.Stop.{Stop}
 use Rattle.px_commands.specs.Ends.{Ends, IsUntouched}
@@ -33,7 +33,7 @@ use Rattle.px_draw.specs.Sittings.{IsOpening, IsSceneOf, LeavesClosed, MayFollow
 use Rattle.px_draw.specs.Sittings.{result_of}
 use Rattle.px_draw.proofs.PartLemmas.{admitted_is, and_not, cut_both, debugged_is}
 use Rattle.px_io.specs.declared.reading.ReadError.TheVariants as read
-use Rattle.px_session.specs.declared.serving.Ending.TheVariants as e
+use Rattle.px_debug.specs.declared.serving.Ending.TheVariants as e
 use Rattle.px_commands.specs.declared.refusal.Refusal.TheVariants as r
 use Rattle.px_commands.specs.declared.stop.SceneStop.TheVariants as halted
 use Rattle.px_commands.specs.declared.stop.Stop.TheVariants as s

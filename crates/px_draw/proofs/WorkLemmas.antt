@@ -1,6 +1,6 @@
 -- What was made of a text that was read, it was made of the input.
 use Rattle.px_num.proofs.Basics.{ℕ, ◌≡◌, ◌≤◌, inl, List, length, Some, None, Result, Err, refl, sym, ◌∙◌, Consumes}
-use Rattle.px_io.specs.Told.{ConsumesAtMost, IsFrontOf}
+use Rattle.px_io.specs.Reports.{ConsumesAtMost, IsFrontOf}
 use Rattle.px_io.specs.declared.reading.ReadError.{ReadError}
 use Rattle.px_array.specs.Slots.{ArrayView}
 use Rattle.px_scene.specs.Scenes.{SceneView}

@@ -1,7 +1,7 @@
 -- What `debug` answers and leaves: a session over the bytes of an input. Clauses of public calls stand on it.
 use Rattle.std.specs.Prelude.{◌≡◌, ◌⊎◌, ℕ, List, Bool, true, false, ◌&&◌, not, if◌then◌else◌}
 use Rattle.std.specs.Prelude.{take, None, Result, Ok, Err}
-use Rattle.px_io.specs.Told.{TakesNone}
+use Rattle.px_io.specs.Reports.{TakesNone}
 use Rattle.px_text.specs.declared.text.TheConstants.{MAX_TEXT_BYTES}
 use Rattle.px_array.specs.Slots.{ArrayView, IsRunOnce, none_open}
 use Rattle.px_scene.specs.Scenes.{SceneView}
@@ -11,8 +11,8 @@ use Rattle.px_control.specs.Program.{IsAt}
 use Rattle.px_debug.specs.Moves.{Fits, SessionView}
 use Rattle.px_asked.specs.Lines.{all_lines, whole_lines}
 use Rattle.px_asked.specs.Parts.{behind_part, holds_part, scene_part}
-use Rattle.px_session.specs.Servings.{Answered, Breaks}
-use Rattle.px_session.specs.Sessions.{Sitting, session_opened, sitting, stand}
+use Rattle.px_debug.specs.Servings.{Answered, Breaks}
+use Rattle.px_debug.specs.Sessions.{Sitting, session_opened, sitting, stand}
 use Rattle.px_commands.specs.declared.refusal.Refusal.TheVariants as r
 use Rattle.px_commands.specs.declared.stop.Stop.{Stop}
 use Rattle.px_commands.specs.declared.stop.Stop.TheVariants as s

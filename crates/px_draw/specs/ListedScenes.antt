@@ -4,8 +4,8 @@ use Rattle.std.specs.Prelude.{◌≡◌, ℕ, ◌≤◌, All, List, length}
 use Rattle.px_text.specs.declared.text.TheConstants.{MAX_TEXT_BYTES}
 use Rattle.px_array.specs.Arrays.{Device, pixel_of}
 use Rattle.px_scene.specs.Scenes.{IsLawfulScene, SceneView, IsLawfulSolid}
-use Rattle.px_playing.specs.Memories.{played_text}
-use Rattle.px_playing.specs.PassesText.{passes_listing}
+use Rattle.px_listing.specs.Memories.{played_text}
+use Rattle.px_listing.specs.PassesText.{passes_listing}
 use Rattle.px_sched.specs.Layouts.{layout_of}
 use Rattle.px_sched.specs.PassesLaw.{ShowsThePicture}
 use Rattle.px_draw.specs.Listings.{IsPlayed, listing_written, played_out}

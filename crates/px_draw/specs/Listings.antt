@@ -7,8 +7,8 @@ use Rattle.px_array.specs.Slots.{ArrayView}
 use Rattle.px_asm.specs.Micros.{cycles}
 use Rattle.px_text.specs.Text.{worded}
 use Rattle.px_listing.specs.Listings.{ListingView}
-use Rattle.px_playing.specs.Memories.{played_text}
-use Rattle.px_playing.specs.Played.{HasPlayed, played_on}
+use Rattle.px_listing.specs.Memories.{played_text}
+use Rattle.px_listing.specs.Played.{HasPlayed, played_on}
 use Rattle.px_listing.specs.Reading.{listing_of, listing_refusal_of}
 use Rattle.px_listing.specs.Reading.{ListFault}
 use Rattle.px_commands.specs.declared.refusal.Refusal.{Refusal}

@@ -1,6 +1,6 @@
 -- What a run answers, writes and leaves. Clauses of public calls stand on it.
 use Rattle.std.specs.Prelude.{ℕ, ◌≡◌, ◌≢◌, List, Option, Some, None, Result, Err}
-use Rattle.px_io.specs.Told.{ConsumesAtMost}
+use Rattle.px_io.specs.Reports.{ConsumesAtMost}
 use Rattle.px_commands.specs.declared.command.Command.{Command}
 use Rattle.px_commands.specs.declared.command.Command.TheVariants as c
 use Rattle.px_commands.specs.Commands.{command_of}

@@ -6,10 +6,10 @@ use Rattle.px_array.specs.Slots.{ArrayView}
 use Rattle.px_scene.specs.Scenes.{SceneView}
 use Rattle.px_asked.specs.Parts.{part_end}
 use Rattle.px_asked.specs.declared.reading.Opening.{Opening}
-use Rattle.px_session.specs.Prompts.{Moment}
-use Rattle.px_session.specs.Servings.{Serves, seen}
-use Rattle.px_session.specs.declared.serving.Ending.{Ending}
-use Rattle.px_session.specs.declared.serving.Ending.TheVariants as e
+use Rattle.px_debug.specs.Prompts.{Moment}
+use Rattle.px_debug.specs.Servings.{Serves, seen}
+use Rattle.px_debug.specs.declared.serving.Ending.{Ending}
+use Rattle.px_debug.specs.declared.serving.Ending.TheVariants as e
 use Rattle.px_commands.specs.declared.refusal.TheConstants.{READ_LIMIT}
 use Rattle.px_commands.specs.declared.status.Status.{Status}
 use Rattle.px_commands.specs.declared.status.Status.TheVariants as status

@@ -15,7 +15,7 @@ use Rattle.px_frame.specs.declared.plane.Plane.TheVariants as p
 use Rattle.px_frame.specs.Images.{images}
 use Rattle.px_frame.specs.Finer.{fine_scene}
 use Rattle.px_listing.specs.Listings as listing
-use Rattle.px_playing.specs.PassesText.{passes_listing}
+use Rattle.px_listing.specs.PassesText.{passes_listing}
 use Rattle.px_frame.specs.Refined.{doublings}
 use Rattle.px_commands.specs.declared.command.Work.{Work}
 use Rattle.px_commands.specs.declared.command.Work.TheVariants as w

@@ -1,14 +1,14 @@
 //! The command `debug`: a session over the scene part of the input, whose command lines are the rest.
 ghost use Rattle.std.specs.Prelude.{◌≡◌, ◌≢◌, ◌<◌, ◌≤◌, ◌+◌, ◌^◌, [], ℕ, IfErr, IfOk, IsErrOf, OnErr, OnOk, Err, None, length, true, false};
 ghost use Rattle.std.specs.Io.KnownBytes.{IsAtEnd};
-ghost use Rattle.px_io.specs.Told.{ConsumesAtMost};
+ghost use Rattle.px_io.specs.Reports.{ConsumesAtMost};
 ghost use Rattle.px_debug.specs.Moves.{Fits};
 ghost use Rattle.px_io.specs.declared.reading.ReadError.{ReadError};
 ghost use Rattle.px_asked.specs.Listenings.{ListenedTo, Listens};
 ghost use Rattle.px_asked.specs.Readings.{TookNoPart};
-ghost use Rattle.px_session.specs.Prompts.{Moment, moment};
-ghost use Rattle.px_session.specs.Servings.{HasOutCause, HasReadCause};
-ghost use Rattle.px_session.specs.Sessions.{session_opened};
+ghost use Rattle.px_debug.specs.Prompts.{Moment, moment};
+ghost use Rattle.px_debug.specs.Servings.{HasOutCause, HasReadCause};
+ghost use Rattle.px_debug.specs.Sessions.{session_opened};
 ghost use Rattle.px_commands.specs.declared.stop.Stop.{Stop};
 ghost use Rattle.px_draw.specs.Askings.{AnswersInTime};
 ghost use Rattle.px_draw.specs.Debugs.{PerformsSession};
@@ -22,10 +22,9 @@ use px_array::Array;
 use px_asked::{Asks, Opening, laws_of_parts, read_part};
 use px_asm::Operating;
 use px_commands::{READ_LIMIT, SceneStop, Stop, open_job, scene_in, too_long};
-use px_debug::Session;
+use px_debug::{Ending, Session, finish_unasked, laws_of_sessions, serve};
 use px_io::{ReadError, Sink};
 use px_scene::Scene;
-use px_session::{Ending, finish_unasked, laws_of_sessions, serve};
 use std::alloc::Global;
 
 /// Reads the scene part and judges it as soon as it is whole, and then answers each command line

@@ -1,8 +1,7 @@
 //! What joins the commands `list` and `play`.
 ghost use Rattle.px_draw.specs.ListedScenes.{DoneShowsThePicture, ListedPassesArePlayed, ListedPassesShowThePicture};
 
-use px_listing::laws_of_listings;
-use px_playing::laws_of_playing;
+use px_listing::{laws_of_listings, laws_of_playing};
 
 /// The laws that join `list` and `play`, for whoever hands the output of one to the other.
 ///

@@ -2,18 +2,18 @@
 ghost use Rattle.std.specs.Prelude.{◌≡◌, ◌≤◌, Err, OnErr, OnOk, length, true};
 ghost use Rattle.std.specs.Io.KnownBytes.{Appends};
 ghost use Rattle.px_io.specs.Counts.{HasCause};
-ghost use Rattle.px_io.specs.Told.{TakesFront, Tells};
+ghost use Rattle.px_io.specs.Reports.{TakesFront, Tells};
 ghost use Rattle.px_prune.specs.Kept.{plan_of};
 ghost use Rattle.px_sched.specs.Layouts.{layout_of};
 ghost use Rattle.px_listing.specs.Listings.{canonical_listing};
-ghost use Rattle.px_playing.specs.PassesText.{passes_listing};
+ghost use Rattle.px_listing.specs.PassesText.{passes_listing};
 ghost use Rattle.px_commands.specs.declared.stop.Stop.{Stop};
 ghost use Rattle.px_draw.specs.Works.{listed};
 ghost use Rattle.px_commands.specs.Stops.{DoesWork};
 
 use px_commands::{Stop, drawing_of};
 use px_io::{Failed, Sink};
-use px_playing::write_passes;
+use px_listing::write_passes;
 use px_prune::{MAX_PRODUCTS, Plan};
 use px_scene::Scene;
 use px_sched::Layout;

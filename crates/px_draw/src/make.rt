@@ -1,5 +1,5 @@
 //! What is made of the scene that is the whole input.
-ghost use Rattle.std.specs.Prelude.{◌≡◌, ◌≢◌, ◌≤◌, IfErr, IfOk, Err};
+ghost use Rattle.std.specs.Prelude.{◌≡◌, ◌≢◌, ◌≤◌, Err};
 ghost use Rattle.px_scene.specs.Text.{worded};
 ghost use Rattle.px_commands.specs.Commands.{HasSize};
 ghost use Rattle.px_commands.specs.declared.command.Work.{Work};
@@ -9,18 +9,17 @@ ghost use Rattle.px_commands.specs.Outcomes.{done, drawable};
 ghost use Rattle.px_commands.specs.Ends.{ends};
 ghost use Rattle.px_commands.specs.Results.{HasCauses, status_in};
 ghost use Rattle.px_commands.specs.Inputs.{TookText};
-ghost use Rattle.px_commands.specs.Stops.{DoesWork, StopsAt};
+ghost use Rattle.px_commands.specs.Stops.{DoesWork};
 ghost use Rattle.px_frame.specs.Images.{images};
 ghost use Rattle.px_draw.specs.Works.{LeavesArray, PerformsWork, made, planned, tidied};
 
 use crate::list::make_list;
 use crate::refine::make_refined;
 use crate::tile::make_tiled;
-use arrayvec::ArrayString;
 use px_asm::Operating;
 use px_commands::{
-    SceneStop, Stop, Work, cost_text, drawing_of, kept_of, open_job, plan_text, read_text,
-    scene_in, write_finished,
+    Stop, Work, cost_text, drawing_of, kept_of, open_job, plan_text, read_text, scene_in,
+    write_finished,
 };
 use px_control::cost;
 use px_frame::{Plane, deliver_images};
@@ -125,18 +124,9 @@ fn make_cost<O: Sink>(alloc: Global, scene: &Scene, bits: u32, out: &mut O) -> R
     ensures serves { DoesWork result (made Work.Cost scene.now bits)
         (O.state out.old) (O.state out.new) }
 {
-    let text = cost_of(alloc, scene, bits)?;
-    write_out(text.as_bytes(), out)
-}
-
-/// The text of the command `cost`.
-fn cost_of(alloc: Global, scene: &Scene, bits: u32) -> Result<ArrayString<128>, SceneStop>
-    ensures ok { IfOk result (λ text. made Work.Cost scene.now bits ≡ done text.bytes) }
-    ensures err { IfErr result (λ stop. StopsAt (drawable bits scene.now) stop) }
-{
     let (layout, plan) = drawing_of(alloc, scene, bits)?;
     let (operations, clocks) = cost(scene, &plan, &layout);
-    Ok(cost_text(operations, clocks))
+    write_out(cost_text(operations, clocks).as_bytes(), out)
 }
 
 /// Writes all of these bytes, and finishes.

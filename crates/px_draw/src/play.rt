@@ -3,9 +3,9 @@ ghost use Rattle.std.specs.Prelude.{◌≡◌, ◌≢◌, ◌≤◌, All, Err, I
 ghost use Rattle.std.specs.Io.KnownBytes.{Appends};
 ghost use Rattle.px_array.specs.Arrays.{IsOpen};
 ghost use Rattle.px_io.specs.Counts.{HasCause};
-ghost use Rattle.px_io.specs.Told.{TakesFront, Tells};
+ghost use Rattle.px_io.specs.Reports.{TakesFront, Tells};
 ghost use Rattle.px_macro.specs.Macros.{IsLawful};
-ghost use Rattle.px_playing.specs.Memories.{memory_text, played_text};
+ghost use Rattle.px_listing.specs.Memories.{memory_text, played_text};
 ghost use Rattle.px_commands.specs.declared.stop.Stop.{Stop};
 ghost use Rattle.px_draw.specs.Listings.{PerformsPlay, Plays, list_refusal, listing_written};
 ghost use Rattle.px_commands.specs.Outcomes.{done, unless_refused};
@@ -18,8 +18,7 @@ use px_array::Array;
 use px_asm::Operating;
 use px_commands::{READ_LIMIT, SceneStop, Stop, read_text, too_long};
 use px_io::{Failed, Sink, Source};
-use px_listing::{Listing, read_listing};
-use px_playing::{laws_of_playing, play, write_memory};
+use px_listing::{Listing, laws_of_playing, play, read_listing, write_memory};
 use std::alloc::Global;
 
 /// Reads the input to its end, plays the listing that it writes, and prints every pixel's memory

@@ -2,7 +2,7 @@
 ghost use Rattle.std.specs.Prelude.{◌≡◌, IfErr, IfOk, OnErr, OnOk, None, true};
 ghost use Rattle.std.specs.Io.KnownBytes.{Appends};
 ghost use Rattle.px_io.specs.Counts.{HasCause};
-ghost use Rattle.px_io.specs.Told.{TakesFront, Tells};
+ghost use Rattle.px_io.specs.Reports.{TakesFront, Tells};
 ghost use Rattle.px_tile.specs.Found.{IsFound};
 ghost use Rattle.px_tile.specs.Pictures.{IsLastDrawn};
 ghost use Rattle.px_tile.specs.Tilings.{IsWideSize};

@@ -16,7 +16,7 @@ ghost use Rattle.px_face.specs.Surfaces.{
 pub fn laws_of_surfaces()
     ensures solids { SolidsHaveSurfaces }
     ensures scenes { ScenesHaveSurfaces }
-    ensures behind { NoMemberBehind }
+    ensures past { NoMemberBehind }
     ensures first { FirstCellsAreFirst }
     ensures faces { PicturesShowFaces }
     ensures background { PicturesShowBackground }

@@ -4,7 +4,6 @@ pub mod ImageLemmas
 pub mod MeanLemmas
 pub mod MeanSumLaws
 pub mod PictureLemmas
-pub mod RefusalLemmas
 pub mod RowLaws
 pub mod ScaleLemmas
 pub mod ShownLemmas

@@ -9,7 +9,7 @@ pub use Rattle.px_frame.specs.Stored.{stored_image, stored_number}
 pub use Rattle.px_frame.specs.Strips.{HoldsRow, strip_number}
 pub use Rattle.px_frame.specs.declared.plane.Plane.{Plane}
 pub use Rattle.px_io.proofs.ToldLaws.{front_after, front_before, on_err, takes_both}
-pub use Rattle.px_io.specs.Told.{SinkState, TakesAll, TakesFront}
+pub use Rattle.px_io.specs.Reports.{SinkState, TakesAll, TakesFront}
 pub use Rattle.px_macro.specs.Fields.{number_from_bits, number_in}
 pub use Rattle.px_macro.specs.declared.field.Field.{Field}
 pub use Rattle.px_model.specs.Scenes.{SceneView}

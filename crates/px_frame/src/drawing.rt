@@ -2,7 +2,7 @@
 ghost use Rattle.std.specs.Prelude.{◌≡◌, ◌++◌, ◌-◌, true, OnOk, OnErr};
 ghost use Rattle.std.specs.Io.KnownBytes.{Appends};
 ghost use Rattle.px_io.specs.Counts.{HasCause};
-ghost use Rattle.px_io.specs.Told.{TakesAll, TakesFront, Tells};
+ghost use Rattle.px_io.specs.Reports.{TakesAll, TakesFront, Tells};
 ghost use Rattle.px_array.specs.Slots.{HasWorked, IsRunOnce};
 ghost use Rattle.px_sched.specs.Layouts.{layout_of};
 ghost use Rattle.px_control.specs.Program.{IsAt, total};

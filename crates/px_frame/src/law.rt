@@ -1,8 +1,9 @@
 //! What the images of an array have to do with the picture of a scene.
-ghost use Rattle.px_frame.specs.ImagesLaw.{ImagesShowThePicture};
+ghost use Rattle.px_frame.specs.ImagesLaw.{FacesAreOfTheScene, ImagesShowThePicture};
 
 /// Where each pixel of the picture stores what it shows, the stored images are those of the
-/// picture.
+/// picture, and the stored face numbers are the scene's.
 pub fn laws_of_images()
-    ensures { ImagesShowThePicture }
+    ensures images { ImagesShowThePicture }
+    ensures faces { FacesAreOfTheScene }
 {}

@@ -1,6 +1,6 @@
 -- What left a source, at an error.
 use Rattle.px_num.proofs.Basics.{ℕ, ◌≤◌, List, length, Option, Result, Ok, Err, OnErr, Consumes}
-use Rattle.px_io.specs.Told.{ConsumesAtMost}
+use Rattle.px_io.specs.Reports.{ConsumesAtMost}
 
 pub on_err_consumed : {T E : Type 0} (r : Result T E) (a b : Option (List ℕ)) (bs : List ℕ) (limit : ℕ)
     → Consumes a b bs → length bs ≤ limit → OnErr r (ConsumesAtMost a b limit)

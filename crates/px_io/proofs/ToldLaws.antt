@@ -3,7 +3,7 @@ use Rattle.px_num.proofs.Basics.{◌≡◌, ℕ, ◌+◌, ◌-◌, Bool, List, [
 use Rattle.px_num.proofs.Basics.{Ok, Err, OnErr, append_assoc, append-nil, refl, sym, arith, length-append, length-drop}
 use Rattle.px_num.proofs.Basics.{zero, suc, take-add, take-append-add, take_all, Appends, Consumes, Keeps}
 use Rattle.std.proofs.lemmas.List.{take-append-le as take_within}
-use Rattle.px_io.specs.Told.{Reopens, SinkState, TakesAll, TakesFront, TakesNone}
+use Rattle.px_io.specs.Reports.{Reopens, SinkState, TakesAll, TakesFront, TakesNone}
 
 -- first xs were appended, and then ys
 pub appends_both : (a b c : Option (List ℕ)) (xs ys : List ℕ) → Appends a b xs → Appends b c ys → Appends a c (xs ++ ys)

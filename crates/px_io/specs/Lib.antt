@@ -1,4 +1,4 @@
 pub mod Counts
 pub mod Edge
 pub mod InMemory
-pub mod Told
+pub mod Reports

@@ -3,7 +3,7 @@ ghost use Rattle.std.specs.Prelude.{◌≡◌, ◌≤◌, ◌<◌, ◌+◌, ℕ,
 ghost use Rattle.std.specs.Io.KnownBytes.{Consumes, IsAtEnd};
 ghost use Rattle.px_num.specs.Want.{want};
 ghost use Rattle.px_io.specs.Counts.{Rose};
-ghost use Rattle.px_io.specs.Told.{ConsumesAtMost, IsFrontOf};
+ghost use Rattle.px_io.specs.Reports.{ConsumesAtMost, IsFrontOf};
 
 use crate::{Failed, Source};
 use px_num::Memory;

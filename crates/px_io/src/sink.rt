@@ -3,7 +3,7 @@ ghost use Rattle.std.specs.Prelude.{◌≡◌, true, OnOk, OnErr};
 ghost use Rattle.std.specs.Io.{WritesAtMost};
 ghost use Rattle.std.specs.Io.KnownBytes.{WriteAppends, Keeps};
 ghost use Rattle.px_io.specs.Counts.{HasCause, HasWriteCause};
-ghost use Rattle.px_io.specs.Told.{SinkState, Tells, WriteReopens};
+ghost use Rattle.px_io.specs.Reports.{SinkState, Tells, WriteReopens};
 
 use crate::Failed;
 

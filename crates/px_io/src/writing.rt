@@ -1,7 +1,7 @@
 //! Writing a piece whole.
 ghost use Rattle.std.specs.Prelude.{OnOk, OnErr};
 ghost use Rattle.px_io.specs.Counts.{HasCause};
-ghost use Rattle.px_io.specs.Told.{TakesAll, TakesFront};
+ghost use Rattle.px_io.specs.Reports.{TakesAll, TakesFront};
 
 use crate::{Failed, Sink};
 

@@ -1,6 +1,10 @@
 pub mod AcceptedLemmas
 pub mod LimitLemmas
+pub mod MemoryLemmas
+pub mod PaddingLemmas
+pub mod PassesLemmas
 pub mod PieceLaws
+pub mod PlayLemmas
 pub mod ReadLemmas
 pub mod RoundLemmas
 pub mod RowLaws

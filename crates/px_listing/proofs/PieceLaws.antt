@@ -3,7 +3,7 @@ use Rattle.px_num.proofs.Basics.{arith, ◌≡◌, ℕ, List, [], ◌++◌, Resu
 use Rattle.px_num.proofs.Basics.{◌∙◌, nat_tests, common_steps}
 use Rattle.px_listing.proofs.Words.{front_after, front_before, Puts, takes_both, takes_none}
 use Rattle.std.proofs.lemmas.List.{append-nil}
-use Rattle.px_io.specs.Told.{SinkState, TakesAll, TakesFront}
+use Rattle.px_io.specs.Reports.{SinkState, TakesAll, TakesFront}
 
 -- first xs, and then ys
 pub puts_both : (a b c : SinkState) (u v w xs ys : List ℕ) → Puts a b u xs v → Puts b c v ys w → Puts a c u (xs ++ ys) w

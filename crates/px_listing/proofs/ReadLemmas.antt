@@ -1,10 +1,10 @@
 -- What a line more says, and what it keeps.
 use Rattle.px_num.proofs.Basics.{◌≡◌, ℕ, ℤ, pos, ◌+◌, ◌≤◌, List, [], ◌∷◌, ◌++◌, length, Option, Some, None, OnOk}
-use Rattle.px_num.proofs.Basics.{Result, Ok, Err, ap, sym, subst, arith, length-append, ints}
+use Rattle.px_num.proofs.Basics.{Result, Ok, Err, sym, subst, arith, length-append, ints}
 use Rattle.px_listing.proofs.Words.{grid, grid_past, IsDraft, IsGrid, IsListingDraftOf, IsOpened, ListForm}
 use Rattle.px_listing.proofs.Words.{listing_limit_of, Macro, negsuc, none_first, none_second, operation, past, size_of}
 use Rattle.px_listing.proofs.Words.{Words}
-use Rattle.px_listing.specs.Reading.{ListingDraft, bad_in, extended, listing_fault_behind, listing_taken, unwritten}
+use Rattle.px_listing.specs.Reading.{ListingDraft, extended, listing_taken, unwritten}
 use Rattle.px_listing.specs.Reading.{with_operation}
 use Rattle.px_listing.proofs.AcceptedLemmas.{all_more, draft_more, kind_lawful}
 use Rattle.px_listing.proofs.LimitLemmas.{within}
@@ -36,11 +36,6 @@ kept_more bits count draft new form good opened is keeps =
 
 pub read_start : (bits : ℕ) (draft : ListingDraft) → draft ≡ unwritten → IsListingDraftOf bits draft []
 read_start bits draft e = grind arith
-
--- the draft of the lines before judges a line
-pub told : (bits : ℕ) (draft : ListingDraft) (before : List Words) (l : Words) → IsListingDraftOf bits draft before
-    → listing_fault_behind bits before l ≡ bad_in bits draft.due l
-told bits draft before l so = ap (λ (v : ListingDraft). bad_in bits v.due l) (sym so.says)
 
 pub read_next : {T E : Type 0} (r : Result T E) (bits : ℕ) (draft new : ListingDraft) (before : List Words) (l : Words)
     → (bits ≤ 256) × IsListingDraftOf bits draft before → OnOk r (new ≡ listing_taken draft l)

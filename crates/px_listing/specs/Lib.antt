@@ -5,6 +5,10 @@ pub mod Kinds
 pub mod Limits
 pub mod Lines
 pub mod Listings
+pub mod Memories
+pub mod PassesText
 pub mod Pieces
+pub mod Played
+pub mod PlayedLaw
 pub mod Reading
 pub mod RoundTrip

@@ -2,7 +2,7 @@
 ghost use Rattle.std.specs.Prelude.{◌≡◌, ◌≤◌, ◌+◌, ◌++◌, [], length, OnErr, OnOk};
 ghost use Rattle.arrayvec.specs.ArrayString.{array_string_len};
 ghost use Rattle.px_io.specs.Counts.{HasCause};
-ghost use Rattle.px_io.specs.Told.{TakesFront};
+ghost use Rattle.px_io.specs.Reports.{TakesFront};
 ghost use Rattle.px_listing.specs.Pieces.{Puts};
 
 use arrayvec::ArrayString;

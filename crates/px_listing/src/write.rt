@@ -1,7 +1,7 @@
 //! Writing a listing.
 ghost use Rattle.std.specs.Prelude.{◌≡◌, ◌≤◌, [], ◌++◌, length, OnErr, OnOk};
 ghost use Rattle.px_io.specs.Counts.{HasCause};
-ghost use Rattle.px_io.specs.Told.{TakesAll, TakesFront};
+ghost use Rattle.px_io.specs.Reports.{TakesAll, TakesFront};
 ghost use Rattle.px_macro.specs.Macros.{IsLawful};
 ghost use Rattle.px_listing.specs.Listings.{canonical_listing, end_line, listing_head, grid_line, header_line, macro_line};
 ghost use Rattle.px_listing.specs.Pieces.{Puts};

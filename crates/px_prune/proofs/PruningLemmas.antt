@@ -1,8 +1,8 @@
 -- Kept products say the same.
-use Rattle.px_num.proofs.Basics.{arith, ℕ, ◌≡◌, ◌<◌, ◌≤◌, ◌^◌, length, ◌&&◌, not, Bool, true, false, List, [], ◌∷◌}
+use Rattle.px_num.proofs.Basics.{arith, ℕ, ◌≡◌, ◌<◌, ◌^◌, ◌&&◌, not, Bool, true, false, List, [], ◌∷◌}
 use Rattle.px_num.proofs.Basics.{refl, sym, ◌∙◌, Option, Some, None, nat_tests, common_steps, list_all, list_any}
 use Rattle.px_num.proofs.Basics.{filter, filter_map}
-use Rattle.px_prune.proofs.Words.{box_of_all, Cell, CellBox, everything, filtered_few, has_face, has_some_cell}
+use Rattle.px_prune.proofs.Words.{box_of_all, Cell, CellBox, everything, has_face, has_some_cell}
 use Rattle.px_prune.proofs.Words.{in_everything, is_in_box, is_void, kept_products, LawsOfSets, lies_in, meets}
 use Rattle.px_prune.proofs.Words.{Product, pruned, pruned_within, set_of, solids}
 use Rattle.px_normal.specs.NormalLaw.{holds, shows, some_holds, some_shows}
@@ -84,10 +84,6 @@ pub kept_shows : (laws : LawsOfSets) (boxes : ℕ → Option CellBox) (at : ℕ 
     → some_shows at n (kept_products boxes ps) ≡ some_shows at n ps
 kept_shows laws boxes at x y z hx hy hz fits ps n = any_kept (λ u. holds at u && shows at n u) (pruned boxes)
     (λ p. (is_same laws boxes at x y z fits hx hy hz p).showing n) ps
-
-pub kept_fewer : (boxes : ℕ → Option CellBox) (products kept : List Product) → kept ≡ kept_products boxes products
-    → length kept ≤ length products
-kept_fewer boxes products kept list = rw list (filtered_few (pruned boxes) products)
 
 -- of a product that is not live nothing is kept
 module _ (boxes : ℕ → Option CellBox) where

@@ -1,6 +1,6 @@
 -- What a solid can have in a block: depths from the least that its fronts allow to the greatest that its backs do.
 use Rattle.px_num.proofs.Basics.{ℕ, ℤ, pos, ◌≡◌, ◌<◌, ◌≤◌, ◌-◌, ◌≤ℤ◌, ◌<ℤ◌, ◌&&◌, ◌||◌, ◌==◌, Bool, true, false, nat_le}
-use Rattle.px_num.proofs.Basics.{ap, fold, fold-append, get_or, length, list_all-append, map, map-append, sym, take}
+use Rattle.px_num.proofs.Basics.{ap, get_or, length, list_all-append, sym, take}
 use Rattle.px_num.proofs.Basics.{take_more, ◌+◌}
 use Rattle.px_num.proofs.Basics.{nat_lt, List, [], ◌∷◌, refl, ◌∙◌, arith, Some, None, Option, list_all, ints}
 use Rattle.px_prune.proofs.Words.{all_same, Block, cell_is_first, cell_of, CellBox, Depths, end_of, greatest_in}
@@ -193,11 +193,3 @@ module _ (found inside : ℕ → ℕ → ℕ → Bool) (b first second : Block)
 
   pub by_halves : (box : Option CellBox) → IsBoxOf by_turns box → IsBoxOf (with_block found inside b) box
   by_halves box is = same_box by_turns (with_block found inside b) box same_cells is
-
--- a fold over what each element is mapped to, with the next one
-pub fold_taken : {A B : Type 0} (f : B → B → B) (a : B) (g : A → B) (xs : List A) (i : ℕ) (d : A) → i < length xs
-    → fold f a (map g (take (i + 1) xs)) ≡ f (fold f a (map g (take i xs))) (g (get_or xs i d))
-fold_taken f a g xs i d lt =
-    ap (λ ys. fold f a (map g ys)) (take_more xs i d lt)
-    ∙ ap (fold f a) (map-append g (take i xs) (get_or xs i d ∷ []))
-    ∙ fold-append f a (map g (take i xs)) (g (get_or xs i d) ∷ [])

@@ -1,18 +1,8 @@
 -- Blocks of eight words that are read and written.
-use Rattle.px_num.proofs.Basics.{◌≡◌, ℕ, ◌+◌, ◌-◌, ◌*◌, ◌<◌, ◌≤◌, Bool, List, get_or, ap, ◌∙◌, arith, cases_lt}
+use Rattle.px_num.proofs.Basics.{◌≡◌, ℕ, ◌+◌, ◌-◌, ◌*◌, ◌<◌, ◌≤◌, Bool, List, get_or, ◌∙◌, arith, cases_lt}
 use Rattle.px_num.specs.Bits.{nat_bit}
 use Rattle.px_rows.specs.Rows.{row_bit}
-use Rattle.px_rows.specs.Words.{IsBlock, IsWritten}
-
--- the words that are written, and those that were read
-pub word_written : (at k : ℕ) (old new words : List ℕ) → IsWritten (λ k word. (i : ℕ) → k ≡ at + i
-    → word ≡ get_or words i 0) at old new → at ≤ k → k < at + 8
-    → get_or new k 0 ≡ get_or words (k - at) 0
-word_written at k old new words w low high = w.inside k low high (k - at) (omega arith)
-
-pub word_read : (at k : ℕ) (row words : List ℕ) → IsBlock at row words → at ≤ k → k < at + 8 → get_or words (k - at) 0
-    ≡ get_or row k 0
-word_read at k row words b low high = b.each (k - at) (omega arith) ∙ ap (λ n. get_or row n 0) (omega arith)
+use Rattle.px_rows.specs.Words.{IsWritten}
 
 pub blocks_rest : (P : ℕ → ℕ → Type 0) (block : ℕ) (start old new : List ℕ) → IsWritten P (8 * block) old new
     → ((k : ℕ) → 8 * block ≤ k → get_or old k 0 ≡ get_or start k 0)

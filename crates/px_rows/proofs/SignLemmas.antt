@@ -1,10 +1,9 @@
 -- Where a value that grows by a slope from pixel to pixel has another sign than at the first.
-use Rattle.px_num.proofs.Basics.{common_steps, ◌≡◌, ℕ, zero, suc, ◌+◌, ◌/◌, ◌<◌, ℤ, pos, negsuc, ◌+ℤ◌, ◌-ℤ◌, ◌*ℤ◌, ◌≤ℤ◌}
-use Rattle.px_num.proofs.Basics.{◌<ℤ◌, nat_lt, not, arith, cases_lt, nat_tests, ints, is_negative, lt_z, *ℤ-zero}
+use Rattle.px_num.proofs.Basics.{◌≡◌, ℕ, ◌+◌, ◌/◌, ◌<◌, ℤ, pos, negsuc, ◌+ℤ◌, ◌*ℤ◌, ◌≤ℤ◌}
+use Rattle.px_num.proofs.Basics.{◌<ℤ◌, nat_lt, arith, cases_lt, ints, is_negative, lt_z}
 use Rattle.std.proofs.Common.{nat_abs}
 use Rattle.std.proofs.lemmas.Nat.{div_below, le-div}
 use Rattle.std.specs.Int.Signed.{le_z}
-use Rattle.px_num.proofs.FormLaws.{*ℤ-suc}
 
 -- as many multiples of a number are at most so great
 multiples : (s j most : ℕ) → 0 < s → nat_lt j (most / s + 1) ≡ le_z (pos s *ℤ pos j) (pos most)
@@ -15,18 +14,6 @@ pub steps_are : (most slope : ℤ) (j : ℕ) → pos 0 ≤ℤ most → pos 0 <�
 steps_are (pos m) (pos s) j some rising = multiples s j m (omega (arith, ints, rising))
 steps_are (pos m) (negsuc s) j some rising = absurd (omega (arith, ints, rising))
 steps_are (negsuc m) slope j some rising = absurd (omega (arith, ints, some))
-
--- where the first value is negative, and where it is not
-pub before : (step base most : ℤ) → most ≡ pos 0 -ℤ (base +ℤ pos 1) → le_z step most ≡ is_negative (step +ℤ base)
-before step base most is = rw is (grind (arith, ints))
-
-fallen : (slope : ℤ) (j : ℕ) → (pos 0 -ℤ slope) *ℤ pos j ≡ pos 0 -ℤ (slope *ℤ pos j)
-fallen slope zero = omega (arith, ints, *ℤ-zero (pos 0 -ℤ slope), *ℤ-zero slope)
-fallen slope (suc j) = omega (arith, ints, fallen slope j, *ℤ-suc (pos 0 -ℤ slope) j, *ℤ-suc slope j)
-
-pub after : (slope base : ℤ) (j : ℕ) → not (le_z ((pos 0 -ℤ slope) *ℤ pos j) base)
-    ≡ is_negative ((slope *ℤ pos j) +ℤ base)
-after slope base j = grind (arith, nat_tests, common_steps, fallen)
 
 pub of_sum : (offset base sum : ℤ) → sum ≡ offset +ℤ base → lt_z sum (pos 0) ≡ is_negative (offset +ℤ base)
 of_sum offset base sum is = rw is (grind (arith, ints))

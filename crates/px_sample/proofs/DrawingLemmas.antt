@@ -1,6 +1,6 @@
 -- What is made of the sample's text is what the command does, and the shown pixels grow pixel by pixel and row by row.
 use Rattle.px_num.proofs.Basics.{ℕ, ◌≡◌, ◌+◌, ◌*◌, ◌≤◌, List, None, Result, refl, subst, arith}
-use Rattle.px_io.specs.Told.{SinkState}
+use Rattle.px_io.specs.Reports.{SinkState}
 use Rattle.px_array.specs.Slots.{ArrayView}
 use Rattle.px_scene.specs.Scenes.{SceneView}
 use Rattle.px_sample.specs.Sample.{sample_text}

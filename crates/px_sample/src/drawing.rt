@@ -1,8 +1,8 @@
 //! The command `sample`: the scene of so many blocks is drawn, and told by four numbers.
-ghost use Rattle.std.specs.Prelude.{◌≡◌, ◌+◌, ◌*◌, ◌^◌, ◌<◌, ◌≤◌, IfErr, IfOk, OnErr, OnOk, length, true};
+ghost use Rattle.std.specs.Prelude.{◌≡◌, ◌+◌, ◌*◌, ◌^◌, ◌<◌, ◌≤◌, OnErr, OnOk, length, true};
 ghost use Rattle.std.specs.Io.KnownBytes.{Appends};
 ghost use Rattle.px_io.specs.Counts.{HasCause};
-ghost use Rattle.px_io.specs.Told.{TakesFront, Tells};
+ghost use Rattle.px_io.specs.Reports.{TakesFront, Tells};
 ghost use Rattle.px_array.specs.Slots.{IsRunOnce};
 ghost use Rattle.px_prune.specs.Kept.{plan_of};
 ghost use Rattle.px_sched.specs.Layouts.{layout_of};
@@ -13,16 +13,14 @@ ghost use Rattle.px_control.specs.Program.{IsAt};
 ghost use Rattle.px_frame.specs.Drawn.{IsDrawn};
 ghost use Rattle.px_commands.specs.Arrays.{Draws};
 ghost use Rattle.px_sample.specs.Countings.{IsShownAtMost, none_shown, shown_at, shown_within, shown_in_row, shown_together};
-ghost use Rattle.px_commands.specs.Outcomes.{drawable};
 ghost use Rattle.px_sample.specs.Samples.{measures_answer, measures, sample_scene, sampled, text_measured, where_shown};
 ghost use Rattle.px_commands.specs.Results.{status_in};
-ghost use Rattle.px_commands.specs.Stops.{DoesWork, StopsAt};
+ghost use Rattle.px_commands.specs.Stops.{DoesWork};
 
 use crate::sample::sample_text;
-use arrayvec::ArrayString;
 use px_array::Array;
 use px_asm::Operating;
-use px_commands::{SceneStop, Stop, drawing_of, four_lines, open_job, scene_in, write_finished};
+use px_commands::{Stop, drawing_of, four_lines, open_job, scene_in, write_finished};
 use px_control::Job;
 use px_frame::{draw_job, stored};
 use px_io::{Failed, Sink};
@@ -92,12 +90,13 @@ fn measure<O: Sink, A: Operating>(
     ensures array { Draws (status_in result) A.BITS scene.now (A.view array.old)
         (A.view array.new) }
 {
-    let products = count_kept(alloc, scene, A::BITS as u32)?;
+    let drawing = drawing_of(alloc, scene, A::BITS as u32)?;
+    let products = drawing.1.products.len() as u64;
     let mut job = open_job(alloc, scene, array)?;
     Ok(deliver_measures(&mut job, scene, array, products, out)?)
 }
 
-/// Makes the clocks of an opened job, writes the numbers of the scene, and finishes.
+/// Makes the clocks of an opened job, writes the numbers of the scene, and finishes. Takes no memory.
 fn deliver_measures<A: Operating, O: Sink>(
     job: &mut Job<'_>,
     scene: &Scene,
@@ -116,36 +115,10 @@ fn deliver_measures<A: Operating, O: Sink>(
     ensures drawn { IsDrawn A.BITS scene.now (A.view array.new).device }
     ensures once { IsRunOnce (A.view array.old) → IsRunOnce (A.view array.new) }
 {
-    let text = measures(job, scene, array, products);
-    write_finished(text.as_bytes(), out)
-}
-
-/// How many products can show anything, in a scene that an array with so many bits can draw.
-fn count_kept(alloc: Global, scene: &Scene, bits: u32) -> Result<u64, SceneStop>
-    ensures ok { IfOk result (λ count. count ≡ length (plan_of scene.now)) }
-    ensures err { IfErr result (λ stop. StopsAt (drawable bits scene.now) stop) }
-{
-    let (_, plan) = drawing_of(alloc, scene, bits)?;
-    Ok(plan.products.len() as u64)
-}
-
-/// Makes the clocks of an opened job, and tells the numbers of the scene. Takes no memory.
-fn measures<A: Operating>(
-    job: &mut Job<'_>,
-    scene: &Scene,
-    array: &mut A,
-    products: u64,
-) -> ArrayString<128>
-    requires scene { scene.now ≡ job.old.scene }
-    requires at { IsAt A.BITS scene.now job.old.place.clock (A.view array.old).device }
-    requires products { products ≡ length (plan_of scene.now) }
-    ensures text { result.bytes ≡ measures scene.now }
-    ensures drawn { IsDrawn A.BITS scene.now (A.view array.new).device }
-    ensures once { IsRunOnce (A.view array.old) → IsRunOnce (A.view array.new) }
-{
     let layout = draw_job(job, scene, array);
     let shown = count_shown(array, &layout, scene);
-    four_lines(shown.pixels, shown.depths, products, job.total_clocks())
+    let text = four_lines(shown.pixels, shown.depths, products, job.total_clocks());
+    write_finished(text.as_bytes(), out)
 }
 
 /// The pixels of a drawn array that show a face.

@@ -1,15 +1,10 @@
 -- What lines say with one more, why the next one is bad, and a text within its limit.
 use Rattle.px_num.proofs.Basics.{◌≡◌, ℕ, ◌≤◌, ◌^◌, List, [], ◌∷◌, ◌++◌, length, nat_lt, false, ap, sym, ◌∙◌, arith}
 use Rattle.px_num.proofs.Basics.{nat_tests, fold-append}
-use Rattle.px_scene.proofs.Words.{blank, draft_of, DraftView, fault_behind, fault_in, taken, Words}
+use Rattle.px_scene.proofs.Words.{blank, draft_of, DraftView, taken, Words}
 
 pub draft_more : (before : List Words) (l : Words) → draft_of (before ++ l ∷ []) ≡ taken (draft_of before) l
 draft_more before l = fold-append taken blank before (l ∷ [])
-
--- the draft of the lines before judges a line
-pub told : (draft : DraftView) (before : List Words) (l : Words) → draft ≡ draft_of before
-    → fault_behind before l ≡ fault_in draft l
-told draft before l says = ap (λ (d : DraftView). fault_in d l) (sym says)
 
 pub says_more : (draft : DraftView) (before : List Words) (l : Words) → draft ≡ draft_of before
     → taken draft l ≡ draft_of (before ++ l ∷ [])

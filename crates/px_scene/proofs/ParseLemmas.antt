@@ -1,7 +1,7 @@
 -- A line without a fault, as it is judged in two steps, leaves the draft lawful.
 use Rattle.px_num.proofs.Basics.{◌≡◌, ℕ, List, ◌∷◌, Option, Some, None, Ok, Bool, true, false, if◌then◌else◌, refl, ap}
 use Rattle.px_num.proofs.Basics.{sym, ◌∙◌, subst, option_or}
-use Rattle.px_scene.proofs.Words.{back, Cause, depth, DraftView, Due, due_after, end, fault_by, fault_in, Form}
+use Rattle.px_scene.proofs.Words.{back, depth, DraftView, Due, due_after, end, fault_by, fault_in, Form}
 use Rattle.px_scene.proofs.Words.{form_in, front, header, is_among, IsLawfulDraft, LimitKind, LineFault, names_of}
 use Rattle.px_scene.proofs.Words.{picture, show, side, solid, taken, taken_by, with_form, Words}
 use Rattle.px_scene.proofs.LawfulLemmas.{lawful_line}
@@ -45,8 +45,3 @@ lawful_with draft after due w ws form is says left shown now next =
     let none : fault_in draft (w ∷ ws) ≡ None = found draft w ws form says ∙ rw (left, shown) refl
     in let same : taken draft (w ∷ ws) ≡ taken_by draft (Ok form) = ap (taken_by draft) (sym says)
     in rw (next, now) (subst IsLawfulDraft same (lawful_line draft w ws is none))
-
-pub within : (cause : Option Cause) (limit : Option (LineFault LimitKind)) → malformed_or cause limit ≡ None
-    → limit ≡ None
-within None limit e = e
-within (Some cause) limit e = cc

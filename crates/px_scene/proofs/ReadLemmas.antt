@@ -1,10 +1,7 @@
 -- The draft of lines of which none is bad, one line more.
-use Rattle.px_num.proofs.Basics.{◌≡◌, List, [], ◌∷◌, ◌++◌, OnOk, Result, refl, arith}
-use Rattle.px_scene.proofs.Words.{blank, DraftView, IsDraftOf, IsLawfulDraft, taken, Words}
+use Rattle.px_num.proofs.Basics.{◌≡◌, List, [], ◌∷◌, ◌++◌, OnOk, Result, arith}
+use Rattle.px_scene.proofs.Words.{DraftView, IsDraftOf, IsLawfulDraft, taken, Words}
 use Rattle.px_scene.proofs.DraftLaws.{says_more}
-
-pub read_start : (draft : DraftView) → draft ≡ blank → IsDraftOf draft []
-read_start draft e = rw e (record { says = refl; lawful = grind arith })
 
 pub read_next : {T E : Type 0} (r : Result T E) (draft new : DraftView) (before : List Words) (l : Words)
     → IsDraftOf draft before → OnOk r (new ≡ taken draft l) → OnOk r (IsLawfulDraft new)

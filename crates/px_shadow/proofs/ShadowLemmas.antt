@@ -1,11 +1,11 @@
 -- What is found of the shadows of a text that was read is found of the input, and what stops it.
-use Rattle.px_num.proofs.Basics.{ℕ, ◌≡◌, ◌<◌, ◌≤◌, List, length, take, drop, unwrap_or, None, Some, Result}
+use Rattle.px_num.proofs.Basics.{ℕ, ◌≡◌, ◌<◌, ◌≤◌, List, length, take, drop, unwrap_or, None, Result}
 use Rattle.px_num.proofs.Basics.{Err, refl, ap, sym, subst, ◌∙◌, Consumes}
-use Rattle.px_shadow.proofs.Words.{ArrayView, ConsumesAtMost, done, IsFrontOf, LayoutView}
-use Rattle.px_shadow.proofs.Words.{light_refusal, light_refused, LightFault, lights_fault, lights_in, lights_refusal}
+use Rattle.px_shadow.proofs.Words.{ConsumesAtMost, done, IsFrontOf, LayoutView}
+use Rattle.px_shadow.proofs.Words.{lights_in, lights_refusal}
 use Rattle.px_shadow.proofs.Words.{line_behind, lit_by_lines, lit_drawable, mask_image, Outcome}
 use Rattle.px_shadow.proofs.Words.{parts_lit, PerformsShadow, refusal, refused}
-use Rattle.px_shadow.proofs.Words.{Shades, ShadesBy, SinkState, SolidSet, State, stop_serves, stored_masks}
+use Rattle.px_shadow.proofs.Words.{Shades, SinkState, SolidSet, State, stop_serves, stored_masks}
 use Rattle.px_shadow.proofs.Words.{StoresTheLights, text_refusal, too_long, unless_refused, worded}
 use Rattle.px_io.specs.declared.reading.ReadError.{ReadError}
 use Rattle.px_scene.specs.Scenes.{SceneView}
@@ -13,20 +13,17 @@ use Rattle.px_scene.specs.Reading.{scene_of}
 use Rattle.px_asked.specs.Parts.{behind_part, part_end, scene_part}
 use Rattle.px_commands.specs.declared.refusal.Refusal.{Refusal}
 use Rattle.px_commands.specs.declared.stop.Stop.{Stop}
-use Rattle.px_commands.specs.declared.stop.SceneStop.{SceneStop}
-use Rattle.px_commands.specs.Arrays.{Draws}
 use Rattle.px_commands.specs.Ends.{Ends, IsUntouched}
 use Rattle.px_commands.specs.Results.{status_in, status_of}
 use Rattle.px_shadow.proofs.ArrayLemmas.{mask_law}
 use Rattle.px_shadow.specs.Shadows.{lit, shadowed}
-use Rattle.px_commands.specs.Stops.{DoesWork, read_stop, stopped}
+use Rattle.px_commands.specs.Stops.{DoesWork, read_stop}
 use Rattle.px_commands.proofs.FrontLaws.{LeavesAlike, ServesText, performs_served, text_serves}
 use Rattle.px_commands.proofs.FrontLaws as front
 use Rattle.px_commands.proofs.LimitLaws.{long_is, short_is}
 use Rattle.px_commands.proofs.StopLaws.{read_leaves, refused_leaves}
 use Rattle.px_shadow.specs.Shaded.{IsShaded}
 use Rattle.px_array.specs.Arrays.{Device}
-use Rattle.px_commands.specs.declared.refusal.Refusal.TheVariants as r
 use Rattle.px_commands.specs.declared.stop.Stop.TheVariants as s
 use Rattle.px_commands.specs.declared.stop.SceneStop.TheVariants as halted
 
@@ -79,14 +76,6 @@ performs_unread bits fault before after idle took =
     (λ text old new. Shades (status_of (read_stop fault)) bits text old new) before after idle took
     (λ text. read_leaves fault (IsShadedBy bits text) before.array)
 
--- a scene that is not served leaves the array as it was left where it was opened
-pub stop_shades : (stop : SceneStop) (bits : ℕ) (scene : SceneView) (lights : List SolidSet) (before now : ArrayView)
-    → Draws (status_of (stopped stop)) bits scene before now
-    → ShadesBy (status_of (stopped stop)) bits scene lights before now
-stop_shades (halted.Refused (r.Malformed line cause)) bits scene lights before now is = is
-stop_shades (halted.Refused (r.Limit line kind found)) bits scene lights before now is = is
-stop_shades (halted.Memory _) bits scene lights before now is = is
-
 pub serves_refused : (reason : Refusal) (o : Outcome) (a : SinkState) → o ≡ refused reason
     → DoesWork (Err (s.Refused reason)) o a a
 serves_refused reason o a is = stop_serves (halted.Refused reason) (λ x. o) o a (λ x. ap refusal is)
@@ -127,16 +116,3 @@ lights_serve result bits part behind scene first lights a b good is begins known
     ∙ ap (λ f. lit_by_lines bits scene f behind) (sym begins)
     ∙ ap (λ r. unless_refused r (lit bits scene (lights_in scene behind))) known ∙ ap (lit bits scene) (sym named) in
     subst (λ o. DoesWork result o a b) (sym same) served
-
--- and bad lines refuse them
-pub lights_refuse : (bits : ℕ) (part behind : List ℕ) (scene : SceneView) (first : ℕ) (fault : LightFault)
-    (a : SinkState) → text_refusal part ≡ None → scene ≡ scene_of (worded part) → first ≡ line_behind part
-    → lights_fault scene.solids first (worded behind) ≡ Some fault
-    → DoesWork (Err (s.Refused (light_refusal fault))) (parts_lit bits part behind) a a
-lights_refuse bits part behind scene first fault a good is begins found =
-    let here : lights_refusal (scene_of (worded part)) (line_behind part) behind ≡ Some (light_refusal fault) =
-    ap (λ v. lights_refusal v (line_behind part) behind) (sym is) ∙ ap (λ n. lights_refusal scene n behind) (sym begins)
-    ∙ ap light_refused found in
-    serves_refused (light_refusal fault) (parts_lit bits part behind) a
-    (ap (λ r. unless_refused r (lit_by_lines bits (scene_of (worded part)) (line_behind part) behind)) good
-    ∙ ap (λ r. unless_refused r (lit bits (scene_of (worded part)) (lights_in (scene_of (worded part)) behind))) here)

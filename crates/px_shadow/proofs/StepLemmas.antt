@@ -1,7 +1,7 @@
 -- The steps of the shadow passes as the functions make them, one after another.
 use Rattle.px_num.proofs.Basics.{nat_tests, common_steps, ◌≡◌, ◌<◌, ◌+◌, ◌∙◌, ℕ, false, List, [], ◌∷◌, ◌++◌, drop}
-use Rattle.px_num.proofs.Basics.{length, map, ap, arith, ◌≤◌, append_assoc, length-set, set, sym, take, map-append}
-use Rattle.px_num.proofs.Basics.{take_all, take_more, flat_map, range_with_len, get_or-range_with_len, get_or, All}
+use Rattle.px_num.proofs.Basics.{length, map, ap, arith, set, sym, take, map-append}
+use Rattle.px_num.proofs.Basics.{take_more, flat_map, range_with_len, get_or-range_with_len, get_or, All}
 use Rattle.px_num.proofs.Basics.{nat_lt, true, All-weaker, drop-cons}
 use Rattle.px_shadow.proofs.Words.{IsBelow, LayoutView, light_passes, Linear, lt_holds, lt_true, Macro}
 use Rattle.px_shadow.proofs.Words.{number_part, passes_from, solid_passes, solids, solids_laws, SolidSet, SolidView}
@@ -49,9 +49,3 @@ pub turn_more : (xs : List Linear) (i : ℕ) (d e : Linear) (ops : List Macro)
     → take (i + 1 + 1) (set ops (i + 1) (m.KeepSign e)) ≡ m.All ∷ map m.KeepSign (take (i + 1) xs)
 turn_more xs i d e ops so_far is there inside =
     grind (arith, nat_tests, common_steps, take_more, map-append, set, take-suc-set)
-
-pub turn_all : (xs : List Linear) (n : ℕ) (a b : Macro) (ops : List Macro)
-    → take (n + 1) ops ≡ m.All ∷ map m.KeepSign (take n xs) → length xs ≤ n → n + 2 < length ops
-    → take (n + 3) (set (set ops (n + 1) a) (n + 2) b) ≡ m.All ∷ map m.KeepSign xs ++ a ∷ b ∷ []
-turn_all xs n a b ops so_far past inside =
-    grind (arith, nat_tests, common_steps, set, length-set, take-suc-set, take_all, append_assoc)

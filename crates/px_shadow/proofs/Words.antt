@@ -8,7 +8,7 @@ pub use Rattle.px_control.specs.GridLaw.{IsSizedArray}
 pub use Rattle.px_face.specs.Edges.{covers, edges, hold_at}
 pub use Rattle.px_face.specs.Faces.{face_count, face_plane}
 pub use Rattle.px_frame.proofs.RowLaws.{same_image}
-pub use Rattle.px_io.specs.Told.{ConsumesAtMost, IsFrontOf, SinkState}
+pub use Rattle.px_io.specs.Reports.{ConsumesAtMost, IsFrontOf, SinkState}
 pub use Rattle.px_macro.proofs.NumberLaws.{number_same}
 pub use Rattle.px_macro.specs.Fields.{number_from_bits, number_in}
 pub use Rattle.px_macro.specs.Macros.{after_macros, IsField, IsLawful, PixelBits}

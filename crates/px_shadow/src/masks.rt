@@ -1,7 +1,7 @@
 //! The image of the lights, as an array stores them.
 ghost use Rattle.std.specs.Prelude.{◌≡◌, ◌+◌, ◌≤◌, OnErr, OnOk};
 ghost use Rattle.px_io.specs.Counts.{HasCause};
-ghost use Rattle.px_io.specs.Told.{TakesAll, TakesFront};
+ghost use Rattle.px_io.specs.Reports.{TakesAll, TakesFront};
 ghost use Rattle.px_array.specs.Arrays.{IsOpen};
 ghost use Rattle.px_frame.specs.Stored.{HasColumns, HasRows};
 ghost use Rattle.px_shadow.specs.declared.passes.TheConstants.{MAX_LIGHTS};

@@ -2,7 +2,7 @@
 ghost use Rattle.std.specs.Prelude.{◌≡◌, ◌≢◌, ◌+◌, ◌<◌, ◌≤◌, ◌==◌, All, IfErr, IfOk, OnErr, OnOk, Err, length, true, unwrap_or};
 ghost use Rattle.std.specs.Io.KnownBytes.{Appends};
 ghost use Rattle.px_io.specs.Counts.{HasCause};
-ghost use Rattle.px_io.specs.Told.{TakesAll, TakesFront, Tells};
+ghost use Rattle.px_io.specs.Reports.{TakesAll, TakesFront, Tells};
 ghost use Rattle.px_array.specs.Slots.{IsRunOnce};
 ghost use Rattle.px_control.specs.GridLaw.{CoversThePicture};
 ghost use Rattle.px_control.specs.Program.{IsAt};
@@ -225,34 +225,11 @@ fn deliver_masks<A: Operating, O: Sink>(
     ensures shaded { IsShaded A.BITS scene.now lights.now.items (A.view array.new).device }
     ensures once { IsRunOnce (A.view array.old) → IsRunOnce (A.view array.new) }
 {
-    let layout = draw_lit(job, scene, lights, array);
-    write_lights(array, &layout, scene, lights, out)?;
-    out.finish()
-}
-
-/// Makes the clocks that are left of a job and then the shadow passes, and answers where the
-/// picture stands in a pixel's memory.
-fn draw_lit<A: Operating>(
-    job: &mut Job<'_>,
-    scene: &Scene,
-    lights: &ArrayVec<SolidSet, 8>,
-    array: &mut A,
-) -> Layout
-    requires scene { scene.now ≡ job.old.scene }
-    requires at { IsAt A.BITS scene.now job.old.place.clock (A.view array.old).device }
-    requires need { need_with (layout_of scene.now) (length lights.now.items) ≤ A.BITS }
-    requires known { All (IsBelow (length scene.now.solids)) lights.now.items }
-    ensures layout { result ≡ layout_of scene.now }
-    ensures shaded { IsShaded A.BITS scene.now lights.now.items (A.view array.new).device }
-    ensures once { IsRunOnce (A.view array.old) → IsRunOnce (A.view array.new) }
-    ensures lights { StoresTheLights scene.now result lights.now.items
-        (A.view array.new).device.state }
-    ensures grid { CoversThePicture scene.now (A.view array.new).device }
-{
     let _now = job.now();
     let layout = draw_job(job, scene, array);
     shade(scene, &layout, lights, array);
-    layout
+    write_lights(array, &layout, scene, lights, out)?;
+    out.finish()
 }
 
 /// Writes the image of the lights that an array stores.

@@ -2,7 +2,7 @@
 use Rattle.px_num.proofs.Basics.{◌≡◌, ℕ, suc, ◌+◌, ◌<◌, ◌≤◌, List, ◌∷◌, ◌++◌, length, take, drop, get_or}
 use Rattle.px_num.proofs.Basics.{Some, sym, ap, ◌∙◌, arith, between, flat_map, slice_get}
 use Rattle.px_num.proofs.Basics.{drop-cons, take-append-add, take-append_seam, take-append-drop}
-use Rattle.px_num.proofs.Basics.{take-append-le, take_all, flat_map-cons, get_or_from_slice_get, slice_get-get_or}
+use Rattle.px_num.proofs.Basics.{take-append-le, flat_map-cons, get_or_from_slice_get, slice_get-get_or}
 use Rattle.px_num.proofs.Basics.{slice_get_within, between_from_start}
 use Rattle.std.proofs.lemmas.List.{length-take-le}
 use Rattle.std.proofs.lemmas.List.Concat.{flat_map-append}
@@ -16,7 +16,7 @@ use Rattle.px_macro.specs.declared.operation.Macro.{Macro}
 use Rattle.px_macro.specs.declared.operation.Macro.TheVariants as op
 use Rattle.px_listing.specs.Listings.{ListingView}
 use Rattle.px_control.proofs.StepLemmas.{below_total, micro_here, start_more}
-use Rattle.px_state.specs.Courses.{IsNextBroadcast, broadcasts, device_after, start_in_listing, total_of_listing}
+use Rattle.px_state.specs.Courses.{IsNextBroadcast, broadcasts, device_after, start_in_listing}
 
 -- the micro of a cycle is the broadcast at its clock
 pub broadcast_here : (l : ListingView) (k i : ℕ) (m : Macro) → slice_get l.macros k ≡ Some m → i < cycles m l.nx l.ny
@@ -39,10 +39,6 @@ next_here l n k i m micro here within at is = record {
 pub begins : (l : ListingView) (k : ℕ) (m : Macro) → slice_get l.macros k ≡ Some m
     → start_in_listing l (k + 1) ≡ start_in_listing l k + cycles m l.nx l.ny
 begins l k m here = start_more l.macros l.nx l.ny k m here
-
--- behind the last operation all is broadcast
-pub begins_all : (l : ListingView) (k : ℕ) → length l.macros ≤ k → start_in_listing l k ≡ total_of_listing l
-begins_all l k past = ap (λ ms. length (all_micros ms l.nx l.ny)) (take_all k l.macros past)
 
 -- the broadcasts up to a cycle of an operation
 pub front_with : (l : ListingView) (k i : ℕ) (m : Macro) → slice_get l.macros k ≡ Some m → i ≤ cycles m l.nx l.ny →

@@ -1,7 +1,7 @@
 -- A feed of the nodes whose latches stand in words.
 use Rattle.px_num.proofs.Basics.{◌≡◌, ℕ, ◌+◌, ◌-◌, ◌*◌, ◌/◌, ◌%◌, ◌^◌, ◌<◌, ◌≤◌, ◌==◌, ◌&&◌, eqb, nat_lt, nat_le, ◌⊎◌}
 use Rattle.px_num.proofs.Basics.{◌≢◌, Bool, true, false, cond, List, length, get_or, set, length-set, refl, sym, ap}
-use Rattle.px_num.proofs.Basics.{◌∙◌, arith, inl, inr, cases_lt, nat_tests}
+use Rattle.px_num.proofs.Basics.{◌∙◌, arith, inl, inr, cases_lt}
 use Rattle.std.proofs.lemmas.List.{get_or-set_other, get_or-set_same}
 use Rattle.px_num.proofs.TruthLaws.{and_true, le_false, le_true, lt_false, lt_true}
 use Rattle.px_num.specs.Bits.{majority, nat_bit, xor}
@@ -11,9 +11,6 @@ use Rattle.px_tree.specs.declared.lines.Lines.{Lines}
 use Rattle.px_tree.specs.declared.node.Node.{Node}
 use Rattle.px_state.specs.Cells.{carry_in, fed_in, nodes_at, output_in, word_bit}
 use Rattle.px_state.specs.declared.shape.Shape.{Shape}
-
-pub below_law : (w j place : ℕ) → nat_lt j (place - 64 * w) ≡ nat_lt (64 * w + j) place
-below_law w j place = grind (arith, nat_tests)
 
 -- the node table by its two cases
 pub output_law : (odd p l c : Bool) → cond odd (xor p (xor l c)) p ≡ (next_node odd p l c).output

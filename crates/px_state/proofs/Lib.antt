@@ -8,7 +8,6 @@ pub mod OperationLemmas
 pub mod PackingLemmas
 pub mod PlaceLemmas
 pub mod PutLemmas
-pub mod RefusalLemmas
 pub mod SceneLemmas
 pub mod TextLemmas
 pub mod TurningLemmas

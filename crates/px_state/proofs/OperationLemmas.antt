@@ -18,7 +18,7 @@ use Rattle.px_sched.specs.Layouts.{LayoutView, layout_of, need_of}
 use Rattle.px_sched.specs.Passes.{operations, passes, steps}
 use Rattle.px_sched.specs.StepCursors.{literals_in}
 use Rattle.px_listing.specs.Reading.{listing_of}
-use Rattle.px_playing.specs.PassesText.{passes_listing}
+use Rattle.px_listing.specs.PassesText.{passes_listing}
 use Rattle.px_state.specs.Courses.{start_in_listing}
 use Rattle.px_state.specs.Operations.{HasOperations, IsOfListing, IsOperationBy, IsOperationOf, IsPassed, no_operation}
 use Rattle.px_state.specs.Operations.{operations_before, purpose_of, told}

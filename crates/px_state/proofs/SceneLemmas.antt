@@ -13,7 +13,7 @@ use Rattle.px_control.specs.Program as program
 use Rattle.px_control.specs.ProgramLaws.{IsGoodProgram}
 use Rattle.px_control.specs.Standing.{StandsFor}
 use Rattle.px_control.specs.declared.place.Place.{Place}
-use Rattle.px_playing.specs.PassesText.{passes_listing}
+use Rattle.px_listing.specs.PassesText.{passes_listing}
 use Rattle.px_state.specs.Courses.{IsNextBroadcast, device_after, total_of_listing}
 use Rattle.px_state.specs.Inputs.{IsGoodCourse}
 use Rattle.px_state.proofs.CourseLemmas.{next_here}

@@ -9,7 +9,7 @@ use Rattle.px_scene.specs.Reading.{scene_of}
 use Rattle.px_scene.specs.Reading as reading
 use Rattle.px_show.specs.Judged.{SceneFault}
 use Rattle.px_show.specs.declared.fault.TextFault.TheVariants as text_fault
-use Rattle.px_playing.specs.PassesText.{passes_listing}
+use Rattle.px_listing.specs.PassesText.{passes_listing}
 use Rattle.px_listing.specs.Reading.{listing_of}
 use Rattle.px_listing.specs.Reading as listing
 use Rattle.px_listing.specs.Reading.{ListFault}

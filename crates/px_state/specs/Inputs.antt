@@ -4,7 +4,7 @@ use Rattle.px_array.specs.Slots.{ArrayView, HasWorked}
 use Rattle.px_listing.specs.Listings.{ListingView}
 use Rattle.px_listing.specs.Reading.{listing_of}
 use Rattle.px_macro.specs.Macros.{IsLawful}
-use Rattle.px_playing.specs.PassesText.{passes_listing}
+use Rattle.px_listing.specs.PassesText.{passes_listing}
 use Rattle.px_scene.specs.Reading.{scene_of}
 use Rattle.px_sched.specs.Cursors.{Stands}
 use Rattle.px_sched.specs.Layouts.{layout_of, need_of}

@@ -2,7 +2,7 @@ pub use Rattle.px_array.specs.Arrays
 pub use Rattle.px_asm.specs.Micros
 pub use Rattle.px_listing.specs.Kinds
 pub use Rattle.px_listing.specs.Listings
-pub use Rattle.px_playing.specs.PassesText
+pub use Rattle.px_listing.specs.PassesText
 pub use Rattle.px_sched.specs.Passes
 pub use Rattle.px_sched.specs.StepCursors
 pub mod Cells

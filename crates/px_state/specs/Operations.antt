@@ -17,7 +17,7 @@ use Rattle.px_sched.specs.StepCursors.{literals_in}
 use Rattle.px_listing.specs.Kinds.{operands_of, operation_kind}
 use Rattle.px_listing.specs.Listings.{ListingView}
 use Rattle.px_listing.specs.Reading.{listing_of}
-use Rattle.px_playing.specs.PassesText.{passes_listing}
+use Rattle.px_listing.specs.PassesText.{passes_listing}
 use Rattle.px_state.specs.Courses.{start_in_listing}
 use Rattle.px_state.specs.Refusals.{is_listing}
 use Rattle.px_state.specs.declared.operation.Operation.{Operation}

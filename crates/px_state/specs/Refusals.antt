@@ -18,7 +18,7 @@ use Rattle.px_sched.specs.Layouts.{layout_of, need_of}
 use Rattle.px_control.specs.declared.fault.JobFault.{JobFault}
 use Rattle.px_control.specs.declared.fault.JobFault.TheVariants as job
 use Rattle.px_listing.specs.Listings.{ListingView}
-use Rattle.px_playing.specs.PassesText.{passes_listing}
+use Rattle.px_listing.specs.PassesText.{passes_listing}
 use Rattle.px_listing.specs.Reading.{listing_of}
 use Rattle.px_listing.specs.Reading as listing
 use Rattle.px_listing.specs.Reading.{ListFault}

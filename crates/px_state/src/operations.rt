@@ -6,7 +6,7 @@ ghost use Rattle.px_sched.specs.Layouts.{layout_of};
 ghost use Rattle.px_sched.specs.Passes.{passes, steps};
 ghost use Rattle.px_sched.specs.StepCursors.{literals_in};
 ghost use Rattle.px_sched.specs.Steps.{IsStep};
-ghost use Rattle.px_playing.specs.PassesText.{passes_listing};
+ghost use Rattle.px_listing.specs.PassesText.{passes_listing};
 ghost use Rattle.px_state.specs.Courses.{start_in_listing};
 ghost use Rattle.px_state.specs.Inputs.{IsOperationIn, listing_in};
 ghost use Rattle.px_state.specs.Operations.{

@@ -4,7 +4,7 @@ ghost use Rattle.px_array.specs.Arrays.{opened};
 ghost use Rattle.px_control.specs.Program.{total};
 ghost use Rattle.px_control.specs.Standing.{StandsFor};
 ghost use Rattle.px_macro.specs.Macros.{IsLawful};
-ghost use Rattle.px_playing.specs.PassesText.{passes_listing};
+ghost use Rattle.px_listing.specs.PassesText.{passes_listing};
 ghost use Rattle.px_sched.specs.Layouts.{layout_of, need_of};
 ghost use Rattle.px_state.specs.Courses.{IsNextBroadcast, total_of_listing};
 ghost use Rattle.px_state.specs.Inputs.{HasRunTo, IsHeldBy, listing_in};

@@ -9,11 +9,10 @@ use Rattle.px_model.specs.Scenes.{SceneView}
 use Rattle.px_model.specs.Cells.{picture}
 use Rattle.px_sched.specs.Layouts.{layout_of, need_of}
 use Rattle.px_control.specs.declared.fault.JobFault.{JobFault}
-use Rattle.px_tile.specs.declared.fault.WideFault.{WideFault}
 use Rattle.px_model.specs.Planes.{first_past}
 use Rattle.px_tile.specs.Drawn.{HasTiles, IsLeft, tile_at, crowd_of_tile}
 use Rattle.px_tile.specs.Found.{IsFound, IsInTile, PutsTile, number_at, sight_number}
-use Rattle.px_tile.specs.Pictures.{IsLastDrawn, LeavesOnWideRefusal}
+use Rattle.px_tile.specs.Pictures.{IsLastDrawn}
 use Rattle.px_tile.specs.Refusals.{bits_short, first_coefficient, first_crowd, tile_refusal, wide_refusal}
 use Rattle.px_tile.specs.Tilings.{IsWideSize, column_of, row_of, scene_of_tile, tile_count, tiles_across}
 use Rattle.px_tile.proofs.FirstLemmas.{none_each, both_none}
@@ -97,18 +96,6 @@ module _ (scene : SceneView) (width height : ℕ) (some_w : 1 ≤ scene.width) (
   last_left bits before now (inl (none, same)) = absurd (omega (arith, some_tiles))
   last_left bits before now (inr (last, is, low, drawn)) =
       let here : tile_count scene width height - 1 ≡ last = omega arith in rw here drawn
-
--- every refusal may leave the array as it was
-pub kept_on_refusal : (fault : WideFault) (bits : ℕ) (scene : SceneView) (width height : ℕ) (array : ArrayView)
-    → LeavesOnWideRefusal fault bits scene width height array array
-kept_on_refusal (wide.Memory _) bits scene width height array = inl refl
-kept_on_refusal other bits scene width height array = refl
-
--- the refusals are those of any two arrays that have both bits enough, or neither
-pub same_refusal : (scene : SceneView) (width height some other : ℕ)
-    → nat_lt some (need_of (layout_of scene)) ≡ nat_lt other (need_of (layout_of scene))
-    → wide_refusal scene width height some ≡ wide_refusal scene width height other
-same_refusal scene width height some other same = rw same refl
 
 -- what holds of a picture that is not refused
 pub record IsDrawable (scene : SceneView) (width height bits : ℕ) : Type 0 where

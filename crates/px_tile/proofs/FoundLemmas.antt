@@ -1,27 +1,10 @@
 -- Numbers that are put row by row into those of a wide picture.
-use Rattle.px_num.proofs.Basics.{◌≡◌, ℕ, ◌+◌, ◌*◌, ◌^◌, ◌<◌, ◌≤◌, ◌⊎◌, inl, inr, List, length, refl, ap, sym, ◌∙◌}
+use Rattle.px_num.proofs.Basics.{◌≡◌, ℕ, ◌+◌, ◌*◌, ◌<◌, ◌≤◌, ◌⊎◌, inl, inr, List, ap, sym, ◌∙◌}
 use Rattle.px_num.proofs.Basics.{arith, slice_index, mul-le-mul_right, cases_lt}
-use Rattle.std.proofs.Common.{slice_set as set}
-use Rattle.std.proofs.lemmas.List.{length-set, get_or-set_other, get_or-set_same}
 use Rattle.px_model.specs.Scenes.{SceneView}
-use Rattle.px_model.specs.Cells.{Sight, picture}
+use Rattle.px_model.specs.Cells.{picture}
 use Rattle.px_tile.specs.Found.{sight_number}
-use Rattle.px_array.specs.Arrays.{State, pixel_of}
-use Rattle.px_frame.specs.Strips.{HoldsRow}
-use Rattle.px_sched.specs.Layouts.{LayoutView, depth_part, number_part}
-use Rattle.px_sched.specs.PassesLaw.{ShowsThePicture}
-use Rattle.px_tile.specs.PutRows.{HoldSights, PutsRow, PutsRows}
-
--- the number of what is stored
-pub number_shown : (depth face n : ℕ) (sight : Sight) → n ≡ sight_number (record { depth = depth; face = face })
-    → depth ≡ sight.depth → face ≡ sight.face → n ≡ sight_number sight
-number_shown depth face n sight is p q = rw (is, p, q) refl
-
--- one pixel more of a row
-pub row_more : (scene : SceneView) (x y start n : ℕ) (old mid new : List ℕ) → PutsRow scene x y start old mid
-    → start + x < length mid → n ≡ sight_number (picture scene x y) → new ≡ set mid (start + x) n
-    → PutsRow scene (x + 1) y start old new
-row_more scene x y start n old mid new put inside is now = grind (arith, length-set, get_or-set_other, get_or-set_same)
+use Rattle.px_tile.specs.PutRows.{PutsRow, PutsRows}
 
 -- the rows before one end before it
 ends_before : (width y later x : ℕ) → x < width → y < later → y * width + x < later * width
@@ -73,10 +56,3 @@ rows_more scene y x0 y0 width start old mid new before put is fits = record {
             let same : row ≡ y0 + y = omega arith in beside x row same out
       ]
     ]
-
--- what two strips hold of an array that stores a picture
-pub sights_held : (scene : SceneView) (layout : LayoutView) (state : State) (y : ℕ) (depths faces : List ℕ)
-    → y < scene.height → y < 2 ^ state.tree.ny → ShowsThePicture scene layout (λ x y. (pixel_of state x y).memory)
-    → HoldsRow depths (depth_part layout layout.key_b) state scene.width y
-    → HoldsRow faces (number_part layout layout.key_b) state scene.width y → HoldSights scene y depths faces
-sights_held scene layout state y depths faces high above shows depth face = grind arith

@@ -5,7 +5,7 @@ use Rattle.px_num.proofs.Basics.{between, flat_map, range_with_len, div-lt_iff_l
 use Rattle.px_num.proofs.Basics.{flat_map-append, get_or_default, take-append-drop, between_is}
 use Rattle.std.proofs.Math.Nat.{mod-eq-sub-div-mul}
 use Rattle.px_num.proofs.RangeLaws.{range_cut, same_parts}
-use Rattle.px_io.specs.Told.{SinkState, TakesAll, TakesFront}
+use Rattle.px_io.specs.Reports.{SinkState, TakesAll, TakesFront}
 use Rattle.px_io.proofs.ToldLaws.{front_after, takes_both}
 use Rattle.px_frame.specs.Picture.{header, three_bytes, depth_at, face_at, number_pixel, row_of_pixels}
 use Rattle.px_face.proofs.BackgroundLemmas.{first_cells, shows_faces}

@@ -9,10 +9,6 @@ pub some_across : (size pixels : ℕ) → 1 ≤ size → 1 ≤ pixels → 1 ≤ 
 some_across size pixels some any =
     (le-div_iff_mul-le {k = size} {x = 1} {y = pixels + (size - 1)} (omega arith)).1 (omega arith)
 
--- a tile across begins before the end
-pub begins_inside : (size pixels k : ℕ) → 1 ≤ size → k < tiles_across size pixels → k * size < pixels
-begins_inside size pixels k some low = grind (arith, le-div_iff_mul-le)
-
 -- so many tiles cover the pixels
 pub covers_all : (size pixels x : ℕ) → 1 ≤ size → x < pixels → x / size < tiles_across size pixels
 covers_all size pixels x some inside = grind (arith, lt-div-mul-add, div-lt_iff_lt-mul)

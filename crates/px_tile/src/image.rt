@@ -2,7 +2,7 @@
 ghost use Rattle.std.specs.Prelude.{◌≡◌, ◌++◌, ◌*◌, ◌<◌, ◌≤◌, All, OnErr, OnOk, length};
 ghost use Rattle.px_frame.specs.Picture.{header, three_bytes, depth_image, face_image};
 ghost use Rattle.px_io.specs.Counts.{HasCause};
-ghost use Rattle.px_io.specs.Told.{TakesAll, TakesFront};
+ghost use Rattle.px_io.specs.Reports.{TakesAll, TakesFront};
 ghost use Rattle.px_tile.specs.declared.image.TheConstants.{PIECE};
 ghost use Rattle.px_tile.specs.Found.{IsFound};
 ghost use Rattle.px_tile.specs.Parts.{IsSmall, bytes_of, part_image, part_of};

@@ -15,7 +15,7 @@ from typing import Any, Callable
 from pxplanes import ends
 from pxplanes.cli import frame
 from pxplanes.errors import Trouble
-from pxplanes.explain import list_cures
+from pxplanes.machine import listings
 from pxplanes.mesh import cameras, exports, mesh_files, modelling
 from pxplanes.scene import scenes
 
@@ -109,10 +109,10 @@ def scene_in(path: str) -> bytes:
     if path != "-" and os.path.splitext(path)[1][1:].lower() in modelling.KINDS:
         return b""
     text: bytes = ends.content(path)
-    first = next((words[0] for words in map(list_cures.words_of, text.split(b"\n")) if words), None)
-    if first != "pxscene" and path == "-":
+    is_scene = listings.first_word(text) == b"pxscene"
+    if not is_scene and path == "-":
         raise Trouble("a model from standard input needs --kind")
-    return text if first == "pxscene" else b""
+    return text if is_scene else b""
 
 
 def exported(text: bytes, form: Any, options: argparse.Namespace) -> int:

@@ -17,7 +17,7 @@ from pxplanes.cli import frame
 from pxplanes.errors import Trouble
 from pxplanes.explain import explaining, kinds, list_cures, looks, readings
 from pxplanes.image import netpbm
-from pxplanes.machine import listings, micros, sessions, states
+from pxplanes.machine import listings, passes, sessions, states
 from pxplanes.scene import scenes
 
 HELP = "say why a scene is refused or what it has; mend it; a pixel's ray; what it costs"
@@ -136,7 +136,7 @@ def ray(text: bytes, at: list[int]) -> list[str]:
 
 def is_scene(text: bytes) -> bool:
     """Whether the first word of a text is that of a scene's header."""
-    return next((words[0] for words in map(list_cures.words_of, text.split(b"\n")) if words), None) == "pxscene"
+    return listings.first_word(text) == b"pxscene"
 
 
 def of_listing(text: bytes) -> tuple[list[str], int]:
@@ -206,31 +206,22 @@ def diff_of(path: str, old: bytes, new: bytes) -> str:
 def cost(text: bytes, options: argparse.Namespace) -> int:
     """Prints the two lines of `pxplanes cost`; of a listing too, which that command does not take."""
     body, _ = sessions.parted(text)
-    if listings.is_listing(body):
-        seen = listings.Listing(body)
-        operations, clocks, listing, lines = len(seen.operations), seen.clocks, body, list(seen.lines)
-    else:
-        built = program.needed(None)
-        operations, clocks = program.cost(built, body)
-        listing = program.answer(built, ["list"], body)[1] if options.each else b""
-        lines = list(range(listings.FIRST_LINE, listings.FIRST_LINE + operations))
+    seen = listings.Listing(body) if options.each or listings.is_listing(body) else None
+    operations, clocks = (len(seen.operations), seen.clocks) if seen else program.cost(program.needed(None), body)
     if options.json:
         print(json.dumps({"operations": operations, "clocks": clocks}))
         return frame.SUCCESS
-    if options.each:
-        print_each(listing, lines)
+    if options.each and seen:
+        print_each(seen)
     print("macros %d\nclocks %d" % (operations, clocks))
     return frame.SUCCESS
 
 
-def print_each(listing: bytes, lines: list[int]) -> None:
+def print_each(listing: listings.Listing) -> None:
     """Prints a line for each operation of a listing, as a table."""
-    nx, ny, operations = micros.read_listing(listing)
-    clock, rows = 0, []
-    for line, (name, numbers) in zip(lines, operations):
-        clocks = micros.clocks_of(name, numbers, nx + ny)
-        rows.append((line, clock, clocks, " ".join([name] + list(map(str, numbers))), micros.spoken(name, numbers)))
-        clock += clocks
+    each = zip(listing.lines, [0, *listing.ends], listing.ends, listing.operations)
+    rows = [(line, begin, end - begin, " ".join([name, *map(str, numbers)]), passes.spoken(name, numbers))
+            for line, begin, end, (name, numbers) in each]
     wide = max([9] + [len(row[3]) for row in rows])
     print("%5s %9s %6s  %-*s  %s" % ("line", "at clock", "clocks", wide, "operation", "which does"))
     for line, begin, clocks, operation, does in rows:

@@ -17,6 +17,7 @@ import shutil
 import stat
 import subprocess
 import sys
+import tempfile
 import traceback
 from typing import IO, Any, NoReturn, Optional, Protocol, Sequence
 
@@ -113,8 +114,31 @@ def whole_number(least: int, most: int) -> type[int]:
     return number  # type: ignore[return-value]
 
 
-def run_program(words: Sequence[str]) -> int:
-    """Runs a word of the program itself: by the program that is built, or, if there is none, by the library."""
+def draw_into(words: list[str]) -> int:
+    """Runs a word of the program, and writes what it draws into the file behind `-o`: as PNG where its name ends so. A refused
+    scene leaves the file as it was."""
+    at = words.index("-o")
+    if at + 1 == len(words):
+        raise Trouble("a file is expected after -o")
+    out, others = words[at + 1], words[:at] + words[at + 2:]
+    with tempfile.NamedTemporaryFile(suffix=".ppm") as drawn:
+        done = subprocess.run([sys.executable, "-m", "pxplanes", *others], stdout=drawn)
+        if done.returncode != SUCCESS:
+            return done.returncode
+        if out.lower().endswith(".png"):
+            return answered(["view", drawn.name, "-o", out])
+        shutil.copyfile(drawn.name, out)
+    return SUCCESS
+
+
+def run_program(words: list[str]) -> int:
+    """Runs a word of the program itself, over the file that follows it, or over standard input: by the program that is built, or, if
+    there is none, by the library."""
+    if "-o" in words:
+        return draw_into(words)
+    if words and words[-1] not in PROGRAM_WORDS and os.path.isfile(words[-1]):
+        with open(words.pop(), "rb") as scene:
+            os.dup2(scene.fileno(), sys.stdin.fileno())
     if sys.stdout.isatty() and (words[0] if words else "render") in BINARY_WORDS:
         raise Trouble("no terminal shows raw pixels: send them to a file, or to `pxplanes view -o PNG -`")
     built = program.find(None)
@@ -168,7 +192,7 @@ def answered(words: list[str]) -> int:
         raise Trouble("standard output is closed")
     if "_ARGCOMPLETE" in os.environ:
         complete(whole_parser())
-    if not words or words[0] in PROGRAM_WORDS:
+    if not words or words[0] in PROGRAM_WORDS or os.path.isfile(words[0]):
         return run_program(words)
     if words[0] not in WORDS:
         parsed(whole_parser(), words)

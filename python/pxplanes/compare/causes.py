@@ -17,7 +17,8 @@ from typing import Callable, Iterator, Optional, Sequence
 import numpy as np
 
 from pxplanes.compare.picture import (
-    KINDS, RIGHT, Bools, Node, Picture, Plane, Reading, Reals, Scene, Solid, Whole, ends, picture)
+    BEFORE, KINDS, RIGHT, Bools, Node, Picture, Plane, Reading, Reals, Scene, Solid, Whole, ends, grid,
+    picture)
 from pxplanes.compare.verdict import FACES, Sample
 from pxplanes.scene.rays import folded
 
@@ -216,21 +217,48 @@ def without_product(which: int) -> Change:
     return change
 
 
-def hidden(solid: Solid) -> Solid:
-    return replace(solid, sides=[((0, 0, -1), 0)])
+def unnested(scene: Scene) -> Scene:
+    """All signs from left to right, without parentheses."""
+    join: Callable[[str, list[Node], list[Node]], list[Node]] = lambda sign, left, right: left + [sign] + right
+    row = folded(scene.show, alone, join)
+    return replace(scene, show=row[:1] + [node for sign, at in zip(row[1::2], row[2::2]) for node in (at, sign)])
 
 
-def first_solids(most: int) -> Change:
-    return lambda scene: scene if len(scene.solids) <= most else replace(
-        scene, solids=scene.solids[:most] + [hidden(solid) for solid in scene.solids[most:]])
+def with_sides(scene: Scene, sides: Sequence[list[Plane]]) -> Scene:
+    """The scene with more sides of each solid."""
+    return replace(scene, solids=[replace(solid, sides=solid.sides + [(plane, 0) for plane in own])
+                                  for solid, own in zip(scene.solids, sides)]) if any(sides) else scene
 
 
-def first_planes(most: int) -> Change:
+def hidden(scene: Scene, out: Sequence[bool]) -> Scene:
+    return with_sides(scene, [[(0, 0, -1)] * bool(each) for each in out])
+
+
+def solids_at(part: slice) -> Change:
     def change(scene: Scene) -> Scene:
-        if all(len(solid.rows(kind)) <= most for solid in scene.solids for kind in KINDS):
-            return scene
-        return replace(scene, solids=[Solid(solid.near, *(solid.rows(kind)[:most] for kind in KINDS)) for solid in scene.solids])
+        kept = range(len(scene.solids))[part]
+        return hidden(scene, [at not in kept for at in range(len(scene.solids))])
     return change
+
+
+def planes_at(part: slice, kinds: Sequence[str] = KINDS) -> Change:
+    def change(scene: Scene) -> Scene:
+        new = [Solid(solid.near, *(solid.rows(kind)[part if kind in kinds else slice(None)] for kind in KINDS))
+               for solid in scene.solids]
+        return scene if new == scene.solids else replace(scene, solids=new)
+    return change
+
+
+def only(side: Callable[[Scene], Plane]) -> Change:
+    """Only the pixels on one side of a line are drawn."""
+    return lambda scene: with_sides(scene, [[side(scene)]] * len(scene.solids))
+
+
+def short_boxes(scene: Scene) -> Scene:
+    """The last row and column of each solid are left out."""
+    x, y = grid(scene)
+    return with_sides(scene, [[(-1, 0, int(x[own].max()) - 1), (0, -1, int(y[own].max()) - 1)] if own.any() else []
+                              for own in ends(scene, RIGHT, x, y).has])
 
 
 def culled(edges: str) -> Change:
@@ -238,13 +266,12 @@ def culled(edges: str) -> Change:
     def change(scene: Scene) -> Scene:
         across, down = np.arange(scene.width), np.arange(scene.height)
         lines = {"left": (0 * down, down), "right": (0 * down + scene.width - 1, down), "top": (across, 0 * across),
-                 "bottom": (across, 0 * across + scene.height - 1)}
+                 "bottom": (across, 0 * across + scene.height - 1), "eye": grid(scene)}
         touch = np.zeros(len(scene.solids), bool)
-        for x, y in (lines[each] for each in edges.split()):
-            touch |= ends(scene, RIGHT, x, y).has.any(1)
-        if not touch.any():
-            return scene
-        return replace(scene, solids=[hidden(solid) if at else solid for solid, at in zip(scene.solids, touch)])
+        for each in edges.split():
+            found = ends(scene, RIGHT, *lines[each])
+            touch |= (found.has & ((each != "eye") | (found.first <= 0))).any(1)
+        return hidden(scene, touch.tolist())
     return change
 
 
@@ -259,17 +286,20 @@ def on_planes(change: Callable[[int, int], int], terms: str = "abc", kinds: Sequ
     return of_scene
 
 
-def without(kind: str) -> Change:
-    return lambda scene: replace(scene, solids=[
-        Solid(solid.near, *([] if each == kind else solid.rows(each) for each in KINDS)) for solid in scene.solids])
-
-
-def exchanged(kind: str) -> Change:
-    return lambda scene: scene.planes(lambda plane, own: (plane[1], plane[0], plane[2]) if own == kind else plane)
+def exchanged(*kinds: str) -> Change:
+    return lambda scene: scene.planes(lambda plane, own: (plane[1], plane[0], plane[2]) if own in kinds else plane)
 
 
 def wrapped(bits: int) -> Callable[[int, int], int]:
     return lambda v, _: (v + (1 << bits - 1)) % (1 << bits) - (1 << bits - 1)
+
+
+def unsigned(bits: int) -> Callable[[int, int], int]:
+    return lambda v, _: v % (1 << bits)
+
+
+def limited(bits: int) -> Callable[[int, int], int]:
+    return lambda v, _: max(-1 << bits - 1, min(v, (1 << bits - 1) - 1))
 
 
 def dropped(keep: int) -> Callable[[int, int], int]:
@@ -352,18 +382,9 @@ def renumbered(order: Callable[[list[tuple[int, int, int]]], dict[int, int]]) ->
     return write
 
 
-def from_0_to(top: float, gamma: float) -> Write:
-    return depths(lambda v, scene: v if scene.far == top and gamma == 1 else top * np.clip(v / scene.far, 0, 1) ** gamma)
-
-
-def in_parts(v: Reals, scene: Scene) -> Reals:
-    found: Reals = np.rint(v * (1 << scene.fraction))
-    return found
-
-
-def half_floats(v: Reals) -> Reals:
-    found: Reals = np.where(v > 65504, 65504, v).astype(np.float16).astype(np.float64)
-    return found
+def from_0_to(top: float, gamma: float, more: int = 0) -> Write:
+    return depths(lambda v, scene: v if (scene.far, gamma, more) == (top, 1, 0) else
+                  top * np.clip(v / (scene.far + more), 0, 1) ** gamma)
 
 
 # ---- the causes
@@ -373,6 +394,8 @@ def fixed() -> Iterator[Cause]:
     yield Cause("the rows are from the bottom up", "place", place=lambda x, y, s: (x, s.height - 1 - y))
     yield Cause("the columns are from the right", "place", place=lambda x, y, s: (s.width - 1 - x, y))
     yield Cause("rows and columns are turned about", "place", place=lambda x, y, s: (s.width - 1 - x, s.height - 1 - y))
+    yield Cause("the rows are from the bottom up, counted from 1", "place", place=lambda x, y, s: (x, s.height - y))
+    yield Cause("the columns are from the right, counted from 1", "place", place=lambda x, y, s: (s.width - x, y))
     yield Cause("the data is transposed under a right header", "place", place=transposed)
     for dx, dy in ((1, 0), (-1, 0), (0, 1), (0, -1), (1, 1), (-1, -1)):
         yield Cause("the map is moved by %d columns and %d rows" % (dx, dy), "place", place=moved(dx, dy))
@@ -388,24 +411,26 @@ def fixed() -> Iterator[Cause]:
 
 def roundings() -> Iterator[Cause]:
     for rounds in ("down", "half_up", "half_down", "half_even"):
-        yield Cause("values are rounded %s to cells before they are compared" % rounds.replace("_", " "), "round",
-                    how=Reading(rounds=rounds), real=False)
-    ways: list[tuple[str, Callable[[Reals], Reals]]] = [
-        ("down", np.floor), ("to the nearest, halves to even", np.rint), ("to the nearest, halves up", half_up)]
+        for said, how in (("values", Reading(fronts=rounds, ends=rounds)), ("values of fronts", Reading(fronts=rounds)),
+                          ("values of backs", Reading(ends=rounds))):
+            yield Cause("%s are rounded %s to cells before they are compared" % (said, rounds.replace("_", " ")),
+                        "round", how=how, real=False)
+    yield Cause("surfaces show at the next cell", "off", how=Reading(fronts="next", ends="next"), real=False)
+    ways: list[tuple[str, Callable[[Reals], Reals]]] = [("down", np.floor), ("to the nearest, halves to even", np.rint),
+                                                        ("to the nearest, halves up", lambda v: (v + 0.5) // 1)]
     for said, rounding in ways:
         yield Cause("depths are rounded %s at the end" % said, "round", write=by(rounding), real=True)
     yield Cause("there are no cells: what passes between two depths is drawn", "round", write=by(np.ceil), real=True)
 
 
-def half_up(v: Reals) -> Reals:
-    found: Reals = np.floor(v + 0.5)
-    return found
-
-
 def readings() -> Iterator[Cause]:
-    for said, how in (("sides are strict", Reading(strict_sides=True)), ("fronts are strict", Reading(open_fronts=True)),
-                      ("backs belong to their solid", Reading(closed_backs=True)),
-                      ("nothing is cut off at the eye", Reading(near=False)),
+    for said, how in (("sides are strict", Reading(strict_sides=True)), ("fronts are strict", Reading(fronts="next")),
+                      ("backs belong to their solid", Reading(ends="next")),
+                      ("solids end a cell later", Reading(ends="later")),
+                      ("nothing is cut off at the eye", Reading(near=BEFORE)),
+                      ("the cell 0 is not drawn", Reading(near=1)),
+                      ("values of planes are cut to 32 bits", Reading(bits=32)),
+                      ("values of planes are cut to 16 bits", Reading(bits=16)),
                       ("the cell far - 1 is not drawn", Reading(far=-1)), ("the cell far is drawn", Reading(far=1)),
                       ("backs of cuts are left out", Reading(backs=False)),
                       ("the highest face shows in a tie", Reading(highest=True)),
@@ -419,18 +444,33 @@ def signs() -> Iterator[Cause]:
     for sign in "+-*^":
         for other in [*"+-*^".replace(sign, ""), "left", "right"] + ["turned"] * (sign == "-"):
             yield Cause("%s is taken for %s" % (sign, sides.get(other, other)), "sign " + sign, sign_as(sign, other))
+    yield Cause("signs are taken from left to right, without parentheses", "nesting", unnested)
     for which, said in ((0, "first"), (-1, "last"), (1, "second")):
         yield Cause("the %s product is left out" % said, "product", without_product(which))
 
 
 def counted() -> Iterator[Cause]:
     for most in (1, 2, 3, 4, 5, 6, 7, 8, 10, 12, 16, 24, 32, 64, 128):
-        yield Cause("only the first %d solids are drawn" % most, "solids", first_solids(most))
-    for most in (1, 2, 3, 4, 5, 6, 8, 16):
-        yield Cause("only the first %d planes of a kind are taken" % most, "planes", first_planes(most))
+        yield Cause("only the first %d solids are drawn" % most, "solids", solids_at(slice(most)))
+    yield Cause("the first solid is not drawn", "solids", solids_at(slice(1, None)))
+    yield Cause("the last solid is not drawn", "solids", solids_at(slice(-1)))
+    parts = [("only the first %d" % most, slice(most)) for most in (1, 2, 3, 4, 5, 6, 8, 16)] + [
+        ("only the last 1", slice(-1, None)), ("all but the last 1", slice(-1)),
+        ("all but the first 1", slice(1, None))]
+    for kinds, word in ((KINDS, "planes of a kind"), *(((kind,), kind + "s of a solid") for kind in KINDS)):
+        for said, part in parts:
+            yield Cause("%s %s are taken" % (said, word), "planes", planes_at(part, kinds))
     for kind in KINDS:
-        yield Cause("%ss are left out" % kind, "no " + kind, without(kind))
+        yield Cause("%ss are left out" % kind, "no " + kind, planes_at(slice(0), (kind,)))
         yield Cause("A and B of %ss are exchanged" % kind, "turned " + kind, exchanged(kind))
+    yield Cause("x and y are exchanged", "turned", exchanged(*KINDS))
+    yield Cause("solids that begin at the eye are left out", "cull", culled("eye"))
+    yield Cause("the last row and column of each solid are left out", "box", short_boxes)
+    lines: list[tuple[str, Callable[[Scene], Plane]]] = [
+        ("last row", lambda s: (0, -1, s.height - 2)), ("last column", lambda s: (-1, 0, s.width - 2)),
+        ("first row", lambda s: (0, 1, -1)), ("first column", lambda s: (1, 0, -1))]
+    for said, side in lines:
+        yield Cause("the %s of the picture is not drawn" % said, "frame", only(side))
     for edges in ("left", "right", "top", "bottom", "left right", "top bottom", "left right top bottom"):
         yield Cause("solids that touch the %s edge of the picture are left out" % edges.replace(" ", " or "), "cull", culled(edges))
 
@@ -440,6 +480,14 @@ def constants() -> Iterator[Cause]:
         yield Cause("C of fronts and backs is cut to %d bits" % bits, "bits", on_planes(wrapped(bits), "c"))
         yield Cause("C of all planes is cut to %d bits" % bits, "bits", on_planes(wrapped(bits), "c", KINDS))
         yield Cause("A, B and C are cut to %d bits" % bits, "bits", on_planes(wrapped(bits), "abc", KINDS))
+        yield Cause("C is read as %d bits without a sign" % bits, "bits", on_planes(unsigned(bits), "c", KINDS))
+        yield Cause("C ends at the limits of %d bits" % bits, "bits", on_planes(limited(bits), "c", KINDS))
+    changes: list[tuple[str, Callable[[int, int], int]]] = [
+        ("%s is left out", lambda v, _: 0), ("minus signs of %s are lost", lambda v, _: abs(v)),
+        ("%s has the other sign", lambda v, _: -v)]
+    for term in "abc":
+        for said, change in changes:
+            yield Cause(said % term.upper(), "terms", on_planes(change, term, KINDS))
     for keep in (0, 1, 2, 3):
         yield Cause("coefficients keep %d fraction bits, the rest is dropped" % keep, "fraction", on_planes(dropped(keep)))
         yield Cause("coefficients are rounded to %d fraction bits" % keep, "fraction", on_planes(rounded(keep)))
@@ -455,6 +503,9 @@ def numbers_written() -> Iterator[Cause]:
             yield Cause("depths are from 0 to %d%s" % (top, said), "scale", write=from_0_to(top, gamma), slack=1e-6,
                         rounding=UNIT * (top > 1))
     yield Cause("depths are from 0 to 1, by whole cells", "scale", write=from_0_to(1, 1.0), slack=1e-6, real=False)
+    for top, real in ((1, None), (1, False), (256, None)):
+        yield Cause("depths are %d / 2^W times as great" % top, "scale", write=from_0_to(top, 1.0, 1), slack=1e-6,
+                    rounding=UNIT * (top > 1), real=real)
     yield Cause("near and far are exchanged", "turned", write=depths(lambda v, s: s.far - v))
     yield Cause("near and far are exchanged, cells counted from far - 1", "turned", write=depths(lambda v, s: s.far - 1 - v, False))
     for top in (255, 65535):
@@ -462,10 +513,15 @@ def numbers_written() -> Iterator[Cause]:
     for bits in (8, 16):
         yield Cause("depths keep the lowest %d bits" % bits, "lowest", write=lowest(bits))
         yield Cause("depths end at %d" % ((1 << bits) - 1), "ends", write=ending_at((1 << bits) - 1))
-    yield Cause("depths are in parts of a cell", "parts", write=depths(in_parts, False), real=True)
-    yield Cause("depths are half floats", "half floats", write=by(half_floats))
+    yield Cause("depths are in parts of a cell", "parts", real=True, write=depths(
+        lambda v, s: (v * (1 << s.fraction)).round(), False))
+    yield Cause("depths are half floats", "half floats", write=by(
+        lambda v: np.where(v > 65504, 65504, v).astype(np.float16).astype(np.float64)))
     for said, order in (("faces are counted from 0", lambda rows: {n: n - 1 for _, _, n in rows}),
                         ("faces are the numbers of solids", lambda rows: {n: at for at, _, n in rows}),
+                        ("faces are counted from 1 in each solid", lambda rows: {
+                            n: 1 + sum(at == own and m < n for at, _, m in rows) for own, _, n in rows}),
+                        ("faces are cut to 8 bits", lambda rows: {n: n % 256 for _, _, n in rows}),
                         ("near faces have no number", lambda rows: {n: i for i, n in enumerate(sorted(n for _, k, n in rows if k), 1)}),
                         ("faces are numbered by kind", lambda rows: {
                             n: i for i, (_, n) in enumerate(sorted((k, n) for _, k, n in rows), 1)})):
@@ -530,7 +586,9 @@ def facts(samples: Sequence[Sample]) -> list[str]:
     empty = np.concatenate([np.zeros(0)] + [
         each.depths[(each.ours.faces == 0) & ~each.right] for each in rows if each.depths is not None])
     if empty.size > 1 and (empty == empty[0]).all():
-        out.append("theirs is %.9g at all of those in our background (--far %.9g)" % (empty[0], empty[0]))
+        is_all = not any((each.right & (each.ours.faces == 0)).any() for each in rows)
+        out.append("theirs is %.9g at all of those in our background%s" % (
+            empty[0], " (--far %.9g)" % empty[0] if is_all else ", and right at the rest of it"))
     off = np.concatenate([np.zeros(0)] + [
         (each.depths - each.ours.depths)[~each.right] for each in rows if each.depths is not None])
     if off.size:

@@ -66,15 +66,15 @@ class Reading:
     dy: int = 0
     grid: int = 1
     real: bool = False           # depths in parts of a cell, and no cells
-    rounds: str = "up"           # a value to its cell: up, down, half_up, half_down, half_even
+    fronts: str = "up"           # a front's value to its cell: up, down, half_up, half_down, half_even, next (after it)
+    ends: str = "up"             # a back's value to the cell that ends its solid; also later (one more than up)
     strict_sides: bool = False
-    open_fronts: bool = False
-    closed_backs: bool = False
-    near: bool = True            # solids begin at the eye
+    near: int = 0                # the cell at which solids begin
     far: int = 0                 # how far the far limit is from the right one
     backs: bool = True           # the backs of what is cut away can show
     highest: bool = False        # the highest face in a tie
     single: str = ""             # planes in float32, in this order of terms: abc, cab
+    bits: int = 64               # values are cut to so many bits
 
 
 RIGHT, REAL = Reading(), Reading(real=True)
@@ -123,15 +123,17 @@ def values(plane: Plane, x: Whole, y: Whole, how: Reading) -> Whole:
         single: Whole = np.ceil((ax + by) + fc if how.single == "abc" else (fc + ax) + by).astype(np.int64)
         return single
     found: Whole = a * x + b * y + c * how.grid
-    return found
+    return found if how.bits == 64 else (found + (1 << how.bits - 1)) % (1 << how.bits) - (1 << how.bits - 1)
 
 
 def cells(value: Whole, unit: int, rounds: str) -> Whole:
     """The cell of a value of so many parts."""
     if rounds == "up":
         return -(-value // unit)
-    if rounds == "down":
-        return value // unit
+    if rounds in ("down", "next"):
+        return value // unit + (rounds == "next")
+    if rounds == "later":
+        return -(-value // unit) + 1
     if rounds == "half_up":
         return (2 * value + unit) // (2 * unit)
     if rounds == "half_down":
@@ -172,10 +174,9 @@ def ends(scene: Scene, how: Reading, x: Whole, y: Whole) -> Ends:
         def at(plane: Plane) -> Whole:
             return values(plane, x, y, how)
         near = NONE - solid.near if how.highest else solid.near
-        front, face = bound(solid.fronts, np.full(count, 0 if how.near else BEFORE), np.full(count, near), 1, how.highest, at)
+        front, face = bound(solid.fronts, np.full(count, how.near * unit), np.full(count, near), 1, how.highest, at)
         back, other = bound(solid.backs, np.full(count, limit), np.full(count, NONE), -1, how.highest, at)
-        first = front // step + 1 if how.open_fronts else cells(front, step, how.rounds)
-        end = np.minimum(back // step + 1, limit // step) if how.closed_backs else cells(back, step, how.rounds)
+        first, end = cells(front, step, how.fronts), np.minimum(cells(back, step, how.ends), limit // step)
         has = first < end
         for plane, _ in solid.sides:
             has &= at(plane) >= (1 if how.strict_sides else 0)
@@ -223,7 +224,7 @@ def fold(show: list[Node], found: Ends, z: Whole, with_faces: bool) -> tuple[Boo
 def picture(scene: Scene, how: Reading, x: Whole, y: Whole) -> Picture:
     """The depth and the face at each of the samples, which are flat arrays of columns and rows."""
     found, unit = ends(scene, how, x, y), how.grid << scene.fraction
-    start = np.full((1, x.size), 0 if how.near else BEFORE)
+    start = np.full((1, x.size), min(how.near, 0))
     z = np.concatenate([start, found.first] + ([found.end] if how.backs else []))
     end = scene.far * (unit if how.real else 1)
     first: Whole = np.where(fold(scene.show, found, z, False)[0], z, end + 1).min(0)

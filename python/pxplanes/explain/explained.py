@@ -4,20 +4,20 @@ from __future__ import annotations
 import operator
 from typing import Any, NamedTuple, Optional
 
-from ..apart import Progress
 from ..arrays import rows
 from ..calls import Text, content
 from ..errors import OverBudget, Refused
 from ..pictures import check, render
+from ..running import Progress
 from ..scene import rays, scenes
 from . import explaining, kinds, looks, readings
 
 
 class Explanation(NamedTuple):
-    """`lines` are what pxplanes explain writes: of a refused text each mistake with its line, what was due there and a cure; of an
-    accepted one what looks wrong, and its solids and faces. `mended` is the text that a refused one was surely meant to be, otherwise
-    None, and `changes` has the line and a sentence for each change. `mistakes` are those of a refused text. It is true if the text is
-    accepted, and `str` of it has the lines."""
+    """`lines` are what pxplanes explain writes: of a refused text each mistake with its line, what was due there and a
+    cure; of an accepted one what looks wrong, and its solids and faces. `mended` is the text that a refused one was
+    surely meant to be, otherwise None, and `changes` has the line and a sentence for each change. `mistakes` are those
+    of a refused text. It is true if the text is accepted, and `str` of it has the lines."""
 
     is_accepted: bool
     lines: tuple[str, ...]
@@ -40,8 +40,9 @@ class Run(NamedTuple):
 
 
 class Ray(NamedTuple):
-    """The `depth` and `face` that a pixel shows; the `cells` of the shown expression, nearest first; and the cells of each of the
-    `solids` by its name, None where the ray meets none of it. `lines` are what pxplanes explain writes with --at."""
+    """The `depth` and `face` that a pixel shows; the `cells` of the shown expression, nearest first; and the cells of
+    each of the `solids` by its name, None where the ray meets none of it. `lines` are what pxplanes explain writes with
+    --at."""
 
     depth: int
     face: int
@@ -56,7 +57,12 @@ class Ray(NamedTuple):
 def explain(text: Text, clocks: Optional[int] = None, progress: Optional[Progress] = None) -> Explanation:
     """Why a scene's text is refused and what to write, or what it looks like.
 
-    Its picture is drawn for that, as `render` draws it; where it takes more than so many clocks it is not, and the lines say so."""
+    Its picture is drawn for that, as `render` draws it; where it takes more than so many clocks it is not, and the
+    lines say so.
+
+    >>> pxplanes.explain(text.replace(b"shaft)", b"shafd)")).changes
+    ((20, 'write show ((pyramid - shaft) + bar)'),)
+    """
     data = content(text)
     found = explaining.told(judge_of(clocks, progress), data)
     lines, places = tuple(found.lines), tuple(found.places)
@@ -94,9 +100,14 @@ def judge_of(clocks: Optional[int], progress: Optional[Progress]) -> Any:
 
 
 def ray(text: Text, x: int, y: int) -> Ray:
-    """What the ray of the pixel at column x and row y meets. It is counted by the definition, in docs/PICTURE.md, and not drawn.
+    """What the ray of the pixel at column x and row y meets. It is counted by the definition, in docs/PICTURE.md, and
+    not drawn.
 
-    Raises as `check` does, and `IndexError` where the picture has no such pixel."""
+    Raises as `check` does, and `IndexError` where the picture has no such pixel.
+
+    >>> pxplanes.ray(text, 24, 16).cells
+    (Run(first=320, last=399),)
+    """
     check(text)
     x, y, scene = operator.index(x), operator.index(y), scenes.read(content(text))
     if not (0 <= x < scene.width and 0 <= y < scene.height):

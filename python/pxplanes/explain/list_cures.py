@@ -5,11 +5,9 @@ from __future__ import annotations
 import difflib
 from typing import Any
 
-from pxplanes.machine import sessions
+from pxplanes.machine import passes, sessions
 
-FORMS = {"all": "", "keep-sign": "A B C", "keep-bit": "P V", "set-bit": "P V", "toggle": "P",
-         "load-linear": "A B C AT LEN", "keep-at-most": "A B C AT LEN", "add-linear": "A B C AT LEN",
-         "load-const": "AT LEN N", "copy": "AT LEN TO", "keep-less": "AT LEN TO"}
+FORMS = {name: own["form"] for name, own in passes.OPERATIONS.items()}
 DUE = {"not-header": "pxlist 1", "after-end": "nothing behind `end`", "missing-end": "a last line: end"}
 LIMITS = {"grid": "NX and NY are 1 to 9: the grid has 2^NX columns and 2^NY rows",
           "coefficient": "A and B are at most 2^27 in size, and C at most 2^38",

@@ -137,7 +137,7 @@ def why_none(scene: Scene, solid: Solid) -> Hint:
         bits = (max(front.value, behind) >> scene.fraction_bits).bit_length()
         has_room = front.value < behind or not solid.backs
         return (LIKELY if has_room else LOOK,
-                "it begins behind the far limit: the front in line %d is at %s, and the far limit %d%s" % (
+                "it begins farther than the far limit: the front in line %d is at %s, and the far limit %d%s" % (
                     front.line, parts(front.value, scene), scene.far(), "; depth %d has room" % bits
                     if has_room and bits <= 24 - scene.fraction_bits and bits > scene.depth_bits else ""))
     if front.kind == "near" and back.value <= 0:

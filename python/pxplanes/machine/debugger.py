@@ -4,13 +4,12 @@ The answers come from `pxplanes debug`, which runs as long as the debugger does,
 from __future__ import annotations
 
 import bisect
-import itertools
 import subprocess
-from typing import Any, Callable, Iterator, NamedTuple, Optional
+from typing import Callable, Iterator, Optional
 
 from pxplanes import program
 from pxplanes.errors import Trouble
-from pxplanes.machine import listings, micros, passes, sessions
+from pxplanes.machine import listings, passes, sessions
 from pxplanes.scene import scenes
 
 HELP = """Moves:
@@ -37,39 +36,23 @@ class Mistaken(Exception):
     """A line that asks for nothing that there is; its text says why."""
 
 
-class Row(NamedTuple):
-    """An operation: the number of its pass, its name and numbers, and what it is for."""
-
-    in_pass: int
-    name: str
-    numbers: tuple[int, ...]
-    words: str
-
-
 class Machine:
     """Answers lines of the debugger's language over a scene, or a listing, for as long as it is open."""
 
     def __init__(self, text: bytes):
         self.is_listing = listings.is_listing(text)
-        self.keys: Optional[Any] = None
-        found: list[Any]
+        self.keys: Optional[passes.Keys] = None
+        listing = listings.Listing(text)
+        self.wide, self.high, self.ends = 1 << listing.nx, 1 << listing.ny, [0, *listing.ends]
         if self.is_listing:
-            session = listings.Session(text)
-            self.wide, self.high = 1 << session.listing.nx, 1 << session.listing.ny
-            found, self.passes = passes.of_listing(session.listing.operations)
-            self.answer: Callable[[bytes], list[bytes]] = session.answer
+            self.rows, self.passes = passes.of_listing(listing.operations)
+            self.answer: Callable[[bytes], list[bytes]] = listings.Session(text).answer
         else:
-            built = program.needed(None)
-            program.cost(built, text)
-            scene = scenes.read(text)
+            built, scene = program.needed(None), scenes.read(text)
             self.keys = passes.Keys(scene)
-            self.wide, self.high = program.grid(scene.width, scene.height)
-            found, self.passes = passes.operations(scene, passes.products_of(scene, program.answer(built, ["plan"], text)[1]))
+            products = passes.products_of(scene, program.answer(built, ["plan"], text)[1])
+            self.rows, self.passes = passes.of_scene(scene, products, listing.operations)
             self.answer = self.process(built, text)
-        self.rows = [Row(*each) for each in found]
-        levels = (self.wide * self.high).bit_length() - 1
-        clocks = [micros.clocks_of(row.name, row.numbers, levels) for row in self.rows]
-        self.ends: list[int] = [0, *itertools.accumulate(clocks)]
 
     @staticmethod
     def process(built: str, text: bytes) -> Callable[[bytes], list[bytes]]:
@@ -202,7 +185,7 @@ class Debugger:
         """Runs until something of a pixel changes, and says from what to what."""
         rises = words[-1] == "rises"
         thing, rest = words[0], words[1:len(words) - rises]
-        if thing in micros.OPERATIONS and len(words) == 1:
+        if thing in passes.OPERATIONS and len(words) == 1:
             begin = [clock for row, clock in zip(self.machine.rows, self.machine.ends) if row.name == thing and clock > self.now]
             yield from self.moved(begin[0]) if begin else ["no %s begins any more" % thing]
             return

@@ -5,12 +5,13 @@ library says of its states and microinstructions; all but `field`, as a listing 
 from __future__ import annotations
 
 import bisect
+import itertools
 import re
 from typing import Callable, Optional, Sequence
 
 from pxplanes import program
 from pxplanes.errors import NoLibrary, Refused, Trouble
-from pxplanes.machine import operations, sessions, states
+from pxplanes.machine import micros, operations, passes, sessions, states
 
 NUMBER = re.compile(rb"\d{1,18}\Z")
 # The line of a listing that `list` writes in which its first operation stands.
@@ -18,20 +19,26 @@ FIRST_LINE = 3
 Told = Optional[list[str]]
 
 
+def first_word(text: bytes) -> bytes:
+    """The first word of a text that is no comment; empty if there is none."""
+    lines = (sessions.words_of(line.split(b"#")[0]) for line in text.split(b"\n"))
+    return next((words[0] for words in lines if words), b"")
+
+
 def is_listing(text: bytes) -> bool:
     """Whether a text is meant as one: the first word of all is that of its header."""
-    for line in text.split(b"\n"):
-        words = sessions.words_of(line.split(b"#")[0])
-        if words:
-            return words[0] == b"pxlist"
-    return False
+    return first_word(text) == b"pxlist"
 
 
 class Listing:
-    """A listing that the program accepts: its grid, its operations, and at which clock each ends."""
+    """A listing that the program accepts, or the one that `list` writes of a scene: its grid, its operations with
+    their lines, and at which clock each ends."""
 
     def __init__(self, text: bytes):
         self.text = text
+        if not is_listing(text):
+            self.of_scene(text)
+            return
         try:
             first = states.state(text, 0)
         except (Refused, NoLibrary) as error:
@@ -42,6 +49,15 @@ class Listing:
         lines = [number for number, line in enumerate(text.split(b"\n"), 1) if sessions.words_of(line.split(b"#")[0])]
         self.lines = lines[2:2 + len(self.operations)]
         self.ends: list[int] = [each.clock for each in course[1:]] + [first.clocks] * bool(course)
+
+    def of_scene(self, scene: bytes) -> None:
+        status, listing, note = program.answer(program.needed(None), ["list"], scene)
+        if status != 0:
+            raise Trouble(note or "the program ends with status %d" % status)
+        self.nx, self.ny, self.operations = micros.read_listing(listing)
+        self.lines = list(range(FIRST_LINE, FIRST_LINE + len(self.operations)))
+        levels = self.nx + self.ny
+        self.ends = list(itertools.accumulate(micros.clocks_of(*operation, levels) for operation in self.operations))
 
     @property
     def clocks(self) -> int:
@@ -56,20 +72,8 @@ class Listing:
 
     def bits(self) -> int:
         """How many memory bits its operations name, from bit 0 on."""
-        return max([1] + [end_of(*operation) for operation in self.operations])
-
-
-def end_of(name: str, numbers: Sequence[int]) -> int:
-    """The end of the memory that an operation names."""
-    if name in ("all", "keep-sign"):
-        return 0
-    if name in ("keep-bit", "set-bit", "toggle"):
-        return numbers[0] + 1
-    if name == "load-const":
-        return numbers[0] + numbers[1]
-    if name in ("copy", "keep-less"):
-        return max(numbers[0], numbers[2]) + numbers[1]
-    return numbers[3] + numbers[4]
+        places = [place for operation in self.operations for place in passes.places_of(*operation).values()]
+        return max([1] + [at + length for at, length in places])
 
 
 class Session:

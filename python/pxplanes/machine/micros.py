@@ -7,8 +7,6 @@ from typing import Any, Callable, Iterator, Sequence
 from pxplanes.errors import Trouble
 from pxplanes.machine.states import ACTS as ACTS, WITH_PLACE as HAVE_A_PLACE, WITH_VALUE as HAVE_A_VALUE
 
-OPERATIONS = ("all", "keep-sign", "keep-bit", "keep-at-most", "keep-less", "set-bit", "toggle", "load-linear", "add-linear", "load-const",
-              "copy")
 SIGN_BIT = 40
 Form = tuple[int, int, int]
 Words = dict[str, Any]
@@ -131,40 +129,6 @@ def clocks_of(name: str, numbers: Sequence[int], levels: int) -> int:
         return one[name]
     length = numbers[1] if name in ("load-const", "copy", "keep-less") else numbers[4]
     return {"load-const": 0, "copy": length, "keep-less": 2 + length, "keep-at-most": 2 + levels}.get(name, 1 + levels) + length
-
-
-def sum_text(form: Sequence[int]) -> str:
-    """A linear form as one writes it."""
-    terms = [(number, letter) for number, letter in zip(form, ("x", "y", "")) if number]
-    text = ""
-    for number, letter in terms:
-        size = "" if abs(number) == 1 and letter else str(abs(number))
-        text += (" - " if number < 0 else " + ") + size + letter if text else ("-" if number < 0 else "") + size + letter
-    return text or "0"
-
-
-def field_text(at: int, length: int) -> str:
-    return "memory %d to %d" % (at, at + length - 1) if length > 1 else "memory %d" % at
-
-
-def spoken(name: str, numbers: Sequence[int]) -> str:
-    """What an operation does, in words."""
-    value = sum_text(numbers[:3])
-    if name in ("load-linear", "add-linear", "keep-at-most"):
-        field = field_text(*numbers[3:])
-    elif name in ("load-const", "copy", "keep-less"):
-        field = field_text(*numbers[:2])
-    return {"all": lambda: "enable every pixel",
-            "keep-sign": lambda: "keep the pixels where %s is not negative" % value,
-            "keep-bit": lambda: "keep the pixels whose bit %d is %d" % (numbers[0], numbers[1]),
-            "keep-at-most": lambda: "keep the pixels where %s is at most the number in %s" % (value, field),
-            "keep-less": lambda: "keep the pixels whose number in %s is less than that in %s" % (field, field_text(numbers[2], numbers[1])),
-            "load-linear": lambda: "put %s into %s" % (value, field),
-            "add-linear": lambda: "add %s to %s" % (value, field),
-            "load-const": lambda: "put %d into %s" % (numbers[2], field),
-            "copy": lambda: "copy %s into %s" % (field, field_text(numbers[2], numbers[1])),
-            "set-bit": lambda: "make bit %d %d" % (numbers[0], numbers[1]),
-            "toggle": lambda: "turn bit %d" % numbers[0]}[name]()
 
 
 def read_listing(text: bytes) -> tuple[int, int, list[tuple[str, list[int]]]]:

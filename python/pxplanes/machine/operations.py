@@ -60,7 +60,7 @@ def course(text: Text, first: int = 0, count: Optional[int] = None) -> list[Oper
     if not (0 <= first and 0 <= count and first + count <= operations):
         raise NoOperation(operations)
     room = Buffer("operations", count, ctypes.sizeof(FoundOperation))
-    done("course", text, (first,), [room], work=(CLOCKS * (first + count), 0))
+    done("course", text, (first,), [room], clocks=CLOCKS * (first + count))
     return [told(found) for found in (FoundOperation * count).from_buffer(room.room)]
 
 

@@ -1,177 +1,133 @@
-"""The broadcast operations of a scene with what each is for: docs/PASSES.md, step by step. It is no tool itself, and no
-part of the program; it is written by itself, to hold others beside: `tools/cases/passes_as_listed` holds it beside what `list` writes,
-`course_as_listed` beside the library's course, and `page_beside_tools` beside the page, which has its passes from that course."""
+"""What the operations of a text are for, in words: docs/PASSES.md, step by step.
+
+words.json has the words, which the page reads too, and the forms of operations by the letters of docs/LISTINGS.md."""
 from __future__ import annotations
 
 import itertools
-from typing import Iterator, Optional, Sequence
+import json
+import os
+import re
+from typing import Any, Iterator, NamedTuple, Optional, Sequence
 
-from pxplanes.machine import micros
 from pxplanes.scene import scenes
 
-Form = tuple[int, int, int]
+with open(os.path.join(os.path.dirname(os.path.realpath(__file__)), "words.json"), encoding="ascii") as words_file:
+    WORDS: dict[str, Any] = json.load(words_file)
+OPERATIONS: dict[str, Any] = WORDS["operations"]
 Products = list[tuple[int, ...]]
-Made = tuple[str, tuple[int, ...], str]                 # an operation: its name, its numbers, and what it is for
-Step = tuple[str, int, int, int, int]
-Pass = tuple[Step, str, list[Made]]
-Row = tuple[int, str, tuple[int, ...], str]
+Listed = Sequence[tuple[str, Sequence[int]]]
 
 
-class Face:
-    """A face of a solid with its plane and its words: the near face, a front, a back, or the far limit."""
+class Face(NamedTuple):
+    """A face of a solid in words: the near face, a front, a back, or the far limit."""
 
-    def __init__(self, solid: scenes.Solid, number: int, plane: Form, said: str, is_front: bool):
-        self.solid, self.number, self.plane, self.said, self.is_front = solid, number, plane, said, is_front
+    solid: scenes.Solid
+    number: int
+    said: str
+    is_front: bool
 
     def of_solid(self) -> str:
         return "%s of `%s`" % (self.said, self.solid.name)
 
 
-def faces_of(scene: scenes.Scene, solid: scenes.Solid) -> tuple[list[Face], list[Face]]:
-    """The faces of a solid in the order of their index."""
-    def named(kind: str, planes: list[scenes.Face]) -> list[str]:
-        return ["the %s" % kind if len(planes) == 1 else "%s %d" % (kind, which) for which in range(1, len(planes) + 1)]
+class Row(NamedTuple):
+    """An operation: the number of its pass, its name and numbers, and what it is for."""
 
-    far = (0, 0, scene.far() << scene.fraction_bits)
-    fronts = [Face(solid, each.number, each.plane, said, True) for each, said in zip(solid.fronts, named("front", solid.fronts))]
-    backs = [Face(solid, each.number, each.plane, said, False) for each, said in zip(solid.backs, named("back", solid.backs))]
-    return ([Face(solid, solid.near, (0, 0, 0), "the near face", True)] + fronts,
-            backs + [Face(solid, 0, far, "the far limit", False)])
+    in_pass: int
+    name: str
+    numbers: tuple[int, ...]
+    words: str
 
 
-def less(left: Form, right: Form, more: int = 0) -> Form:
-    """The form of one plane less another, less so much more."""
-    return left[0] - right[0], left[1] - right[1], left[2] - right[2] - more
+class Step(NamedTuple):
+    """What a pass is for, as the library's `course` has it: its role, the place of its literal among all, the solid
+    and the number of its face, and which other literal it asks; 0 where it has none."""
+
+    role: str
+    literal: int = 0
+    solid: int = 0
+    face: int = 0
+    other: int = 0
 
 
-def plus(plane: Form, more: int) -> Form:
-    return plane[0], plane[1], plane[2] + more
+def filled(words: str, values: dict[str, Any]) -> str:
+    """Words with values in the place of their names in braces."""
+    return re.sub(r"\{(.+?)\}", lambda match: str(values[match.group(1)]), words)
 
 
-def edges(scene: scenes.Scene, face: Face) -> Iterator[tuple[Form, str]]:
-    """The edges of a face with what each keeps."""
-    fronts, backs = faces_of(scene, face.solid)
-    same, other = (fronts, backs) if face.is_front else (backs, fronts)
-    own = next(at for at, each in enumerate(same) if each.said == face.said)
-    for which, side in enumerate(face.solid.sides, 1):
-        yield side.plane, "keep the pixels on the inner side of side %d of `%s`" % (which, face.solid.name)
-    for at, each in enumerate(same):
-        if at != own:
-            first, second = (face, each) if face.is_front else (each, face)
-            words = "at or behind" if face.is_front else "at or before"
-            words = words[6:] if at < own else words
-            yield (less(first.plane, second.plane, int(at < own)),
-                   "keep the pixels where %s stands %s %s" % (face.of_solid(), words, each.said))
-    for each in other:
-        front, back = (face, each) if face.is_front else (each, face)
-        yield (less(back.plane, front.plane, 1),
-               "keep the pixels where %s stands %s %s" % (face.of_solid(), "before" if face.is_front else "behind", each.said))
+def faces_of(solid: scenes.Solid) -> tuple[list[Face], list[Face]]:
+    """The faces of a solid in the order of their index: the near face and the fronts; the backs and the far limit."""
+    def named(kind: str, planes: list[scenes.Face]) -> list[Face]:
+        names = ["the %s" % kind] if len(planes) == 1 else ["%s %d" % (kind, at) for at in range(1, len(planes) + 1)]
+        return [Face(solid, each.number, name, kind == "front") for each, name in zip(planes, names)]
+
+    return ([Face(solid, solid.near, "the near face", True), *named("front", solid.fronts)],
+            [*named("back", solid.backs), Face(solid, 0, "the far limit", False)])
 
 
-class Passes:
-    """The passes of a scene: of each the step, a line on what it is for, and its operations with their words. A step is its role, the
-    place of its literal among all, the solid and the number of its face, and which other literal it asks; 0 where it has none."""
+def edges(own: Face) -> Iterator[str]:
+    """What each edge of a face keeps: those of the sides, of the other faces of its kind, and of the other kind."""
+    fronts, backs = faces_of(own.solid)
+    same, others = (fronts, backs) if own.is_front else (backs, fronts)
+    where, other_way = ("behind", "before") if own.is_front else ("before", "behind")
+    for side in range(1, len(own.solid.sides) + 1):
+        yield filled(WORDS["side"], {"side": side, "solid": own.solid.name})
+    at = same.index(own)
+    for how, faces in ((where, same[:at]), ("at or " + where, same[at + 1:]), (other_way, others)):
+        for each in faces:
+            yield filled(WORDS["edge"], {"face": own.of_solid(), "how": how, "other": each.said})
 
-    def __init__(self, scene: scenes.Scene, products: Products):
-        self.scene, self.products = scene, products
-        self.bits, self.length = scene.number_bits(), scene.depth_bits + scene.fraction_bits + scene.number_bits()
-        self.deep = (self.length + self.bits, scene.depth_bits + scene.fraction_bits)
-        self.alive, self.par = 2 * self.length, 2 * self.length + 1
-        self.literal, self.numbers = 0, {id(solid): at for at, solid in enumerate(scene.solids, 1)}
 
-    def step(self, role: str, face: Optional[Face] = None, other: int = 0) -> Step:
-        return role, self.literal, self.numbers[id(face.solid)] if face else 0, face.number if face else 0, other
+def steps(scene: scenes.Scene, products: Products) -> Iterator[Step]:
+    """The step of each pass of a scene (docs/PASSES.md, "Steps")."""
+    yield Step("start")
+    literals = [(product, literal) for product in products for literal in product]
+    for place, (product, literal) in enumerate(literals, 1):
+        def of_faces(role: str, solid: int, faces: list[Face], other: int = 0) -> Iterator[Step]:
+            return (Step(role, place, solid, face.number, other) for face in faces)
 
-    def bit(self, name: str, place: int, value: int, says: str) -> Made:
-        return name, (place, value), says
+        own = abs(literal)
+        fronts, backs = faces_of(scene.solids[own - 1])
+        yield Step("open", place)
+        yield from of_faces("candidate", own, fronts if literal > 0 else backs[:-1])
+        if scene.fraction_bits and literal > 0:
+            yield from of_faces("drop", own, backs)
+        elif scene.fraction_bits:
+            yield from (Step("clear", place), *of_faces("front", own, fronts), Step("confirm", place))
+        for other, asked in enumerate([abs(each) for each in product if abs(each) != own], 1):
+            yield Step("begin", place, other=other)
+            yield from of_faces("turn", asked, sum(faces_of(scene.solids[asked - 1]), []), other)
+            yield Step("close", place, other=other)
+        yield Step("merge", place)
 
-    def __iter__(self) -> Iterator[Pass]:
-        background, self.literal = self.scene.far() << self.scene.fraction_bits + self.bits, 0
-        yield self.step("start"), "start: every pixel has the background", [
-            ("load-const", (0, self.length, background), "put the background into key B")]
-        for number, product in enumerate(self.products, 1):
-            whole = self.spelled(product)
-            for at, literal in enumerate(product):
-                yield from self.of_literal(product, at, "product %d of %d, %s" % (number, len(self.products), whole), literal)
 
-    def spelled(self, product: tuple[int, ...]) -> str:
-        names = [self.scene.solids[abs(literal) - 1].name for literal in product]
-        signs = ["" if literal > 0 else "- " for literal in product]
-        return " ".join((sign if sign or not at else "* ") + name for at, (sign, name) in enumerate(zip(signs, names)))
+def spelled(scene: scenes.Scene, product: Sequence[int]) -> str:
+    names = [scene.solids[abs(literal) - 1].name for literal in product]
+    signs = ["- " if literal < 0 else "* " if at else "" for at, literal in enumerate(product)]
+    return " ".join(map("".join, zip(signs, names)))
 
-    def of_literal(self, product: tuple[int, ...], at: int, where: str, literal: int) -> Iterator[Pass]:
-        solid = self.scene.solids[abs(literal) - 1]
-        self.literal += 1
-        yield self.step("open"), "%s: faces of `%s`" % (where, solid.name), [
-            self.bit("set-bit", self.alive, 0, "forget the candidate: alive is 0")]
-        fronts, backs = faces_of(self.scene, solid)
-        for face in fronts if literal > 0 else backs[:-1]:
-            yield self.step("candidate", face), "candidate: face %d, %s" % (face.number, face.of_solid()), list(self.candidate(face))
-        if self.scene.fraction_bits:
-            yield from self.confirmed(literal > 0, solid, fronts, backs)
-        for which, other in enumerate(product[:at] + product[at + 1:], 1):
-            yield from self.classified(which, other)
-        yield self.step("merge"), "merge: the nearer of candidate and best stays", list(self.merged())
 
-    def kept(self, face: Face) -> Iterator[Made]:
-        for form, says in edges(self.scene, face):
-            yield "keep-sign", form, says
-
-    def candidate(self, face: Face) -> Iterator[Made]:
-        fraction = self.scene.fraction_bits
-        yield from self.kept(face)
-        yield ("load-linear", plus(face.plane, (1 << fraction) - 1) + self.deep,
-               "put the depth of %s into key T" % face.of_solid())
-        if fraction:
-            yield "load-const", (self.deep[0], fraction, 0), "the cell at it or behind it: no fraction in key T"
-        yield "load-const", (self.length, self.bits, face.number), "put face %d into key T" % face.number
-        yield self.bit("set-bit", self.alive, 1, "here a candidate stands: alive is 1")
-
-    def alive_ones(self) -> Made:
-        return self.bit("keep-bit", self.alive, 1, "keep the pixels with a candidate")
-
-    def passed(self, face: Face, more: int = 0) -> Made:
-        says = "keep the pixels whose candidate is %s %s" % (
-            "a whole cell behind" if more else "at or behind", face.of_solid())
-        return "keep-at-most", plus(face.plane, more) + self.deep, says
-
-    def dies(self) -> Made:
-        return self.bit("set-bit", self.alive, 0, "there the candidate dies: alive is 0")
-
-    def counted(self, faces: list[Face], more: int = 0, other: int = 0) -> Iterator[Pass]:
-        """The passes that count in par which of these faces stand before the candidate."""
-        for face in faces:
-            yield self.step("turn" if other else "front", face, other), "against `%s`: count %s" % (face.solid.name, face.said), [
-                self.alive_ones(), *self.kept(face), self.passed(face, more), ("toggle", (self.par,), "count it: turn par")]
-
-    def par_cleared(self) -> Made:
-        return self.bit("set-bit", self.par, 0, "nothing is counted yet: par is 0")
-
-    def confirmed(self, is_plain: bool, solid: scenes.Solid, fronts: list[Face], backs: list[Face]) -> Iterator[Pass]:
-        """With fraction bits: whether the solid has a cell of its own at the candidate."""
-        if is_plain:
-            for face in backs:
-                yield self.step("drop", face), "is there a cell before %s" % face.of_solid(), [
-                    self.alive_ones(), *self.kept(face), self.passed(face), self.dies()]
-            return
-        yield self.step("clear"), "is there a cell of `%s` before the candidate" % solid.name, [self.par_cleared()]
-        yield from self.counted(fronts, 1 << self.scene.fraction_bits)
-        yield self.step("confirm"), "is there a cell of `%s` before the candidate" % solid.name, [
-            self.bit("keep-bit", self.par, 0, "keep the pixels where no front was counted"), self.dies()]
-
-    def classified(self, which: int, literal: int) -> Iterator[Pass]:
-        solid, is_plain = self.scene.solids[abs(literal) - 1], literal > 0
-        fronts, backs = faces_of(self.scene, solid)
-        yield self.step("begin", other=which), "against `%s`: nothing is counted yet" % solid.name, [self.par_cleared()]
-        yield from self.counted(fronts + backs, other=which)
-        yield self.step("close", other=which), "against `%s`: the verdict" % solid.name, [
-            self.bit("keep-bit", self.par, int(not is_plain),
-                     "keep the pixels whose candidate is %s `%s`" % ("outside" if is_plain else "inside", solid.name)), self.dies()]
-
-    def merged(self) -> Iterator[Made]:
-        yield self.alive_ones()
-        yield "keep-less", (self.length, self.length, 0), "keep the pixels where key T is less than key B"
-        yield "copy", (self.length, self.length, 0), "copy key T into key B"
+def told(scene: scenes.Scene, products: Products, step: Step) -> tuple[str, list[str]]:
+    """What a pass is for, and what each of its operations does after the first, which enables every pixel."""
+    values: dict[str, Any] = {"products": len(products), "fraction": ""}
+    own, does = WORDS["steps"][step.role], list[str]()
+    face: Optional[Face] = None
+    if step.literal:
+        literals = [(at, each, literal) for at, each in enumerate(products, 1) for literal in each]
+        number, product, literal = literals[step.literal - 1]
+        values.update(product=number, spelled=spelled(scene, product), name=scene.solids[abs(literal) - 1].name)
+    if step.other:
+        asked = [each for each in product if abs(each) != abs(literal)][step.other - 1]
+        values.update(asked=scene.solids[abs(asked) - 1].name, outside="outside" if asked > 0 else "inside")
+    if step.solid:
+        face = next(each for each in sum(faces_of(scene.solids[step.solid - 1]), []) if each.number == step.face)
+        values.update(number=face.number, face=face.of_solid(), which=face.said, solid=face.solid.name)
+    for words in own["does"]:
+        if words == "{edges}" and face:
+            does += edges(face)
+        elif scene.fraction_bits or not words.startswith("{fraction}"):
+            does.append(filled(words, values))
+    return filled(own["says"], values), does
 
 
 def products_of(scene: scenes.Scene, plan: bytes) -> Products:
@@ -179,23 +135,60 @@ def products_of(scene: scenes.Scene, plan: bytes) -> Products:
     numbers, found = {solid.name: at for at, solid in enumerate(scene.solids, 1)}, []
     for line in plan.decode().split("\n")[1:-1]:
         words = line.split(" ") if line.startswith("- ") else ["*"] + line.split(" ")
-        found.append(tuple(-numbers[name] if sign == "-" else numbers[name] for sign, name in zip(words[0::2], words[1::2])))
+        found.append(tuple(numbers[name] * (-1 if sign == "-" else 1) for sign, name in zip(words[0::2], words[1::2])))
     return found
 
 
-def operations(scene: scenes.Scene, products: Products) -> tuple[list[Row], list[str]]:
-    """Of each operation in order: the number of its pass, its name, its numbers, and what it is for; and the passes' words."""
-    found: list[Row] = []
+def of_scene(scene: scenes.Scene, products: Products, listed: Listed) -> tuple[list[Row], list[str]]:
+    """Of each operation that `list` writes: the number of its pass, its name, its numbers, and what it is for; and the
+    passes' words."""
+    rows: list[Row] = []
     said: list[str] = []
-    for _, says, each in Passes(scene, products):
-        found.append((len(said), "all", (), "enable every pixel"))
-        found += [(len(said), name, numbers, words) for name, numbers, words in each]
-        said.append(says)
-    return found, said
+    passes = (told(scene, products, step) for step in steps(scene, products))
+    words: Iterator[str] = iter(())
+    for name, numbers in listed:
+        if name == "all":
+            says, does = next(passes)
+            said.append(says)
+            words = iter([spoken(name, ()), *does])
+        rows.append(Row(len(said) - 1, name, tuple(numbers), next(words)))
+    return rows, said
+
+
+def of_listing(found: Listed) -> tuple[list[Row], list[str]]:
+    """The same of a listing: a pass is what follows an `all`."""
+    numbers = itertools.accumulate(int(name == "all" and at > 0) for at, (name, _) in enumerate(found))
+    rows = [Row(number, name, tuple(given), spoken(name, given)) for number, (name, given) in zip(numbers, found)]
+    return rows, ["pass %d of the listing" % (each + 1) for each in range(rows[-1][0] + 1 if rows else 0)]
+
+
+def sum_text(form: Sequence[int]) -> str:
+    """A linear form as one writes it."""
+    text = ""
+    for number, letter in zip(form, ("x", "y", "")):
+        size = "" if abs(number) == 1 and letter else str(abs(number))
+        sign = (" - " if number < 0 else " + ") if text else ("-" if number < 0 else "")
+        text += sign + size + letter if number else ""
+    return text or "0"
+
+
+def places_of(name: str, numbers: Sequence[int]) -> dict[str, tuple[int, int]]:
+    """The fields of memory that an operation names, by the letters of its form: first bit and length of each."""
+    found = dict(zip(OPERATIONS[name]["form"].split(), numbers))
+    return {letter: (found[letter], found.get("LEN", 1)) for letter in OPERATIONS[name]["places"]}
+
+
+def spoken(name: str, numbers: Sequence[int]) -> str:
+    """What an operation does, in words."""
+    own = OPERATIONS[name]
+    fields = {"memory " + letter: "memory %d to %d" % (at, at + length - 1) if length > 1 else "memory %d" % at
+              for letter, (at, length) in places_of(name, numbers).items()}
+    return filled(own["does"], {**dict(zip(own["form"].split(), numbers)), **fields, "sum": sum_text(numbers[:3])})
 
 
 class Keys:
-    """The numbers in the keys of a scene's pixels, by the bits of their memory (docs/PASSES.md, "Layout"); and the colours of faces."""
+    """The numbers in the keys of a scene's pixels, by the bits of their memory (docs/PASSES.md, "Layout"); and the
+    colours of faces."""
 
     def __init__(self, scene: scenes.Scene):
         self.face, self.depth = scene.number_bits(), scene.depth_bits
@@ -206,10 +199,3 @@ class Keys:
         """A number of key "B" or "T": its "face" or its "depth"."""
         first = "BT".index(key) * self.length + (0 if what == "face" else self.length - self.depth)
         return int(memory[first:first + (self.face if what == "face" else self.depth)][::-1], 2)
-
-
-def of_listing(found: Sequence[tuple[str, Sequence[int]]]) -> tuple[list[Row], list[str]]:
-    """The same of a listing: a pass is what follows an `all`."""
-    numbers = itertools.accumulate(int(name == "all" and at > 0) for at, (name, _) in enumerate(found))
-    rows = [(number, name, tuple(given), micros.spoken(name, given)) for number, (name, given) in zip(numbers, found)]
-    return rows, ["pass %d of the listing" % (each + 1) for each in range(rows[-1][0] + 1 if rows else 0)]

@@ -8,9 +8,9 @@ import operator
 from typing import Any, Iterable, Iterator, NamedTuple, Optional, Union
 
 from ..arrays import Buffer, spread, weighed
-from ..calls import Found, FoundState, Text, answered, asked
+from ..calls import FoundState, Text, answered, asked
 from ..errors import NoClock
-from ..running import done, filled, pixels_of
+from ..running import done, filled
 
 REGISTERS = ("enable", "carry", "latch", "leaf")
 ACTS = ("nop", "enable-all", "enable-carry", "enable-tree", "enable-bit", "set-carry", "fetch", "store-tree", "store-latch",
@@ -23,9 +23,9 @@ ENDLESS = 1 << 64
 
 
 class Micro(NamedTuple):
-    """A microinstruction (docs/MACHINE.md, "The fourteen acts"): the act of every pixel, the place in its memory and the bit
-    that it names (0 where it names none), what the tree does (`hold`, `clear` or `feed`), and the bits of the lines a, b, c.
-    `str` of it is as the debugger's trace writes it."""
+    """A microinstruction (docs/MACHINE.md, "The fourteen acts"): the act of every pixel, the place in its memory and
+    the bit that it names (0 where it names none), what the tree does (`hold`, `clear` or `feed`), and the bits of the
+    lines a, b, c. `str` of it is as the debugger's trace writes it."""
 
     act: str
     place: int
@@ -71,10 +71,11 @@ class Pixel(NamedTuple):
 class State:
     """The state after `clock` of `clocks` clocks.
 
-    `grid_width` and `grid_height` are the size of the array in pixels; `bits` how many memory bits a pixel has; `levels` how
-    many levels the multiplier tree has. `operation` is the index of the broadcast operation that comes next or is under way,
-    from 0 on, and `operation_clock` which of its clocks comes next; `next` is its microinstruction, None at the end.
-    `words` is what the library writes (include/pxplanes.h): plane after plane, then the nodes of the tree."""
+    `grid_width` and `grid_height` are the size of the array in pixels; `bits` how many memory bits a pixel has;
+    `levels` how many levels the multiplier tree has. `operation` is the index of the broadcast operation that comes
+    next or is under way, from 0 on, and `operation_clock` which of its clocks comes next; `next` is its
+    microinstruction, None at the end. `words` is what the library writes (include/pxplanes.h): plane after plane, then
+    the nodes of the tree."""
 
     def __init__(self, found: FoundState, words: memoryview):
         self.grid_width, self.grid_height = found.grid_width, found.grid_height
@@ -102,8 +103,8 @@ class State:
         self.__dict__.update(kept, words=memoryview(bytearray(kept["words"])).cast("Q"))
 
     def plane(self, which: Union[int, str]) -> Any:
-        """A bit of all pixels: the number of a memory bit, or `enable`, `carry`, `latch` or `leaf`. An array of 0 and 1 of
-        shape (grid_height, grid_width), rows from the top."""
+        """A bit of all pixels: the number of a memory bit, or `enable`, `carry`, `latch` or `leaf`. An array of 0 and 1
+        of shape (grid_height, grid_width), rows from the top."""
         return spread(self._words_of(which), self.grid_width, self.grid_height, self.words_per_row)
 
     def number(self, at: int, length: int) -> Any:
@@ -165,8 +166,8 @@ class State:
 def state(text: Text, clock: int) -> State:
     """The state of a scene, or of a listing, after so many clocks, from 0 on.
 
-    Raises `Malformed`, `Limit` and `MemoryError`, and `NoClock` for a clock that is below 0 or past the last. Ctrl-C ends it, as it
-    ends `render`.
+    Raises `Malformed`, `Limit` and `MemoryError`, and `NoClock` for a clock that is below 0 or past the last. Ctrl-C
+    leaves it, as it leaves `run`.
 
     >>> pxplanes.state(text, 1000)
     <pxplanes.State: clock 1000 of 5396, 64 by 32 pixels of 72 bits>
@@ -177,18 +178,20 @@ def state(text: Text, clock: int) -> State:
     if not 0 <= clock < ENDLESS:
         raise NoClock(clocks_of(text))
 
-    def work(due: Found) -> tuple[int, int]:
-        return clock, pixels_of(due.room)
-
-    (words,), _ = filled("state", "Q", text, clock, behind=(ctypes.byref(found),), work=work)
+    words, _ = filled("state", "Q", text, clock, behind=(ctypes.byref(found),), clocks=clock)
     return State(found, words.numbers)
 
 
 def pixels(text: Text, x: int, y: int, first: int, count: int) -> list[Pixel]:
-    """What the pixel at column x and row y holds after `first` clocks of a scene or of a listing, and behind each of the next
-    `count`: one state of the text, and then clock by clock.
+    """What the pixel at column x and row y holds after `first` clocks of a scene or of a listing, and behind each of
+    the next `count`: one state of the text, and then clock by clock.
 
-    Raises as `state` does, `NoClock` where the text has fewer clocks, and `IndexError` where the grid has no such pixel."""
+    Raises as `state` does, `NoClock` where the text has fewer clocks, and `IndexError` where the grid has no such
+    pixel.
+
+    >>> [pixel.enable for pixel in pxplanes.pixels(text, 24, 16, 0, 1)]
+    [0, 1]
+    """
     broadcast, now = micros(text, first, count), state(text, first)
     found = [now.pixel(x, y)]
     for micro in broadcast:
@@ -198,10 +201,15 @@ def pixels(text: Text, x: int, y: int, first: int, count: int) -> list[Pixel]:
 
 
 def clocked(before: State, micros: Iterable[Micro]) -> State:
-    """The state behind a clock of each of these microinstructions, which may be of one's own. `before` stays as it is; going back
-    is a state that was kept. What comes next is not known of it: `operation`, `operation_clock` and `next` are None.
+    """The state behind a clock of each of these microinstructions, which may be of one's own. `before` stays as it is;
+    going back is a state that was kept. What comes next is not known of it: `operation`, `operation_clock` and `next`
+    are None.
 
-    Raises `NoMicro` for the first that names a place past the memory."""
+    Raises `NoMicro` for the first that names a place past the memory.
+
+    >>> pxplanes.clocked(pxplanes.state(text, 0), pxplanes.micros(text, 0, 9)) == pxplanes.state(text, 9)
+    True
+    """
     if not isinstance(before, State):
         raise TypeError("a State is wanted, and no %s" % type(before).__name__)
     count = list(micros)
@@ -230,7 +238,7 @@ def micros(text: Text, first: int, count: int) -> list[Micro]:
     if first + count > (clocks := clocks_of(text)):
         raise NoClock(clocks)
     room = Buffer("Q", count)
-    done("micros", text, (first,), [room], work=(first + count, 0))
+    done("micros", text, (first,), [room], clocks=first + count)
     return [micro for number in room.numbers if (micro := unpacked(number)) is not None]
 
 

@@ -9,7 +9,6 @@ from __future__ import annotations
 import re
 from typing import Any, Iterable, Iterator, Optional, Sequence
 
-from pxplanes import program
 from pxplanes.errors import Trouble
 from pxplanes.machine import listings, sessions, vcd
 from pxplanes.scene import limits, scenes
@@ -141,13 +140,8 @@ def looked_at(text: bytes, window: Window) -> tuple[list[State], list[Broadcast]
 
 def listed(text: bytes) -> list[tuple[int, str]]:
     """The operations as a listing has them, or that of a scene, each with the number of its line."""
-    if listings.is_listing(text):
-        seen = listings.Listing(text)
-        return list(zip(seen.lines, (" ".join([name] + list(map(str, numbers))) for name, numbers in seen.operations)))
-    status, listing, note = program.answer(program.needed(None), ["list"], text)
-    if status != 0:
-        raise Trouble(note or "the program ends with status %d" % status)
-    return list(enumerate(listing.decode().split("\n")[listings.FIRST_LINE - 1:], listings.FIRST_LINE))
+    seen = listings.Listing(text)
+    return [(line, " ".join([name, *map(str, numbers)])) for line, (name, numbers) in zip(seen.lines, seen.operations)]
 
 
 def widths_of_keys(text: bytes) -> dict[str, int]:

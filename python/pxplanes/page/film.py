@@ -1,27 +1,15 @@
 """A film: the page with one scene or listing in it, which plays the machine's broadcasts."""
 from __future__ import annotations
 
-import itertools
 import json
 import re
 
-from pxplanes import ends, program
+from pxplanes import ends
 from pxplanes.errors import Trouble
-from pxplanes.machine import listings, micros
+from pxplanes.machine import listings
 
 PAGE = ends.PAGE
 OWN = re.compile(r'(<script type="application/json" id="own">)null')
-
-
-def clocks_before(text: bytes) -> list[int]:
-    """The clock at which each operation of a scene or a listing begins. Raises `Trouble` if the text is refused."""
-    if listings.is_listing(text):
-        return [0] + listings.Listing(text).ends[:-1]
-    status, listing, note = program.answer(program.needed(None), ["list"], text)
-    if status != 0:
-        raise Trouble(note)
-    nx, ny, operations = micros.read_listing(listing)
-    return list(itertools.accumulate((micros.clocks_of(name, numbers, nx + ny) for name, numbers in operations[:-1]), initial=0))
 
 
 def with_scene(page: str, own: dict[str, object]) -> str:
@@ -35,7 +23,7 @@ def with_scene(page: str, own: dict[str, object]) -> str:
 
 def film(name: str, text: bytes, first: int) -> str:
     """The page that plays a scene or a listing of this name from operation `first` on, counted from 0."""
-    clocks = clocks_before(text)
+    clocks = [0] + listings.Listing(text).ends[:-1]
     if first >= len(clocks):
         raise Trouble("it has the operations 0 to %d, and no operation %d" % (len(clocks) - 1, first))
     try:

@@ -12,6 +12,14 @@ pub const NO_GRID: u32 = 10;
 pub const NO_MICRO: u32 = 11;
 pub const NO_OPERATION: u32 = 12;
 pub const NO_WINDOW: u32 = 13;
+pub const NO_FACE: u32 = 14;
+
+pub const FACE_NEAR: u32 = 1;
+pub const FACE_FRONT: u32 = 2;
+pub const FACE_BACK: u32 = 3;
+
+/// A solid's name has at most so many bytes.
+pub const MAX_NAME: usize = 32;
 
 /// Memory bits of a pixel.
 pub const BITS: u32 = 72;
@@ -48,6 +56,19 @@ pub struct Moment {
     pub next_micro: u64,
 }
 
+/// `struct pxplanes_numbered_face`.
+#[repr(C)]
+#[derive(Clone, Copy, Debug, Default, PartialEq, Eq)]
+pub struct Face {
+    pub solid: u32,
+    pub kind: u32,
+    pub plane: u32,
+    pub line: u32,
+    pub red: u32,
+    pub green: u32,
+    pub blue: u32,
+}
+
 /// `struct pxplanes_operation`.
 #[repr(C)]
 #[derive(Clone, Copy, Debug, Default, PartialEq, Eq)]
@@ -67,76 +88,36 @@ pub struct Operation {
 extern "C" {
     pub fn pxplanes_check(text: *const u8, text_len: usize, found: *mut Found) -> u32;
     pub fn pxplanes_render(
-        text: *const u8,
-        text_len: usize,
-        depths: *mut u32,
-        depths_len: usize,
-        faces: *mut u32,
-        faces_len: usize,
+        text: *const u8, text_len: usize, depths: *mut u32, depths_len: usize, faces: *mut u32, faces_len: usize,
         found: *mut Found,
     ) -> u32;
     pub fn pxplanes_window(
-        text: *const u8,
-        text_len: usize,
-        x: u32,
-        y: u32,
-        width: u32,
-        height: u32,
-        depths: *mut u32,
-        depths_len: usize,
-        faces: *mut u32,
-        faces_len: usize,
-        found: *mut Found,
+        text: *const u8, text_len: usize, x: u32, y: u32, width: u32, height: u32, depths: *mut u32, depths_len: usize,
+        faces: *mut u32, faces_len: usize, found: *mut Found,
+    ) -> u32;
+    pub fn pxplanes_face(
+        text: *const u8, text_len: usize, number: u32, name: *mut u8, name_len: usize, face: *mut Face, found: *mut Found,
     ) -> u32;
     pub fn pxplanes_colour(text: *const u8, text_len: usize, rgb: *mut u8, rgb_len: usize, found: *mut Found) -> u32;
     pub fn pxplanes_products(
-        text: *const u8,
-        text_len: usize,
-        literals: *mut i32,
-        literals_len: usize,
-        found: *mut Found,
+        text: *const u8, text_len: usize, literals: *mut i32, literals_len: usize, found: *mut Found,
     ) -> u32;
     pub fn pxplanes_state(
-        text: *const u8,
-        text_len: usize,
-        clock: u64,
-        words: *mut u64,
-        words_len: usize,
-        state: *mut Moment,
+        text: *const u8, text_len: usize, clock: u64, words: *mut u64, words_len: usize, state: *mut Moment,
         found: *mut Found,
     ) -> u32;
     pub fn pxplanes_micros(
-        text: *const u8,
-        text_len: usize,
-        first: u64,
-        micros: *mut u64,
-        micros_len: usize,
-        found: *mut Found,
+        text: *const u8, text_len: usize, first: u64, micros: *mut u64, micros_len: usize, found: *mut Found,
     ) -> u32;
     pub fn pxplanes_course(
-        text: *const u8,
-        text_len: usize,
-        first: u64,
-        course: *mut Operation,
-        course_len: usize,
-        found: *mut Found,
+        text: *const u8, text_len: usize, first: u64, course: *mut Operation, course_len: usize, found: *mut Found,
     ) -> u32;
     pub fn pxplanes_clocks(
-        words: *mut u64,
-        words_len: usize,
-        grid_width: u32,
-        grid_height: u32,
-        micros: *const u64,
-        micros_len: usize,
+        words: *mut u64, words_len: usize, grid_width: u32, grid_height: u32, micros: *const u64, micros_len: usize,
         found: *mut Found,
     ) -> u32;
     pub fn pxplanes_run(
-        text: *const u8,
-        text_len: usize,
-        words: *const u8,
-        words_len: usize,
-        out: *mut u8,
-        out_len: usize,
+        text: *const u8, text_len: usize, words: *const u8, words_len: usize, out: *mut u8, out_len: usize,
         found: *mut Found,
     ) -> u32;
     pub fn pxplanes_cause_name(cause: u32, name: *mut u8, name_len: usize) -> usize;

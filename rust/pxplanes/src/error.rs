@@ -35,6 +35,13 @@ pub enum Error {
         /// How many operations there are.
         operations: u64,
     },
+    /// A window has not so many columns or rows, or lies past the widest picture.
+    NoWindow,
+    /// The scene has no face of this number.
+    NoFace {
+        /// The greatest face number.
+        faces: u32,
+    },
     /// No microinstruction, or one with a place past the memory, by its index.
     NoMicro {
         /// Which of those given it is, from 0.
@@ -54,6 +61,8 @@ impl fmt::Display for Error {
             Error::Memory => write!(to, "no memory"),
             Error::NoClock { clocks } => write!(to, "there are {clocks} clocks"),
             Error::NoOperation { operations } => write!(to, "there are {operations} operations"),
+            Error::NoFace { faces } => write!(to, "faces are numbered from 1 to {faces}"),
+            Error::NoWindow => write!(to, "a window has not so many columns or rows"),
             Error::NoMicro { index } => write!(to, "microinstruction {index} is none"),
         }
     }
@@ -71,9 +80,10 @@ pub(crate) fn name(write: impl FnOnce(*mut u8, usize) -> usize) -> String {
     String::from_utf8_lossy(&word[..len.min(LONGEST)]).into_owned()
 }
 
-/// Why a call ended with a status that is neither `OK` nor `NO_ROOM`.
-pub(crate) fn refusal(status: u32, found: &sys::Found) -> Error {
-    match status {
+/// What a call answers that ended with a status, which is no `NO_ROOM`.
+pub(crate) fn ended(status: u32, found: &sys::Found) -> Result<()> {
+    Err(match status {
+        sys::OK => return Ok(()),
         sys::MALFORMED => Error::Malformed {
             line: found.line,
             cause: name(|word, len| unsafe { sys::pxplanes_cause_name(found.cause, word, len) }),
@@ -87,9 +97,11 @@ pub(crate) fn refusal(status: u32, found: &sys::Found) -> Error {
         sys::MEMORY => Error::Memory,
         sys::NO_CLOCK => Error::NoClock { clocks: found.clocks },
         sys::NO_OPERATION => Error::NoOperation { operations: found.operations },
+        sys::NO_FACE => Error::NoFace { faces: found.faces },
+        sys::NO_WINDOW => Error::NoWindow,
         sys::NO_MICRO => Error::NoMicro { index: found.number as u64 },
         other => unreachable!("the library answered {other}"),
-    }
+    })
 }
 
 /// Calls with buffers of no element, and once more with as many as are due, where some are; what was found, and the buffers.
@@ -104,8 +116,6 @@ pub(crate) fn filled<T: Clone + Default, const N: usize>(
         buffers = std::array::from_fn(|_| vec![T::default(); room]);
         status = call(&mut buffers, &mut found);
     }
-    match status {
-        sys::OK => Ok((found, buffers)),
-        _ => Err(refusal(status, &found)),
-    }
+    ended(status, &found)?;
+    Ok((found, buffers))
 }

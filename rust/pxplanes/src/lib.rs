@@ -11,7 +11,7 @@ mod running;
 
 pub use error::{Error, Result};
 pub use machine::{course, micros, State};
-pub use pictures::{check, colour, products, render, Colours, Cost, Picture};
+pub use pictures::{check, colour, face, place, products, render, window, Colours, Cost, Face, FaceKind, Picture};
 pub use pxplanes_sys::{Moment, Operation, BITS};
 pub use running::run;
 

@@ -1,4 +1,4 @@
-use crate::error::{filled, refusal, Result};
+use crate::error::{ended, filled, Error, Result};
 use pxplanes_sys as sys;
 
 /// The machine after some clocks of a scene or of a listing: a value, to keep and to clone. Going back is a clone that was kept.
@@ -61,51 +61,41 @@ impl State {
                 &mut found,
             )
         };
-        match status {
-            sys::OK => Ok(()),
-            _ => Err(refusal(status, &found)),
-        }
+        ended(status, &found)
     }
+}
+
+/// `count` elements of a text from one on. It is asked without a buffer first, so that a count past the end takes no memory; `past`
+/// gives how many there are, and the error of that.
+fn stretch<T: Clone + Default>(
+    first: u64, count: usize, past: impl Fn(&sys::Found) -> (u64, Error),
+    call: impl Fn(u64, *mut T, usize, &mut sys::Found) -> u32,
+) -> Result<Vec<T>> {
+    let mut found = sys::Found::default();
+    ended(call(0, std::ptr::null_mut(), 0, &mut found), &found)?;
+    let (all, error) = past(&found);
+    if first.checked_add(count as u64).map_or(true, |end| end > all) {
+        return Err(error);
+    }
+    let mut elements = vec![T::default(); count];
+    ended(call(first, elements.as_mut_ptr(), count, &mut found), &found)?;
+    Ok(elements)
 }
 
 /// What is broadcast in `count` clocks from clock `first` on, a packed microinstruction each.
 pub fn micros(text: impl AsRef<[u8]>, first: u64, count: usize) -> Result<Vec<u64>> {
     let text = text.as_ref();
-    let mut found = sys::Found::default();
-    // Asked without a buffer first, so that a count past the end takes no memory.
-    let status = unsafe { sys::pxplanes_micros(text.as_ptr(), text.len(), 0, std::ptr::null_mut(), 0, &mut found) };
-    if status != sys::OK {
-        return Err(refusal(status, &found));
-    }
-    if first.checked_add(count as u64).map_or(true, |end| end > found.clocks) {
-        return Err(crate::Error::NoClock { clocks: found.clocks });
-    }
-    let mut micros = vec![0; count];
-    let status =
-        unsafe { sys::pxplanes_micros(text.as_ptr(), text.len(), first, micros.as_mut_ptr(), micros.len(), &mut found) };
-    match status {
-        sys::OK => Ok(micros),
-        _ => Err(refusal(status, &found)),
-    }
+    let past = |&sys::Found { clocks, .. }: &sys::Found| (clocks, Error::NoClock { clocks });
+    stretch(first, count, past, |first, to, len, found| unsafe {
+        sys::pxplanes_micros(text.as_ptr(), text.len(), first, to, len, found)
+    })
 }
 
 /// `count` operations from operation `first` on, each with what it is for: its step, literal, face and other literal.
 pub fn course(text: impl AsRef<[u8]>, first: u64, count: usize) -> Result<Vec<sys::Operation>> {
     let text = text.as_ref();
-    let mut found = sys::Found::default();
-    // Asked without a buffer first, so that a count past the end takes no memory.
-    let status = unsafe { sys::pxplanes_course(text.as_ptr(), text.len(), 0, std::ptr::null_mut(), 0, &mut found) };
-    if status != sys::OK {
-        return Err(refusal(status, &found));
-    }
-    if first.checked_add(count as u64).map_or(true, |end| end > found.operations) {
-        return Err(crate::Error::NoOperation { operations: found.operations });
-    }
-    let mut course = vec![sys::Operation::default(); count];
-    let status =
-        unsafe { sys::pxplanes_course(text.as_ptr(), text.len(), first, course.as_mut_ptr(), course.len(), &mut found) };
-    match status {
-        sys::OK => Ok(course),
-        _ => Err(refusal(status, &found)),
-    }
+    let past = |&sys::Found { operations, .. }: &sys::Found| (operations, Error::NoOperation { operations });
+    stretch(first, count, past, |first, to, len, found| unsafe {
+        sys::pxplanes_course(text.as_ptr(), text.len(), first, to, len, found)
+    })
 }

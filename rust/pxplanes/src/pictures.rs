@@ -1,4 +1,4 @@
-use crate::error::{filled, refusal, Result};
+use crate::error::{ended, filled, Result};
 use pxplanes_sys as sys;
 
 /// What a picture takes: its size, its greatest face number, and the passes that draw it.
@@ -48,14 +48,31 @@ pub struct Colours {
     pub rgb: Vec<u8>,
 }
 
+/// Copies `height` rows to a buffer of your own, whose rows begin `stride` elements apart, from its last row on if `is_from_bottom`.
+/// `make` gives the elements of a pixel, as `|&[r, g, b]| [r, g, b, 255]` of colours or `|&[depth]| [depth as f32]` of depths.
+///
+/// # Panics
+///
+/// If a row does not fit.
+pub fn place<T: Copy, U: Copy, const FROM: usize, const TO: usize>(
+    pixels: &[T], height: u32, to: &mut [U], stride: usize, is_from_bottom: bool, make: impl Fn(&[T; FROM]) -> [U; TO],
+) {
+    let (height, row) = (height as usize, pixels.len() / height as usize);
+    for (y, pixels) in pixels.chunks_exact(row).enumerate() {
+        let at = stride * if is_from_bottom { height - 1 - y } else { y };
+        let to = &mut to[at..at + row / FROM * TO];
+        for (pixel, to) in pixels.chunks_exact(FROM).zip(to.chunks_exact_mut(TO)) {
+            to.copy_from_slice(&make(pixel.try_into().expect("a pixel")));
+        }
+    }
+}
+
 /// Judges a text, and draws nothing.
 pub fn check(text: impl AsRef<[u8]>) -> Result<Cost> {
     let text = text.as_ref();
     let mut found = sys::Found::default();
     let status = unsafe { sys::pxplanes_check(text.as_ptr(), text.len(), &mut found) };
-    if status != sys::OK {
-        return Err(refusal(status, &found));
-    }
+    ended(status, &found)?;
     Ok(Cost {
         width: found.width,
         height: found.height,
@@ -79,11 +96,81 @@ pub fn render(text: impl AsRef<[u8]>) -> Result<Picture> {
             found,
         )
     })?;
-    Ok(Picture {
-        width: found.width,
-        height: found.height,
-        depths,
-        faces,
+    Ok(Picture { width: found.width, height: found.height, depths, faces })
+}
+
+/// Draws a part of a picture, `width` by `height` pixels (1 to 512) from column `x` and row `y` on, in the time of a picture of its
+/// size. It may lie in what the program's `tile` draws.
+pub fn window(text: impl AsRef<[u8]>, x: u32, y: u32, width: u32, height: u32) -> Result<Picture> {
+    let text = text.as_ref();
+    let (_, [depths, faces]) = filled(|[depths, faces], found| unsafe {
+        sys::pxplanes_window(
+            text.as_ptr(),
+            text.len(),
+            x,
+            y,
+            width,
+            height,
+            depths.as_mut_ptr(),
+            depths.len(),
+            faces.as_mut_ptr(),
+            faces.len(),
+            found,
+        )
+    })?;
+    Ok(Picture { width, height, depths, faces })
+}
+
+/// Which of its solid's faces a face is.
+#[derive(Clone, Copy, Debug, PartialEq, Eq)]
+pub enum FaceKind {
+    /// The near face, where the eye is inside of all fronts.
+    Near,
+    /// One of its fronts.
+    Front,
+    /// One of its backs.
+    Back,
+}
+
+/// What a face number means.
+#[derive(Clone, Debug, PartialEq, Eq)]
+pub struct Face {
+    /// Its solid, from 1 in the order of the text.
+    pub solid: u32,
+    /// The solid's name.
+    pub name: String,
+    /// Which of the solid's faces it is.
+    pub kind: FaceKind,
+    /// Which front or back of the solid it is, from 1; 0 for the near face.
+    pub plane: u32,
+    /// The line of the text that gives it its number, from 1.
+    pub line: u32,
+    /// Red, green and blue.
+    pub colour: [u8; 3],
+}
+
+/// What a face number of a scene's picture means.
+pub fn face(text: impl AsRef<[u8]>, number: u32) -> Result<Face> {
+    let text = text.as_ref();
+    let (mut found, mut face, mut name) = (sys::Found::default(), sys::Face::default(), [0; sys::MAX_NAME]);
+    ended(
+        unsafe {
+            sys::pxplanes_face(text.as_ptr(), text.len(), number, name.as_mut_ptr(), name.len(), &mut face, &mut found)
+        },
+        &found,
+    )?;
+    let len = name.iter().position(|&byte| byte == 0).unwrap_or(name.len());
+    Ok(Face {
+        solid: face.solid,
+        name: String::from_utf8_lossy(&name[..len]).into_owned(),
+        kind: match face.kind {
+            sys::FACE_NEAR => FaceKind::Near,
+            sys::FACE_FRONT => FaceKind::Front,
+            _ => FaceKind::Back,
+        },
+        plane: face.plane,
+        line: face.line,
+        colour: [face.red as u8, face.green as u8, face.blue as u8],
     })
 }
 
@@ -93,11 +180,7 @@ pub fn colour(text: impl AsRef<[u8]>) -> Result<Colours> {
     let (found, [rgb]) = filled(|[rgb], found| unsafe {
         sys::pxplanes_colour(text.as_ptr(), text.len(), rgb.as_mut_ptr(), rgb.len(), found)
     })?;
-    Ok(Colours {
-        width: found.width,
-        height: found.height,
-        rgb,
-    })
+    Ok(Colours { width: found.width, height: found.height, rgb })
 }
 
 /// The products that can show anything: solid numbers from 1 on, below 0 where a solid is taken away.

@@ -1,4 +1,4 @@
-use crate::error::{refusal, Result};
+use crate::error::{ended, Result};
 use pxplanes_sys as sys;
 
 /// Room that is enough for what most commands write.
@@ -23,13 +23,10 @@ pub fn run(text: impl AsRef<[u8]>, words: impl AsRef<[u8]>) -> Result<Vec<u8>> {
             )
         };
         room = found.room as usize;
-        match status {
-            sys::OK => {
-                out.truncate(room);
-                return Ok(out);
-            }
-            sys::NO_ROOM => {}
-            _ => return Err(refusal(status, &found)),
+        if status != sys::NO_ROOM {
+            ended(status, &found)?;
+            out.truncate(room);
+            return Ok(out);
         }
     }
 }

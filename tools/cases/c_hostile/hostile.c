@@ -7,7 +7,7 @@
 
 #define FILL 0xa5
 #define EDGE 64
-enum { CALLS = 9, STATUSES = 13, MOST = 100000 };
+enum { CALLS = 11, STATUSES = 15, MOST = 100000 };
 
 static uint64_t lot = 83;
 static uint64_t next(uint64_t below)
@@ -66,8 +66,9 @@ int main(void)
         uint32_t status = pxplanes_check(text, len, &found), call = (uint32_t) next(CALLS);
         uint64_t pixels = status == PXPLANES_OK && found.clocks < MOST ? (uint64_t) found.width * found.height : 32, end = ends[next(7)];
         size_t count = (size_t) (pixels - (next(3) == 0) + (next(3) == 0) * 5) * (next(4) > 0);
-        size_t size = call == 1 ? 4 : call == 6 ? sizeof(struct pxplanes_operation) : 8;
+        size_t size = call == 1 || call == 9 ? 4 : call == 6 ? sizeof(struct pxplanes_operation) : 8;
         struct room one = taken(call == 7 ? next(60000) / 8 * 8 : count * size), two = taken(count * size);
+        struct room face = taken(sizeof(struct pxplanes_numbered_face));
         int draws = status != PXPLANES_OK || found.clocks < MOST;
         switch (draws ? call : 0) {
         case 1: status = pxplanes_render(text, len, (uint32_t *) one.at, count, (uint32_t *) two.at, count, &found); break;
@@ -79,13 +80,19 @@ int main(void)
         case 7: status = pxplanes_clocks((uint64_t *) one.at, one.size / 8, (uint32_t) next(9), (uint32_t) next(9), (uint64_t *) two.at, count,
                                          &found); break;
         case 8: status = pxplanes_run(text, len, word, word_len, one.at, one.size, &found); break;
+        case 9: status = pxplanes_window(text, len, (uint32_t) (next(3) ? next(9) : end), (uint32_t) (next(3) ? next(9) : 4090 + next(9)),
+                                         (uint32_t) (next(5) ? next(9) : next(600)), (uint32_t) next(9), (uint32_t *) one.at, count,
+                                         (uint32_t *) two.at, count, &found); break;
+        case 10: status = pxplanes_face(text, len, next(3) ? (uint32_t) next(9) : (uint32_t) end, two.at, two.size, (struct pxplanes_numbered_face *) face.at,
+                                        &found); break;
         default: status = pxplanes_check(text, len, &found);
         }
         if (status >= STATUSES || status == 1 || status == 5 || status == 6)
             wrong++;
         else
             seen[status]++;
-        wrong += (unsigned) (is_wrong(one, status == PXPLANES_OK) + is_wrong(two, call == 1 && status == PXPLANES_OK));
+        wrong += (unsigned) (is_wrong(one, status == PXPLANES_OK) + is_wrong(two, (call == 1 || call == 9 || call == 10) && status == PXPLANES_OK)
+                             + is_wrong(face, call == 10 && status == PXPLANES_OK));
         free(text);
         free(word);
     }

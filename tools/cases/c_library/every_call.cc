@@ -30,6 +30,9 @@ int main()
     c.note(pxplanes_check(c.text, c.text_len, &c.found));
     c.note(pxplanes_render(c.text, c.text_len, &depth, 1, &face, 1, &c.found));
     c.note(pxplanes_window(c.text, c.text_len, 0, 0, 1, 1, &depth, 1, &face, 1, &c.found));
+    pxplanes_numbered_face first{};
+    std::uint8_t called[PXPLANES_MAX_NAME] = {};
+    c.note(pxplanes_face(c.text, c.text_len, 1, called, sizeof called, &first, &c.found));
     c.note(pxplanes_colour(c.text, c.text_len, rgb, 3, &c.found));
     c.note(pxplanes_products(c.text, c.text_len, literals, 2, &c.found));
     c.note(pxplanes_state(c.text, c.text_len, 0, nullptr, 0, &moment, &c.found));
@@ -44,7 +47,8 @@ int main()
     c.note(pxplanes_run(c.text, c.text_len, reinterpret_cast<const std::uint8_t *>("cost"), 4, cost, sizeof cost, &c.found));
     for (std::uint32_t status : c.statuses)
         std::printf("%u ", static_cast<unsigned>(status));
-    std::printf("depth %u face %u rgb %u %u %u product %d clocks %u names %zu %zu %zu\n", static_cast<unsigned>(depth),
-                static_cast<unsigned>(face), rgb[0], rgb[1], rgb[2], static_cast<int>(literals[0]), made,
+    std::printf("depth %u face %u rgb %u %u %u product %d face 1 of %s in line %u clocks %u names %zu %zu %zu\n", static_cast<unsigned>(depth),
+                static_cast<unsigned>(face), rgb[0], rgb[1], rgb[2], static_cast<int>(literals[0]),
+                reinterpret_cast<const char *>(called), static_cast<unsigned>(first.line), made,
                 pxplanes_cause_name(1, name, sizeof name), pxplanes_kind_name(1, name, sizeof name), pxplanes_version(name, sizeof name));
 }

@@ -1,6 +1,8 @@
 // Every call of pxplanes.hpp, on scenes of two or three planes whose pictures are worked out by hand (see stdout), and on a machine
 // that is stepped beside what the library says of its later clocks.
 #include <pxplanes.hpp>
+#include <pxplanes_image.h>
+#include <pxplanes_scene.h>
 
 #include <cstdint>
 #include <exception>
@@ -8,6 +10,9 @@
 #include <string>
 #include <type_traits>
 #include <vector>
+#if __cplusplus >= 202002L
+#include <span>
+#endif
 
 std::string other_version();
 
@@ -127,6 +132,53 @@ void draw()
     tell(literals);
 }
 
+// The back of b is its one back, in the eighth line; and there is no face 6.
+void name_face()
+{
+    const pxplanes::face_found back = pxplanes::face(cut, 5);
+    std::cout << "face 5: " << (back.kind == pxplanes::face_kind::back ? "back " : "another ") << back.plane << " of " << back.name << ", solid "
+              << back.solid << ", line " << back.line << ", colour " << int{back.colour[0]} << ' ' << int{back.colour[2]} << '\n';
+    refusal("no face", [] { pxplanes::face(cut, 6); });
+}
+
+// The second row from column 3 on, and what lies right of the picture and below it: the ramp goes on there.
+void draw_windows()
+{
+    const pxplanes::picture part = pxplanes::window(ramp, 3, 1, 11, 2);
+    std::cout << "window: " << part.width << " by " << part.height << ':';
+    tell(part.depths);
+    tell(part.faces);
+    std::vector<std::uint32_t> depths(4, 77), faces(3, 77);
+    refusal("no window", [] { pxplanes::window(ramp, 0, 0, 513, 1); });
+    refusal("no row", [] { pxplanes::window(ramp, 0, 0, 1, 0); });
+    refusal("past the widest", [] { pxplanes::window(ramp, 4095, 0, 2, 1); });
+    refusal("a small window", [&] { pxplanes::window(ramp, 0, 0, 2, 2, depths.data(), 4, faces.data(), 3); });
+#ifdef __cpp_lib_span
+    pxplanes::window(ramp, 3, 1, 3, 1, std::span(depths), std::span(faces));
+#else
+    pxplanes::window(ramp, 3, 1, 3, 1, depths, faces);
+#endif
+    tell(depths);
+}
+
+// A picture of 2 by 2 pixels in rows of another length: from the top and from the bottom, with one byte, or number, between the rows.
+void place()
+{
+    const std::vector<std::uint8_t> rgb{1, 2, 3, 4, 5, 6, 7, 8, 9, 10, 11, 12};
+    const std::vector<std::uint32_t> numbers{1, 2, 3, (1u << 24) - 1};
+    std::vector<std::uint8_t> bytes(13, 99), more(17, 99);
+    std::vector<std::uint32_t> copied(5, 99);
+    std::vector<float> floats(5, 99);
+    pxplanes_place_rgb(bytes.data(), 7, rgb.data(), 2, 2);
+    pxplanes_place_rgba(more.data() + 9, -9, rgb.data(), 2, 2);
+    pxplanes_place_numbers(copied.data() + 3, -12, numbers.data(), 2, 2);
+    pxplanes_place_floats(floats.data(), 12, numbers.data(), 2, 2);
+    tell(bytes);
+    tell(more);
+    tell(copied);
+    std::cout << (floats == std::vector<float>{1, 2, 99, 3, 16777215}) << '\n';
+}
+
 void refuse()
 {
     std::vector<std::uint32_t> depths(24, 77), faces(23, 77);
@@ -228,8 +280,8 @@ bool is_short(const std::string &tidied)
     return false;
 }
 
-// The same by spans, where they are there; and by pointers else.
-void by_buffers()
+// The same by pointers, and by what has data and a size.
+void by_buffers(bool is_plain)
 {
     std::vector<std::uint32_t> depths(24), faces(24);
     std::vector<std::uint8_t> rgb(72);
@@ -238,25 +290,24 @@ void by_buffers()
     std::vector<std::uint64_t> words(size), later(size), micros(10);
     const std::string tidied = pxplanes::run(ramp, "tidy");
     std::vector<std::uint8_t> out(tidied.size() + 1, 77);
-#ifdef __cpp_lib_span
-    pxplanes::render(ramp, std::span(depths), std::span(faces));
-    pxplanes::colour(ramp, std::span(rgb));
-    pxplanes::products(cut, std::span(literals));
-    pxplanes::read_state(ramp, 50, std::span(words));
-    pxplanes::read_state(ramp, 60, std::span(later));
-    pxplanes::micros(ramp, 50, std::span(micros));
-    pxplanes::clocks(words, 16, 2, micros);
-    const std::size_t written = pxplanes::run(ramp, "tidy", std::span(out));
-#else
-    pxplanes::render(ramp, depths.data(), 24, faces.data(), 24);
-    pxplanes::colour(ramp, rgb.data(), 72);
-    pxplanes::products(cut, literals.data(), 3);
-    pxplanes::read_state(ramp, 50, words.data(), size);
-    pxplanes::read_state(ramp, 60, later.data(), size);
-    pxplanes::micros(ramp, 50, micros.data(), 10);
-    pxplanes::clocks(words.data(), size, 16, 2, micros.data(), 10);
-    const std::size_t written = pxplanes::run(ramp, "tidy", out.data(), out.size());
-#endif
+    if (is_plain) {
+        pxplanes::render(ramp, depths.data(), 24, faces.data(), 24);
+        pxplanes::colour(ramp, rgb.data(), 72);
+        pxplanes::products(cut, literals.data(), 3);
+        pxplanes::read_state(ramp, 50, words.data(), size);
+        pxplanes::read_state(ramp, 60, later.data(), size);
+        pxplanes::micros(ramp, 50, micros.data(), 10);
+        pxplanes::clocks(words.data(), size, 16, 2, micros.data(), 10);
+    } else {
+        pxplanes::render(ramp, depths, faces);
+        pxplanes::colour(ramp, rgb);
+        pxplanes::products(cut, literals);
+        pxplanes::read_state(ramp, 50, words);
+        pxplanes::read_state(ramp, 60, later);
+        pxplanes::micros(ramp, 50, micros);
+        pxplanes::clocks(words, 16, 2, micros);
+    }
+    const std::size_t written = is_plain ? pxplanes::run(ramp, "tidy", out.data(), out.size()) : pxplanes::run(ramp, "tidy", out);
     const pxplanes::picture drawn = pxplanes::render(ramp);
     std::cout << "by buffers: " << (depths == drawn.depths) << (faces == drawn.faces) << (rgb == pxplanes::colour(ramp).rgb)
               << (literals == std::vector<std::int32_t>{1, -2, 0}) << (words == later)
@@ -274,8 +325,12 @@ int main()
               << pxplanes::version() << ' ' << other_version() << '\n'
               << "names " << pxplanes::cause_name(1) << ' ' << pxplanes::kind_name(1) << " '" << pxplanes::cause_name(99) << "'\n";
     draw();
+    name_face();
+    draw_windows();
+    place();
     refuse();
     step();
     course();
-    by_buffers();
+    by_buffers(true);
+    by_buffers(false);
 }

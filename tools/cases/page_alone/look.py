@@ -30,7 +30,7 @@ OVER = """tab => {
 TAKEN = """() => { const own = URL.createObjectURL; globalThis.taken = []; URL.createObjectURL = blob => { taken.push(blob); return own(blob); };
   HTMLAnchorElement.prototype.click = function () { taken.push(this.download); }; }"""
 # What is lacking, put into the page before it begins.
-LACKING = {"no DecompressionStream": "delete globalThis.DecompressionStream", "no WebAssembly": "delete globalThis.WebAssembly", "no SIMD": "WebAssembly.validate = () => false"}
+LACKING = {"no WebAssembly": "delete globalThis.WebAssembly", "no SIMD": "WebAssembly.validate = () => false"}
 
 
 def colours_are_the_programs(page, text):
@@ -232,7 +232,7 @@ def linked(page, text):
     print("a link of %s letters" % ("few" if len(link) < 1500 else len(link)))
     for what, path, behind in (("the link", pages.PAGE, "#" + link.split("#")[1]), ("the page", "own.html", "")):
         alone(page, path, behind)
-        page.until("document.body.dataset.shown === '1200' && document.body.dataset.wave === '14 16 1200'")
+        page.until("document.body.dataset.shown === '1200' && document.body.dataset.inside === '14 16 1200'")
         print("%s: %s, %s, the text is there: %s" % (what, page.run("document.querySelector('main').dataset.tab"), page.run(
             "document.getElementById('view').value"), texts(page) == text.decode().replace("200", "201")))
     page.press("1")
@@ -253,7 +253,7 @@ def sizes(page):
             if tab == "machine":
                 page.until("document.body.dataset.shown")
                 point(page, "array", 3, 3)
-                page.until("document.body.dataset.wave")
+                page.until("document.body.dataset.inside")
             over, in_sight = called(page, OVER, tab)
             if over or not in_sight:
                 print("%d by %d, %s: over one another %s, in sight %s" % (width, height, tab, over[:4], in_sight))

@@ -101,7 +101,7 @@ def due_of(text):
     scene = scenes.read(text)
     own = [ray_of(scene, (scene.width - 1) * at // 3, (scene.height - 1) * over // 8) for at, over in RAYS]
     listed = [line for line in program.answer(BUILT, ["list"], text)[1].decode().split("\n")[2:-2]]
-    operations, said = passes.operations(scene, passes.products_of(scene, program.answer(BUILT, ["plan"], text)[1]))
+    operations, said = passes_read.operations(scene, passes.products_of(scene, program.answer(BUILT, ["plan"], text)[1]))
     assert [passes_read.line(name, numbers) for _, name, numbers, _ in operations] == listed
     clock, rows, (wide, high) = 0, [], program.grid(scene.width, scene.height)
     for number, name, numbers, words in operations:

@@ -63,7 +63,8 @@ def follows(page):
 
 def by_lines(page):
     cursor(page, "side 1 0 -19")
-    print("lines of the shaft's sides:", page.run("document.querySelectorAll('.handles g').length"))
+    # (they are drawn with the next image)
+    print("lines of the shaft's sides:", page.until("document.querySelectorAll('.handles g').length"))
     place = lambda x, y=3: called(page, PICTURE, x, y)
     # (a side at 1 * x - 19 = 0, to x 21, 10 and 25.4)
     dragged(page, [place(19), place(21), place(10), place(25.4)], 11, ["side 1 0 %d" % -x for x in (21, 10, 25)])

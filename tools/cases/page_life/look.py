@@ -175,14 +175,14 @@ def edges(page, text):
 
 
 # What is lit: the face, the line of the text, the pixels of an image, and of each pass whether it is, by the middle of its place in the
-# second row of the time line.
+# third row of the time line.
 LIT = """(image, middles) => {
   const canvas = document.getElementById(image), over = canvas.parentElement.querySelector(".lit"), line = document.getElementById("line-of-passes");
   // (the picture is 48 pixels wide, and the array 64)
   const pixels = over.hidden ? [] : [...over.getContext("2d").getImageData(0, 0, 48, over.height).data].filter((_, at) => at % 4 === 3);
   const ink = getComputedStyle(document.documentElement).getPropertyValue("--ink"), pen = line.getContext("2d");
   return [Number(document.body.dataset.lit), document.querySelector(".lit .CodeMirror-line")?.textContent.trim() ?? "", pixels.map(each => Number(each > 0)),
-    middles.map(share => [...pen.getImageData(Math.floor(share * line.width), Math.floor(line.height / 3) + 2, 1, 1).data.slice(0, 3)].map(each => each.toString(16).padStart(2, "0")).join("") === ink.slice(1))];
+    middles.map(share => [...pen.getImageData(Math.floor(share * line.width), Math.floor(line.height * 2 / 5) + 2, 1, 1).data.slice(0, 3)].map(each => each.toString(16).padStart(2, "0")).join("") === ink.slice(1))];
 }"""
 
 
@@ -191,11 +191,11 @@ def lights(page, text):
     print("-- a face lights up")
     scene, lines = scenes.read(text), text.decode().split("\n")
     products = passes.products_of(scene, program.answer(BUILT, ["plan"], text)[1])
-    said, (_, clocks, levels) = passes.operations(scene, products)[1], operations_of(text)
+    said, (_, clocks, levels) = passes_read.operations(scene, products)[1], operations_of(text)
     starts = passes_read.starts(scene, products, levels)
     middles = [(one + other) / 2 / clocks for one, other in zip(starts, starts[1:])]
     shown = netpbm.images(program.answer(BUILT, ["render"], text)[1])[1].numbers()
-    named = {face.number: (solid, face) for solid in scene.solids for faces in passes.faces_of(scene, solid) for face in faces if face.number}
+    named = {face.number: (solid, face) for solid in scene.solids for faces in passes_read.faces_of(scene, solid) for face in faces if face.number}
     alone(page, behind=link("docs/scenes/first.scene", "machine", clock=clocks))
     page.until("document.body.dataset.shown")
     page.press("t")

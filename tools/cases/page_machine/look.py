@@ -45,10 +45,12 @@ def look(page):
     go(page, 3000)
     print(text_of(page, "#operation") + " | " + text_of(page, "#line") + " | " + text_of(page, "#micro"))
     point(page, "array", 24, 16)
-    page.until("document.body.dataset.wave === '24 16 3000'")
+    page.until("document.body.dataset.inside === '24 16 3000'")
     print("its bits:", page.run("[...document.querySelectorAll('.memory td')].map(cell => cell.textContent).join('')")[:28])
+    page.run("document.querySelector('[data-inside=waveform]').click()")
+    page.until("!!document.querySelector('.wave')")
     print("its waveform:", page.run("document.querySelectorAll('.wave path').length"), "lines,",
-          page.run("document.querySelectorAll('.wave .act').length"), "clocks")
+          page.run("document.querySelectorAll('.wave .clocks').length"), "clocks")
     moves = []
     for key in "smpbMPr":
         page.press(key)
@@ -72,7 +74,7 @@ def look(page):
     print("played fast:", page.run("(() => { let asked = 0; globalThis.confirm = () => { asked += 1; return false; }; const s = document.getElementById('speed'); "
                                    "s.value = '10'; s.dispatchEvent(new Event('change')); return `asked ${asked}, and ${s.value} a second`; })()"))
     for name, words in (("state", {"clock": 5397}), ("state", {"clock": -1}), ("state", {"clock": 1.5}), ("state", {}),
-                        ("wave", {"x": 0, "y": 0, "first": 0, "last": 64}), ("wave", {"x": 0, "y": 0, "first": 9, "last": 8}),
+                        ("wave", {"x": 0, "y": 0, "first": 0, "last": 101}), ("wave", {"x": 0, "y": 0, "first": 9, "last": 8}),
                         ("wave", {"x": 64, "y": 0, "first": 0, "last": 9}), ("ray", {"x": 48, "y": 0})):
         print(name, words, asked(page, name, words, text.decode()).get("trouble"))
     print("faults of the page:", page.faults())

@@ -14,21 +14,28 @@ from pxplanes.image import maps
 from pxplanes.scene import scenes
 from pxplanes.machine import sessions
 from browser import Browser
+import pages
 from pages import FIRST, PAGE, alone, called, click, go, link, pixels, text_of
 import passes_read
 
 BUILT, OPENING = os.environ["PROGRAM"], "gallery/letters.scene"
 LOT, CLOCKS, PLACES, WHITE = 55, 200, 12, [255, 255, 255]
 REGISTERS = {"enable": 6, "carry": 8, "latch": 10, "leaf": 12}
-# Of each image of the wall its name (as its caption, with the key's letter before it), its words, whether it is framed, and the colours of some places.
-WALL = """places => [...document.querySelectorAll("#planes .tile")].map(tile => {
-  const canvas = tile.querySelector("canvas"), {data} = canvas.getContext("2d").getImageData(0, 0, canvas.width, canvas.height);
-  const caption = tile.querySelector("span").textContent, key = /^key ([BT]) /.exec(tile.title);
-  return [key ? `${key[1]} ${caption}` : caption, tile.title, tile.classList.contains("changed"),
-    places.map(([x, y]) => [...data.slice(4 * (y * canvas.width + x), 4 * (y * canvas.width + x) + 3)])];
-})"""
-THUMBS = """places => [...document.querySelectorAll("#strip .thumb canvas")].map(canvas => [canvas.width, canvas.height,
-  places.map(([x, y]) => [...canvas.getContext("2d").getImageData(x, y, 1, 1).data.slice(0, 3)])])"""
+# Whether the wall is what it is if all of it is drawn again; and of each image its name (as its caption, with the key's letter before it), its words,
+# whether it is framed, and the colours of some places.
+WALL = """places => {
+  const {wall, state} = studio.machine, {sheet} = wall, pixels = new Uint32Array(state.width * state.height);
+  const parts = () => sheet.getContext("2d").getImageData(0, 0, sheet.width, sheet.height).data.join();
+  const now = parts();
+  wall.lay();
+  return [parts() === now, wall.tiles.map(({view, button}) => {
+    const caption = button.querySelector("span").textContent, key = /^key ([BT]) /.exec(button.title);
+    view.fill(state, pixels);
+    return [key ? `${key[1]} ${caption}` : caption, button.title, button.classList.contains("changed"),
+      places.map(([x, y]) => [0, 8, 16].map(by => pixels[y * state.width + x] >>> by & 255))];
+  })];
+}"""
+MADE = "document.querySelectorAll('.thumb').length && !document.querySelector('.thumb:not(.made)')"
 WATCHED = """globalThis.seen = []; addEventListener("DOMContentLoaded", () => new MutationObserver(() => {
   const {frames, shown} = document.body.dataset;
   if (frames && seen.at(-1)?.[0] !== frames) seen.push([frames, Number(shown), performance.now()]);
@@ -67,7 +74,9 @@ def walls(page, text):
     told, before, framed, wrong = held(text, clocks, places), None, 0, 0
     for clock, now in zip(clocks, told):
         go(page, clock)
-        wall = called(page, WALL, places)
+        is_whole, wall = called(page, WALL, places)
+        if not is_whole:
+            print("at %d: a part of the wall is of another clock" % clock)
         for caption, words, is_framed, shown in wall:
             if tile_is_wrong(keys, caption, words, shown, now):
                 print("at %d: %s, %s, is shown otherwise" % (clock, caption, words))
@@ -93,13 +102,17 @@ def starts_of(text):
 def timeline(page, text):
     print("-- the time line")
     keys, starts = passes.Keys(scenes.read(text)), starts_of(text)
-    page.until("document.body.dataset.thumbs === '%d of %d'" % (len(starts) - 1, len(starts) - 1))
+    page.until(MADE)
     places = [(x, y) for x in (2, 14, 22, 24, 33, 45) for y in (1, 9, 16, 30)]
-    shown = called(page, THUMBS, places)
-    for at, (now, (width, height, colours)) in enumerate(zip(held(text, starts[1:], places), shown), 1):
+    shown = called(page, pages.THUMBS, places)
+    clocks = [each[0] for each in shown]
+    for (_, width, height, colours), now in zip(shown, held(text, clocks, places)):
         if (width, height) != (48, 32) or colours != [keys.colours[keys.number(each[4], "B", "face")] for each in now]:
-            print("pass %d has another picture" % at)
-    print("a picture for each of %d passes: %s" % (len(starts) - 1, len(shown) == len(starts) - 1))
+            print("clock %d has another picture" % clocks[0])
+    print("%d pictures, each in its own part of the clocks: %s" % (len(clocks), all(
+        at * 5396 / len(clocks) < clock <= (at + 1) * 5396 / len(clocks) + 1 for at, clock in enumerate(clocks))),
+        "| those that can be are of the end of a pass:", all(clock in starts or not any(
+            at * 5396 / len(clocks) < start <= (at + 1) * 5396 / len(clocks) for start in starts) for at, clock in enumerate(clocks)))
     left, top, wide = page.run("(() => { const r = document.getElementById('line-of-passes').getBoundingClientRect(); return [r.left, r.top + 5, r.width] })()")
     page.point(left + wide * 0.3, top)
     clock = page.until("!document.getElementById('under').hidden && document.body.dataset.under")
@@ -112,7 +125,7 @@ def timeline(page, text):
     page.point(1, 1)
     print("and it goes again:", page.run("document.getElementById('under').hidden"))
     page.press("k")
-    for key, due in (("ArrowRight", starts[2]), ("ArrowRight", starts[3]), ("End", starts[-1]), ("ArrowLeft", starts[-2]), ("Home", starts[1])):
+    for key, due in (("ArrowRight", clocks[1]), ("ArrowRight", clocks[2]), ("End", clocks[-1]), ("ArrowLeft", clocks[-2]), ("Home", clocks[0])):
         page.press(key)
         page.until("document.body.dataset.shown === '%d'" % due)
     print("by keys: five pictures, five clocks")
@@ -177,8 +190,8 @@ def sight(page):
           [clock for _, clock, _ in seen] == sorted(starts)[sorted(starts).index(seen[0][1]):][:len(seen)])
     most = max(sum(1 for _, _, other in seen if 0 <= other - time < 1000) for _, _, time in seen)
     print("more than three in a second:", most > 3)
-    clocks = page.run("[...document.querySelectorAll('.thumb')].map(each => Number(each.getAttribute('aria-label').split('clock ')[1]))")
-    print("forty pictures of its passes, the last at the end:", len(clocks), set(clocks) <= starts and len(set(clocks)) == 40, max(clocks) == max(starts))
+    clocks = page.run("[...document.querySelectorAll('.thumb')].map(each => parseInt(each.getAttribute('aria-label').slice(6)))")
+    print("forty pictures, the last at the end:", len(clocks), len(set(clocks)) == 40, max(clocks) == max(starts))
     print("half empty:", half_empty(page))
     page.press("b")
     page.until("play.textContent === 'play'")

@@ -1,6 +1,6 @@
 //! Answers texts by the crates as the program does: of each FILE the maps, the colours and the products, or the note.
 use pxplanes::{Error, State};
-use pxplanes_sys::{Found, Moment, Operation};
+use pxplanes_sys::{Face, Found, Moment, Operation};
 use std::fs;
 use std::io::{stdin, BufRead};
 use std::mem::{offset_of, size_of};
@@ -16,6 +16,7 @@ macro_rules! layout {
 fn print_layouts() {
     layout!("pxplanes_found", Found, width height faces line cause kind number operations clocks room);
     layout!("pxplanes_moment", Moment, grid_width grid_height words_per_row bits levels clock clocks operation operation_clock next_micro);
+    layout!("pxplanes_numbered_face", Face, solid kind plane line red green blue);
     layout!("pxplanes_operation", Operation, clock pass literal kind numbers_count role solid face other);
 }
 
@@ -96,6 +97,40 @@ fn key_agrees(text: &[u8], depth_from: u32, depth_bits: u32) -> pxplanes::Result
     Ok(pixels.into_iter().all(|(x, y)| picture.at(x, y).map(|(found, _)| found) == Some(depth(x, y))))
 }
 
+/// Windows of a picture have its pixels, by one and by eight; and none is past the widest.
+fn windows_agree(text: &[u8]) -> pxplanes::Result<bool> {
+    let picture = pxplanes::render(text)?;
+    let is_part = |x, y, width, height| {
+        let part = pxplanes::window(text, x, y, width, height)?;
+        let pixels = (0..height).flat_map(|j| (0..width).map(move |i| (i, j)));
+        Ok(pixels.into_iter().all(|(i, j)| part.at(i, j) == picture.at(x + i, y + j)))
+    };
+    let past = pxplanes::window(text, 4095, 0, 2, 1) == Err(Error::NoWindow) && pxplanes::window(text, 0, 0, 513, 0) == Err(Error::NoWindow);
+    Ok(past && is_part(23, 16, 1, 1)? && is_part(20, 9, 8, 8)? && is_part(0, 31, 48, 1)?)
+}
+
+/// Two rows of two pixels in rows of another length, from the top and from the bottom.
+fn placed() -> (Vec<u8>, Vec<f32>) {
+    let (mut bytes, mut floats) = (vec![99; 17], vec![99.0; 5]);
+    pxplanes::place(&[1, 2, 3, 4, 5, 6, 7, 8, 9, 10, 11, 12], 2, &mut bytes, 9, true, |&[r, g, b]: &[u8; 3]| [r, g, b, 255]);
+    pxplanes::place(&[1, 2, 3, (1 << 24) - 1], 2, &mut floats, 3, false, |&[depth]: &[u32; 1]| [depth as f32]);
+    (bytes, floats)
+}
+
+/// The pages that the process has in memory.
+fn pages() -> u64 {
+    let text = fs::read_to_string("/proc/self/statm").unwrap();
+    text.split(' ').nth(1).unwrap().parse().unwrap()
+}
+
+/// Whether 100,000 renders leave the process as large as it was.
+fn is_flat() -> bool {
+    let small = "pxscene 1\npicture 8 4\ndepth 4\nsolid ramp 200 100 50\nfront 1 0 0\nback 0 0 9\nshow ramp\nend\n";
+    let render = |count| (0..count).all(|_| pxplanes::render(small).is_ok());
+    let (first, before) = (render(100), pages());
+    first && render(100_000) && pages() < before + 256
+}
+
 /// The words of commands, of which the last name none.
 const RUN: [&str; 6] = ["tidy", "list", "refine 2", "tile 70 50", "play", "tidy up"];
 
@@ -123,5 +158,8 @@ fn main() {
     let text = fs::read("docs/scenes/first.scene").unwrap();
     println!("keys: {:?}, {:?}", key_agrees(&text, 4, 9), pxplanes::render(&text).map(|picture| picture.at(24, 16)));
     println!("outside: {:?}", pxplanes::render(&text).map(|picture| (picture.at(48, 0), picture.at(0, 32))));
+    println!("face: {:?}, {:?}", pxplanes::face(&text, 3), pxplanes::face(&text, 11));
+    println!("windows: {:?}, {:?}", windows_agree(&text), placed());
+    println!("flat: {}", is_flat());
     println!("version {}", pxplanes::version());
 }

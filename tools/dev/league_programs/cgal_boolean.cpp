@@ -49,7 +49,6 @@ std::string made(std::istream &&words) {
 }
 
 int main() {
-  std::cout << "answer" << std::endl;
   for (std::string line; std::getline(std::cin, line);) {
     std::string why;
     try {

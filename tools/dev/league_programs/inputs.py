@@ -2,7 +2,7 @@
 
 An input is a line of standard input, its words between tabs: OUT.off WORD ..   (a postfix expression: OFF files, and
 + - * for union, difference, intersection). A line of standard output answers it: `answer`, and why nothing is made;
-alone where OUT.off is written, and once where the program is ready."""
+alone where OUT.off is written."""
 import sys
 import traceback
 
@@ -40,7 +40,6 @@ def folded(words, leaf, join):
 
 def answer_all(made):
     """Answers each input by what `made` does with its words."""
-    print("answer", flush=True)
     for line in sys.stdin:
         out, *words = line.rstrip("\n").split("\t")
         try:

@@ -1,7 +1,5 @@
 use Rattle.px_num.proofs.Basics.{◌+◌, ◌*◌, ◌∙◌, arith, common_steps, subst}
 use Rattle.px_model.specs.Scenes.{colour_in_scene}
-use Rattle.px_face.proofs.BackgroundLemmas.{shows_faces}
-use Rattle.px_face.proofs.SurfaceLemmas.{scene_surface}
 use Rattle.px_frame.proofs.RowLaws.{other_row}
 use Rattle.px_frame.specs.Picture.{colour_at}
 use Rattle.px_c.specs.Buffers.{HasColour}
@@ -13,15 +11,6 @@ enter_row-requires-clause-numbers g c =
     rw (c.width.ensures.value) (rows_stored _ c.args.scene.now _ _ c.laws_of_scenes.ensures.scene c.requires.drawn
     (grind (arith, common_steps)) (grind (arith, common_steps)) (grind (arith, common_steps)) c.loop-y.y
     (omega (arith, c.loop-y-test.true, c.height-y-end.ensures.value)))
-
-pub write_coloured_row-requires-clause-faces : goal.write_coloured_row-requires-clause-faces
-write_coloured_row-requires-clause-faces g c x left =
-    let scene = c.args.scene.now in
-    let lawful = c.laws_of_scenes.ensures.scene in
-    let held = rw (c.width.ensures.value, c.b_number-faces.ensures.field, c.requires.layout) at c.enter_row.ensures in
-    let shown = face_in_strip _ scene _ _ x c.loop-y.y lawful c.requires.drawn held left
-    (omega (arith, c.loop-y-test.true, c.height-y-end.ensures.value)) in
-    omega (arith, shown, shows_faces scene_surface scene lawful x c.loop-y.y)
 
 pub loop-y-preserved : goal.loop-y-preserved
 loop-y-preserved g c =

@@ -1,5 +1,5 @@
 use Rattle.px_num.proofs.Basics.{Some, ap}
-use Rattle.px_io.specs.Told.{SinkState}
+use Rattle.px_io.specs.Reports.{SinkState}
 use Rattle.px_c.proofs.RunLemmas.{comes_whole}
 use Rattle.px_c.proofs.run.output_on.Goals as goal
 

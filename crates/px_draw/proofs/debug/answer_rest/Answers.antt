@@ -1,4 +1,4 @@
-use Rattle.px_num.proofs.Basics.{◌≡◌, ◌-◌, arith, length}
+use Rattle.px_num.proofs.Basics.{◌-◌, arith, length}
 use Rattle.px_draw.proofs.debug.answer_rest.Goals as goal
 
 pub returns-in-None-clause-sits : goal.returns-in-None-clause-sits
@@ -9,8 +9,3 @@ returns-in-None-clause-sits g c =
     (g.A.Array.view c.args.array.now).work (g.S.Asks.asks c.args.input.now) (g.S.Source.rest c.args.input.now)
     (g.S.Source.faults c.args.input.now) none.1 (omega (arith, c.requires.short c.in-None.is)) in
     rw none.0 (record { serves = s.0; idle = λ is. (s.1, s.2, none.1, c.finish_unasked.ensures.told) })
-
-pub returns-in-Some-clause-sits : goal.returns-in-Some-clause-sits
-returns-in-Some-clause-sits g c =
-    let left : 1048577 - c.len.result ≡ 1048577 - length c.args.opening.now.text.items = omega (arith, c.len.ensures) in
-    record { serves = rw left at c.serve.ensures.serves; idle = λ none. absurd (cc (c.in-Some.is, none)) }

@@ -39,11 +39,6 @@ pub returns-clause-took : goal.returns-clause-took
 returns-clause-took g c =
     took_sat _ _ c.in_ok-opening.opening _ _ _ _ c.in_ok-opening.ensures.opens c.answer_rest.ensures.sits
 
-pub returns-clause-causes : goal.returns-clause-causes
-returns-clause-causes g c =
-    let serves = c.answer_rest.ensures.sits.serves in
-    c.result_of.ensures.causes _ _ _ _ (rw c.in_ok-opening.ensures.calm at serves.cause) serves.out_cause
-
 pub returns-clause-in_time : goal.returns-clause-in_time
 returns-clause-in_time g c =
     let opens = c.in_ok-opening.ensures.opens in

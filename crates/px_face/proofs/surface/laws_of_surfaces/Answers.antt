@@ -10,8 +10,8 @@ returns-clause-solids c = solid_surface
 pub returns-clause-scenes : goal.returns-clause-scenes
 returns-clause-scenes c = scene_surface
 
-pub returns-clause-behind : goal.returns-clause-behind
-returns-clause-behind c = none_behind member_of_cell
+pub returns-clause-past : goal.returns-clause-past
+returns-clause-past c = none_behind member_of_cell
 
 pub returns-clause-first : goal.returns-clause-first
 returns-clause-first c = first_cells

@@ -1,5 +1,5 @@
 use Rattle.px_num.proofs.Basics.{◌≡◌, take}
-use Rattle.px_io.specs.Told.{TakesAll}
+use Rattle.px_io.specs.Reports.{TakesAll}
 use Rattle.px_frame.specs.Images.{images}
 use Rattle.px_frame.proofs.drawing.write_images.Given as goal
 

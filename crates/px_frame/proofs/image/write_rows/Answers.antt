@@ -1,50 +1,10 @@
-use Rattle.px_num.proofs.Basics.{◌≡◌, ◌+◌, ◌*◌, ◌^◌, ◌<◌, ◌∙◌, ap, arith, pow_pos}
-use Rattle.px_frame.proofs.Words.{doublings_of, front_before, header, on_err, row_of_pixels, shown_pixel, side_shown}
+use Rattle.px_num.proofs.Basics.{◌≡◌, ◌+◌, ◌*◌, ◌^◌, ◌<◌, ◌∙◌, ap, arith}
+use Rattle.px_frame.proofs.Words.{doublings_of, header, on_err, row_of_pixels, shown_pixel, side_shown}
 use Rattle.px_frame.proofs.Words.{stored_number}
 use Rattle.px_frame.proofs.MeanLemmas.{next_in_strip}
 use Rattle.px_frame.proofs.RowLaws.{other_row, rows_broken, rows_grown}
-use Rattle.px_frame.proofs.ShownLemmas.{block_shown, few_doublings, row_shown, sides_shown}
+use Rattle.px_frame.proofs.ShownLemmas.{few_doublings, row_shown}
 use Rattle.px_frame.proofs.image.write_rows.Goals as goal
-
-pub returns-in_err-write_whole-clause-err : goal.returns-in_err-write_whole-clause-err
-returns-in_err-write_whole-clause-err g c = grind (arith, on_err, front_before)
-
-pub enter_row-requires : goal.enter_row-requires
-enter_row-requires g c =
-    let plane = c.args.plane in
-    let height = c.args.scene.now.height in
-    let below : c.loop-y.y < side_shown plane height =
-    rw (c.side_shown-height.ensures, c.height.ensures.value) at c.loop-y-test.true in
-    let high = block_shown plane c.loop-y.y height below in
-    record {
-      numbers = record {
-        is_open = c.requires.open;
-        columns = rw c.width-in-loop-y.ensures.value c.requires.columns;
-        wide = rw c.width-in-loop-y.ensures.value c.width-in-loop-y.ensures.lawful.sizes.width_limit;
-        row = rw c.across_of-across.ensures.value (omega (arith, high, pow_pos (doublings_of plane), c.requires.rows));
-        room = c.requires.room;
-        low = c.requires.low;
-        few = c.requires.few;
-      };
-      before = rw c.width-in-loop-y.ensures.value c.loop-y.invariant.strip;
-    }
-
-pub row_bytes-row-requires : goal.row_bytes-row-requires
-row_bytes-row-requires g c =
-    let scene = c.args.scene.now in
-    let plane = c.args.plane in
-    let below : c.loop-y.y < side_shown plane scene.height =
-    rw (c.side_shown-height.ensures, c.height.ensures.value) at c.loop-y-test.true in
-    let held = rw (c.width-in-loop-y.ensures.value, c.across_of-across.ensures.value) at c.enter_row.ensures in
-    let sizes = c.width-in-loop-y.ensures.lawful.sizes in
-    record {
-      across = rw (c.side_shown-width.ensures, c.width.ensures.value) (sides_shown plane scene.width);
-      holds = record {
-        fits = record { wide = sizes.width_limit; most = sizes.height_limit; columns = held.long };
-        high = block_shown plane c.loop-y.y scene.height below;
-        small = held.small;
-      };
-    }
 
 pub returns-in_err-write_whole-2-clause-err : goal.returns-in_err-write_whole-2-clause-err
 returns-in_err-write_whole-2-clause-err g c =
@@ -86,10 +46,3 @@ loop-y-preserved g c =
           (next_in_strip (doublings_of plane) y (few_doublings plane) further) held);
       calm = grind (arith, c.loop-y.invariant.calm, c.in_ok-write_whole-2.ensures.cause.calm);
     }
-
-pub returns-clause-ok : goal.returns-clause-ok
-returns-clause-ok g c =
-    let wide = c.side_shown-width.ensures ∙ ap (side_shown c.args.plane) c.width.ensures.value in
-    let high = c.side_shown-height.ensures ∙ ap (side_shown c.args.plane) c.height.ensures.value in
-    let all : c.loop-y.y ≡ c.side_shown-height.result = omega (arith, c.loop-y-test.false, c.loop-y.auto.y-end) in
-    rw (all, wide, high) at c.loop-y.invariant.front

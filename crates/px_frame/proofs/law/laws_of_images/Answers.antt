@@ -1,5 +1,5 @@
-use Rattle.px_frame.proofs.ImageLemmas.{images_show}
+use Rattle.px_frame.proofs.ImageLemmas.{faces_stored, images_show}
 use Rattle.px_frame.proofs.law.laws_of_images.Goals as goal
 
 pub returns : goal.returns
-returns c = images_show
+returns c = record { images = images_show; faces = faces_stored }

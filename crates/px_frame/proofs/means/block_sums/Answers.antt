@@ -2,8 +2,5 @@ use Rattle.px_num.proofs.Basics.{arith}
 use Rattle.px_frame.proofs.MeanSumLaws.{block_more, most_together}
 use Rattle.px_frame.proofs.means.block_sums.Goals as goal
 
-pub overflow_add-top : goal.overflow_add-top
-overflow_add-top c = omega (arith, c.requires.down, c.requires.strip.most)
-
 pub loop-j-preserved : goal.loop-j-preserved
 loop-j-preserved c = grind (arith, block_more, most_together)

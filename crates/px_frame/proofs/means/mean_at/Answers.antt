@@ -1,12 +1,6 @@
-use Rattle.px_num.proofs.Basics.{◌*◌, ap, ◌∙◌, arith}
+use Rattle.px_num.proofs.Basics.{◌*◌, ap, ◌∙◌}
 use Rattle.px_frame.specs.MeanSums.{block_sums, mean_of, strip_colour}
 use Rattle.px_frame.proofs.means.mean_at.Goals as goal
-
-pub overflow_mul-across : goal.overflow_mul-across
-overflow_mul-across c = rw c.parts-across.ensures.value (omega (arith, c.requires.across, c.requires.strip.wide))
-
-pub overflow_mul-across-2 : goal.overflow_mul-across-2
-overflow_mul-across-2 c = rw c.parts-across.ensures.value (omega (arith, c.requires.down, c.requires.strip.most))
 
 pub returns : goal.returns
 returns c =

@@ -1,5 +1,5 @@
 use Rattle.px_num.proofs.Basics.{length, ◌-◌, ◌≡◌, ◌≤◌, take, Appends}
-use Rattle.px_io.specs.Told.{Reopens}
+use Rattle.px_io.specs.Reports.{Reopens}
 use Rattle.px_io.proofs.writing.write_whole.Given as goal
 
 abbrev pub invariant-loop-at : goal.invariant-loop-at

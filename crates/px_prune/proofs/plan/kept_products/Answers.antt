@@ -1,10 +1,9 @@
 use Rattle.px_num.proofs.Basics.{rules, sym, ◌∙◌, None, slice_index_or, YieldsList-at, YieldsList-end}
 use Rattle.px_num.proofs.Basics.{YieldsList-from_filter_map}
-use Rattle.px_prune.proofs.Words.{boxes_in, pruned}
+use Rattle.px_prune.proofs.Words.{pruned}
 use Rattle.std.proofs.Common.{tests}
 use Rattle.std.proofs.lemmas.Iterator.{YieldsList-from_slice}
 use Rattle.std.proofs.lemmas.List.{map-id}
-use Rattle.px_prune.proofs.PruningLemmas.{kept_fewer}
 use Rattle.px_prune.proofs.plan.kept_products.Goals as goal
 
 pub returns-clause-kept : goal.returns-clause-kept
@@ -16,6 +15,3 @@ returns-clause-kept c =
     (YieldsList-from_slice c.args.products.now (cc))
     c.filter_map-product-items.ensures.closure (λ x r q k. search (rules, tests))))
     c.loop-product.yielded _ c.loop-product.yielded_by _ _ c.in-None.is c.next.ensures.steps).0
-
-pub returns-clause-fewer : goal.returns-clause-fewer
-returns-clause-fewer c = kept_fewer (boxes_in c.args.boxes.now) c.args.products.now _ (returns-clause-kept c)

@@ -1,4 +1,4 @@
-use Rattle.px_num.proofs.Basics.{◌+◌, subst, sym, ◌∙◌, arith, inl, inr, common_steps}
+use Rattle.px_num.proofs.Basics.{◌+◌, subst, sym, ◌∙◌, arith, inl, inr}
 use Rattle.px_array.specs.Clocks.{after_clock}
 use Rattle.px_array.specs.declared.micro.TreeOp.TheVariants.{Hold, Clear, Feed}
 use Rattle.px_tree.specs.Nodes.{after_feed, cleared}
@@ -73,9 +73,3 @@ returns-in-Feed-clause-clocked c = λ s held.
     (written_leaves shape tree c.requires.shape grid.columns grid.rows moved new nodes
     c.write_leaves-in-Feed.ensures.leaves)
     (kept_nodes shape tree moved new (λ j past. c.write_leaves-in-Feed.ensures.others j (inr past)) nodes))
-
-pub returns-in-Clear-clause-behind : goal.returns-in-Clear-clause-behind
-returns-in-Clear-clause-behind c = grind (arith, common_steps)
-
-pub returns-in-Feed-clause-behind : goal.returns-in-Feed-clause-behind
-returns-in-Feed-clause-behind c = grind (arith, common_steps)

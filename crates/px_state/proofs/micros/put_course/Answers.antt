@@ -1,29 +1,9 @@
-use Rattle.px_num.proofs.Basics.{◌≡◌, Some, refl, sym, ◌∙◌, arith, slice_get, common_steps}
-use Rattle.px_sched.proofs.LawfulLaws.{lawful_here}
+use Rattle.px_num.proofs.Basics.{◌≡◌, Some, sym, ◌∙◌, arith, slice_get}
 use Rattle.px_control.proofs.StepLemmas.{start_within}
-use Rattle.px_state.specs.Courses.{start_in_listing, total_of_listing}
-use Rattle.px_state.proofs.CourseLemmas.{begins, begins_all}
+use Rattle.px_state.proofs.CourseLemmas.{begins}
 use Rattle.px_state.specs.Inputs.{given_by, listing_in}
 use Rattle.px_state.proofs.PutLemmas.{put_next}
 use Rattle.px_state.proofs.micros.put_course.Goals as goal
-
-pub overflow_add-end : goal.overflow_add-end
-overflow_add-end c = omega (arith, c.requires.within, c.grid-nx.ensures.good.clocks)
-
-pub put_micros-start-requires-clause-lawful : goal.put_micros-start-requires-clause-lawful
-put_micros-start-requires-clause-lawful c =
-    let l = listing_in c.args.course.now in
-    let k = given_by c.args.course.now c.loop-m.mark in
-    let here : slice_get l.macros k ≡ Some c.in-Some.m = sym c.next_macro.ensures.operation ∙ c.in-Some.is in
-    lawful_here 256 l.macros k c.in-Some.m here c.grid-nx.ensures.good.lawful
-
-pub put_micros-start-requires-clause-grid : goal.put_micros-start-requires-clause-grid
-put_micros-start-requires-clause-grid c =
-    rw (c.grid-nx.ensures.columns, c.grid-nx.ensures.rows) c.grid-nx.ensures.good.grid
-
-pub put_micros-start-requires-clause-first : goal.put_micros-start-requires-clause-first
-put_micros-start-requires-clause-first c =
-    omega (arith, c.requires.within, c.grid-nx.ensures.good.clocks, c.loop-m.invariant.same)
 
 pub put_micros-start-requires-clause-start : goal.put_micros-start-requires-clause-start
 put_micros-start-requires-clause-start c =
@@ -65,25 +45,3 @@ loop-m-preserved c =
           (rw (c.grid-nx.ensures.columns, c.grid-nx.ensures.rows) at made.put) made.kept;
       same = made.length ∙ before.same;
     }
-
-pub returns-clause-micros : goal.returns-clause-micros
-returns-clause-micros c j within =
-    let l = listing_in c.args.course.now in
-    let k = given_by c.args.course.now c.loop-m.mark in
-    let before = c.loop-m.invariant in
-    let all : start_in_listing l k ≡ total_of_listing l =
-    begins_all l k (omega (arith, c.in_default.ensures.end)) in
-    before.put j within (omega (arith, within, before.same, before.start, all, c.requires.within))
-
-pub loop-m-init : goal.loop-m-init
-loop-m-init c =
-    let given = c.start-mark.ensures.given in
-    record {
-      stands = c.start-mark.ensures.stands;
-      start = rw given refl;
-      put = λ j within low. absurd (omega (arith, low));
-      same = refl;
-    }
-
-pub loop-m-smaller : goal.loop-m-smaller
-loop-m-smaller c = grind (arith, common_steps)

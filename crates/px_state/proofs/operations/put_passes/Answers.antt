@@ -1,4 +1,4 @@
-use Rattle.px_num.proofs.Basics.{◌≡◌, Some, sym, ◌∙◌, arith, slice_get, slice_get_within, common_steps, rules}
+use Rattle.px_num.proofs.Basics.{◌≡◌, Some, sym, ◌∙◌, arith, slice_get, slice_get_within}
 use Rattle.px_sched.specs.declared.step.Step.TheVariants.{Start}
 use Rattle.px_sched.specs.Passes.{steps}
 use Rattle.px_state.specs.Operations.{IsPassed}
@@ -20,21 +20,3 @@ returns-clause-operations c =
     let all = before_all scene given (no_more (steps scene) given Start c.in_default.ensures.step) in
     all_put (IsPassed scene) c.args.first c.loop-step.begin.0 c.loop-step.list
     (omega (arith, c.requires.within, before.same, before.operation, all)) before.put
-
-pub loop-step-preserved : goal.loop-step-preserved
-loop-step-preserved c = grind (arith, common_steps)
-
-pub put_step-begin-requires : goal.put_step-begin-requires
-put_step-begin-requires c = record {
-  layout = c.requires.layout;
-  good = c.requires.good;
-  faces = grind (arith, common_steps);
-  here = search rules;
-  purpose = grind (arith, common_steps);
-  operation = search rules;
-  clock = grind (arith, common_steps);
-  put = grind (arith, common_steps);
-}
-
-pub returns-then-end-begin-clause-operations : goal.returns-then-end-begin-clause-operations
-returns-then-end-begin-clause-operations c = search rules

@@ -1,5 +1,5 @@
 use Rattle.px_num.proofs.Basics.{◌≡◌, ◌-◌, length}
-use Rattle.px_playing.specs.PassesText.{passes_listing}
+use Rattle.px_listing.specs.PassesText.{passes_listing}
 use Rattle.px_sched.specs.Passes.{steps}
 use Rattle.px_sched.specs.StepCursors.{StandsAtStep}
 use Rattle.px_state.specs.Courses.{start_in_listing}

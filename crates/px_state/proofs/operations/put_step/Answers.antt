@@ -1,9 +1,8 @@
-use Rattle.std.proofs.lemmas.Grind.{moves}
 use Rattle.px_num.proofs.Basics.{◌≡◌, ◌+◌, ◌<◌, length, refl, sym, subst, ap, ◌∙◌, arith}
 use Rattle.px_asm.specs.Micros.{cycles}
 use Rattle.px_control.proofs.StepLemmas.{start_within}
 use Rattle.px_macro.proofs.MacroLemmas.{is_lawful_in_more}
-use Rattle.px_playing.specs.PassesText.{passes_listing}
+use Rattle.px_listing.specs.PassesText.{passes_listing}
 use Rattle.px_sched.specs.Layouts.{layout_of}
 use Rattle.px_sched.specs.Passes.{operations}
 use Rattle.px_state.specs.Courses.{start_in_listing}
@@ -114,6 +113,3 @@ returns-clause-operation c =
       c.requires.operation,
       before_more c.args.scene.now c.args.purpose.now.pass c.args.step c.requires.here,
     )
-
-pub loop-at-init : goal.loop-at-init
-loop-at-init c = grind (arith, moves)

@@ -1,5 +1,5 @@
 use Rattle.px_num.proofs.Basics.{◌≡◌, ◌+◌, length}
-use Rattle.px_playing.specs.PassesText.{passes_listing}
+use Rattle.px_listing.specs.PassesText.{passes_listing}
 use Rattle.px_state.specs.Courses.{start_in_listing}
 use Rattle.px_state.specs.Operations.{IsPassed}
 use Rattle.px_state.specs.Putting.{IsPutTo}

@@ -1,5 +1,5 @@
 use Rattle.px_num.proofs.Basics.{◌≡◌, ◌≤◌, ◌-◌, length, take}
-use Rattle.px_io.specs.Told.{TakesAll}
+use Rattle.px_io.specs.Reports.{TakesAll}
 use Rattle.px_tile.specs.Parts.{bytes_of}
 use Rattle.px_tile.proofs.image.write_pixels.Given as goal
 

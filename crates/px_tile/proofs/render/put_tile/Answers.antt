@@ -1,10 +1,7 @@
 use Rattle.px_num.proofs.Basics.{◌+◌, arith, refl}
 use Rattle.px_frame.proofs.RowLaws.{other_row}
-use Rattle.px_tile.proofs.FoundLemmas.{rows_more, sights_held}
+use Rattle.px_tile.proofs.FoundLemmas.{rows_more}
 use Rattle.px_tile.proofs.render.put_tile.Goals as goal
-
-pub put_row-requires-clause-sights : goal.put_row-requires-clause-sights
-put_row-requires-clause-sights g c = grind (arith, sights_held)
 
 pub loop-y-preserved : goal.loop-y-preserved
 loop-y-preserved g c =

@@ -2,11 +2,5 @@ use Rattle.px_num.proofs.Basics.{arith}
 use Rattle.px_debug.proofs.TraceLemmas.{none_before}
 use Rattle.px_debug.proofs.course.Course.back.Goals as goal
 
-pub forward-requires-clause-within : goal.forward-requires-clause-within
-forward-requires-clause-within g c = grind arith
-
 pub forward-requires-clause-trace : goal.forward-requires-clause-trace
 forward-requires-clause-trace g c = grind (arith, none_before)
-
-pub returns-clause-work : goal.returns-clause-work
-returns-clause-work g c = grind arith

@@ -27,6 +27,3 @@ returns-then-is_due-clause-course g c =
           (g.A.Array.view c.args.array.now).slots
           course.keeps (omega (arith, due.0, c.save.ensures.four)) here);
     }
-
-pub returns-else-is_due-clause-course : goal.returns-else-is_due-clause-course
-returns-else-is_due-clause-course g c = grind arith

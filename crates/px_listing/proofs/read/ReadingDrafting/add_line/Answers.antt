@@ -1,16 +1,6 @@
-use Rattle.px_num.proofs.Basics.{arith}
 use Rattle.px_listing.proofs.Words.{listing_view_of, now_of}
-use Rattle.px_listing.proofs.ReadLemmas.{read_next, told}
+use Rattle.px_listing.proofs.ReadLemmas.{read_next}
 use Rattle.px_listing.proofs.read.ReadingDrafting.add_line.Goals as goal
-
-pub add_words-requires : goal.add_words-requires
-add_words-requires c = record { bits = c.requires.1.0 }
-
-pub returns-clause-bad : goal.returns-clause-bad
-returns-clause-bad c before so f is = grind (arith, told)
-
-pub returns-clause-good : goal.returns-clause-good
-returns-clause-good c before so = grind (arith, told)
 
 pub returns-clause-says : goal.returns-clause-says
 returns-clause-says c before so =

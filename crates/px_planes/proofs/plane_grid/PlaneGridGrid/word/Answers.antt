@@ -3,9 +3,6 @@ use Rattle.px_planes.proofs.Words.{nat_bit, row_bit}
 use Rattle.px_planes.proofs.GridLemmas.{row_law}
 use Rattle.px_planes.proofs.plane_grid.PlaneGridGrid.word.Goals as goal
 
-pub word-requires : goal.word-requires
-word-requires g c = grind (arith, get_or_default)
-
 pub returns : goal.returns
 returns g c = λ i within.
     let planes = c.self.inside.planes in

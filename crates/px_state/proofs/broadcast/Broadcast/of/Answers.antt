@@ -1,5 +1,5 @@
 use Rattle.px_num.proofs.Basics.{◌≤◌, subst, sym, ap, ◌∙◌}
-use Rattle.px_playing.specs.PassesText.{passes_listing}
+use Rattle.px_listing.specs.PassesText.{passes_listing}
 use Rattle.px_sched.specs.Layouts.{layout_of, need_of}
 use Rattle.px_state.specs.Inputs.{IsReadAs}
 use Rattle.px_state.specs.Operations.{IsOfListing, IsPassed}

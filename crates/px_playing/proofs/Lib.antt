@@ -1,5 +1,0 @@
-pub mod MemoryLemmas
-pub mod PaddingLemmas
-pub mod PassesLemmas
-pub mod PlayLemmas
-pub mod Words

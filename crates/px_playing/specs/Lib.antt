@@ -1,4 +1,0 @@
-pub mod Laws
-pub mod Memories
-pub mod PassesText
-pub mod Played

@@ -1,2 +1,0 @@
-pub mod FeedingLemmas
-pub mod TurningLemmas

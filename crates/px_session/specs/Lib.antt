@@ -1,9 +1,0 @@
-pub use Rattle.px_debug.specs.Moves
-pub use Rattle.px_asked.specs.Lines
-pub mod Buffers
-pub mod Catching
-pub mod Servings
-pub mod SessionLaws
-pub mod Sessions
-pub mod Turns
-pub mod Prompts

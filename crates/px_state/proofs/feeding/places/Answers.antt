@@ -1,5 +1,0 @@
-use Rattle.px_num.proofs.Basics.{arith, common_steps}
-use Rattle.px_state.proofs.feeding.places.Goals as goal
-
-pub returns : goal.returns
-returns c = grind (arith, common_steps)

@@ -1,0 +1,62 @@
+// What is shown of the pixel under the pointer: its bits, its circuit, its way through the tree, a waveform of the operation under way, or its whole life.
+import {ask, latest} from "./ask.js";
+import {circuitOf} from "./circuit.js";
+import {formOf} from "./passes.js";
+import {pixelOf, usedBits} from "./pixel.js";
+import {choice} from "./rove.js";
+import {at, made} from "./show.js";
+import {waveform} from "./wave.js";
+import {wayOf} from "./way.js";
+
+const GAP = 4, PARTS = ["bits", "circuit", "way", "waveform", "life"];
+
+export class Inside {
+  // `machine` has the state, the course and the fields.
+  constructor(machine) {
+    Object.assign(this, {machine, part: "bits", waves: {}});
+    this.fetchWave = latest((x, y) => this.takeWave(x, y).catch(machine.tell));
+    this.mark = choice(at("inside-parts"), "inside", PARTS, part => this.choose(part));
+    this.choose("bits");
+  }
+
+  choose(part) {
+    this.part = part;
+    at("machine").dataset.inside = part;
+    this.mark(part);
+    at("life-part").hidden = part !== "life";
+    at("inside").hidden = part === "life";
+    this.machine.wall?.fit();
+    this.show();
+  }
+
+  show() {
+    const {machine: {state, pixel, before, fields, course, player}, part} = this, isIn = pixel && state && pixel[0] < state.width && pixel[1] < state.height;
+    if (!state || at("machine").hidden) return;
+    at("pixel-name").textContent = isIn ? pixel.join(", ") : "";
+    if (!isIn) return at("inside").replaceChildren(made("p", "quiet", "Point at a pixel of the array, or click one to keep it."));
+    const found = formOf(course?.operations[state.operation]?.[1] ?? ""), room = at("inside").clientWidth - GAP, used = usedBits(state, fields), high = at("inside").parentElement.clientHeight - at("inside").offsetTop + at("inside").parentElement.offsetTop;
+    const circuit = height => [circuitOf(state.next, state.pixel(...pixel), used, [room, height])];
+    // (a wide page has room for the circuit below the bits)
+    const shown = {bits: () => [...pixelOf(state, before, fields, ...pixel), ...matchMedia("(min-width: 100rem)").matches ? circuit(0) : []], circuit: () => circuit(high - GAP),
+      way: () => [wayOf(state, found?.form ?? null, found?.bits, pixel)], life: () => []};
+    // (a waveform is asked for where nobody waits for the next state)
+    if (part === "waveform") return player.isPlaying || this.fetchWave(...pixel);
+    at("inside").replaceChildren(...shown[part]());
+    document.body.dataset.inside = `${pixel.join(" ")} ${state.clock}`;
+  }
+
+  // The clocks of the operation under way, or of the last one.
+  async takeWave(x, y) {
+    const {machine} = this, {text, state, course} = machine;
+    if (!machine.isShown || !course.operations.length) return;
+    const operation = Math.min(state.operation, course.operations.length - 1), key = `${operation} ${x} ${y}`;
+    if (this.waves.text !== text || this.waves.key !== key) {
+      const head = await ask("wave", {x, y, first: course.startOf(operation), last: course.startOf(operation + 1)}, text);
+      if (head.trouble || head.refused || text !== machine.text || !machine.pixel) return;
+      this.waves = {text, key, head};
+    }
+    if (this.part !== "waveform" || !machine.isShown) return;
+    at("inside").replaceChildren(waveform(this.waves.head, at("inside").clientWidth - GAP, machine.bitsOfWave(), machine.state.clock, clock => machine.go(clock)));
+    document.body.dataset.inside = `${x} ${y} ${machine.state.clock}`;
+  }
+}
