@@ -314,7 +314,7 @@ def wrong_causes():
     """The words of causes and limits in the tables, as the program prints them."""
     of = lambda table, cell: [word for row in table for word in SPAN.findall(row[cell])]
     listed = [row[0].strip("`").lower() for row in rows("docs/LISTINGS.md", "Limits")]
-    limits_told = of(rows(SCENES, "Limits")[:-4], 2)
+    limits_told = of(rows(SCENES, "Limits"), 2)
     yield from difference(SCENES + ", Causes", of(rows(SCENES, "Causes"), 0) + ["missing-end"], words_of("cause_word"))
     yield from difference(SCENES + ", Limits", limits_told, words_of("scene_word"))
     yield from difference("docs/LISTINGS.md, Limits", listed, words_of("list_word"))
