@@ -1,5 +1,5 @@
 /*
- * pxplanes.hpp: the calls of pxplanes.h from C++17 on. What each of them does is told there.
+ * pxplanes.hpp: the calls of pxplanes.h from C++17 on. pxplanes.h says what each of them does.
  *
  *     #include <iostream>
  *     #include <pxplanes.hpp>
@@ -293,7 +293,7 @@ inline colours colour(std::string_view text)
     return drawn;
 }
 
-/* Writes the products that are drawn to a buffer of the caller's, a 0 behind each: pxplanes_products. */
+/* Writes the products that are drawn to a buffer of the caller's, a 0 after each: pxplanes_products. */
 inline void products(std::string_view text, std::int32_t *literals, std::size_t literals_size)
 {
     pxplanes_found found{};
@@ -432,7 +432,7 @@ inline void clocks(std::uint64_t *words, std::size_t words_size, std::uint32_t g
     detail::need(pxplanes_clocks(words, words_size, grid_width, grid_height, packed, packed_size, &found), found);
 }
 
-/* The planes of a state that lie behind its memory bits. */
+/* The planes of a state that come after its memory bits. */
 constexpr std::size_t enable = PXPLANES_BITS;
 constexpr std::size_t carry = PXPLANES_BITS + 1;
 constexpr std::size_t latch = PXPLANES_BITS + 2;
@@ -452,7 +452,7 @@ public:
         moment_ = read_state(text, clock, words_.data(), words_.size());
     }
 
-    /* Where it stands. Behind a clock of one's own, `operation`, `operation_clock` and `next_micro` are not known, and 0. */
+    /* Where it is. After a clock of your own, `operation`, `operation_clock` and `next_micro` are not known, and 0. */
     const pxplanes_moment &moment() const noexcept { return moment_; }
     /* Its words, as pxplanes_state lays them out. */
     const std::vector<std::uint64_t> &words() const noexcept { return words_; }

@@ -136,7 +136,7 @@ static inline int pxplanes_overlaps_(const char *word, const char *text, size_t 
 }
 
 /*
- * Writes "(left sign right)", with a 0 behind it, and gives its length without the 0. Where room is not more than that, the
+ * Writes "(left sign right)", with a 0 after it, and gives its length without the 0. Where room is not more than that, the
  * buffer has the empty text, if it has room for any. The sign is '+', '*', '-' or '^'; both sides are names, or were joined
  * in another buffer. If the sign is another one, or a side is null or overlaps the buffer, it gives 0 and writes nothing.
  */

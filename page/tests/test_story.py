@@ -83,7 +83,7 @@ def test_the_letters_clocks_are_the_librarys(page: Browser) -> None:
     page.until("document.body.dataset.shown === '%d'" % found["clocks"])
 
 
-def test_an_edited_text_is_not_told(page: Browser) -> None:
+def test_the_story_leaves_an_edited_text_alone(page: Browser) -> None:
     pages.alone(page)
     pages.choose(page, "- shaft)")
     pages.written(page, "+ shaft)")

@@ -192,8 +192,8 @@ def test_two_maps_are_compared_without_a_scene(page: Browser, tmp_path: Path) ->
 def test_other_forms_are_refused_by_name(page: Browser, name: str, content: bytes, said: str) -> None:
     page.run("delete document.body.dataset.compared")
     drop(page, name, content)
-    told = page.until("document.body.dataset.compared")
-    assert said in told and "`pxplanes compare` reads it" in told
+    reported = page.until("document.body.dataset.compared")
+    assert said in reported and "`pxplanes compare` reads it" in reported
 
 
 @pytest.mark.parametrize("clipboard", ["undefined", "{writeText: () => Promise.reject(new DOMException('no', "

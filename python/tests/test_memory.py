@@ -69,7 +69,7 @@ def wrong_in(under: counted.Counted, trial: Trial, is_good: bool = False) -> str
     run = under.run(words, text)
     most = TIMES * needed(words, text)
     if run.status is None or run.is_refused_by_system or run.status == counted.STARVED or is_good and run.status != 0:
-        return "%s: %s" % (name, run.told())
+        return "%s: %s" % (name, run.described())
     return "%s: a request of %d bytes, more than %d" % (name, run.largest, most) if run.largest > most else None
 
 
@@ -112,7 +112,7 @@ def wrong_when_refused(under: counted.Counted, words: list[bytes], text: bytes) 
         refused = counted.STARVED, b"", run.note if run.note in ("", "out of memory\n") else "out of memory\n"
         expected = refused if number <= whole.requests else (whole.status, whole.output, whole.note)
         if run.is_refused != (number <= whole.requests) or (run.status, run.output, run.note) != expected:
-            yield "allocation %d: %s" % (number, run.told())
+            yield "allocation %d: %s" % (number, run.described())
 
 
 @pytest.mark.parametrize("name", STARVED)
@@ -125,7 +125,7 @@ COMMANDS = ("render", "colour", "tidy", "plan", "cost", "list", "refine 2", "til
 
 
 def with_lines(words: list[bytes], text: bytes) -> bytes:
-    """The input of a command: what it reads behind the scene too."""
+    """The input of a command: what it reads after the scene too."""
     return text + {b"shadow": b"light s0\n", b"debug": b"run\nback 1\nquit\n"}.get(words[0], b"")
 
 
@@ -167,7 +167,7 @@ def test_samples(under: counted.Counted) -> None:
 
 
 def ended_at(text: str, at: int) -> int:
-    """Where the parenthesis at a place is closed, behind it."""
+    """Where the parenthesis at a place is closed, after it."""
     depth = 0
     for end in range(at, len(text)):
         depth += {"(": 1, "[": 1, ")": -1, "]": -1}.get(text[end], 0)
@@ -198,7 +198,7 @@ def found_calls() -> set[str]:
 
 
 def test_every_call_that_asks_is_listed() -> None:
-    """Each line of the list is a call and, behind two spaces, the bytes that it asks for."""
+    """Each line of the list is a call and, after two spaces, the bytes that it asks for."""
     lines = [line for line in ends.content(LISTED).decode("utf-8").splitlines() if line and not line.startswith("#")]
     listed = dict(line.split("  ", 1) for line in lines)
     assert len(listed) == len(lines) and all(size.strip() for size in listed.values())

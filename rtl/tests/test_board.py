@@ -198,7 +198,7 @@ def test_film(tmp_path: pathlib.Path) -> None:
 
 
 @needs
-def test_a_wrong_chip_is_told(tmp_path: pathlib.Path, monkeypatch: pytest.MonkeyPatch) -> None:
+def test_a_wrong_chip_is_reported(tmp_path: pathlib.Path, monkeypatch: pytest.MonkeyPatch) -> None:
     wrong = Edited("wrong", "chip/word", "s/enables & taken | ~enables & stored/taken/").written(tmp_path)
     monkeypatch.setattr(board, "SOURCES", [str(wrong) if path.endswith("word.v") else path for path in board.SOURCES])
     link = board.Simulated(board.built(NX, NY), str(tmp_path))

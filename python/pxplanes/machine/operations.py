@@ -41,7 +41,7 @@ class Operation(NamedTuple):
         return " ".join([self.kind, *map(str, self.numbers)])
 
 
-def told(found: FoundOperation) -> Operation:
+def operation_of(found: FoundOperation) -> Operation:
     """What the library wrote of an operation."""
     return Operation(KINDS[found.kind - 1], tuple(found.numbers[:found.numbers_count]), found.clock, getattr(found, "pass"),
                      found.literal, ROLES[found.role - 1] if found.role else None, found.solid, found.face, found.other)
@@ -61,7 +61,7 @@ def course(text: Text, first: int = 0, count: Optional[int] = None) -> list[Oper
         raise NoOperation(operations)
     room = Buffer("operations", count, ctypes.sizeof(FoundOperation))
     done("course", text, (first,), [room], clocks=CLOCKS * (first + count))
-    return [told(found) for found in (FoundOperation * count).from_buffer(room.room)]
+    return [operation_of(found) for found in (FoundOperation * count).from_buffer(room.room)]
 
 
 def operations_of(text: Text) -> int:

@@ -71,17 +71,17 @@ class State:
     """What stands before a clock: its place, the pixels and the nodes, by a session's answers."""
 
     def __init__(self, layout: int, window: Window, answers: list[list[bytes]]):
-        place, *told = (lines[0].decode() for lines in answers)
+        place, *reported = (lines[0].decode() for lines in answers)
         moved = re.search(r"macro (\d+) micro (\d+)", place)
         self.macro, self.micro = map(int, moved.groups()) if moved else (None, None)
         self.pixels = []
         for _ in window.pixels:
             count = len(window.words)
-            self.pixels.append(Pixel(layout, window.bits, *told[:count]))
-            told = told[count:]
-        if any(line.startswith("?") for line in told):
+            self.pixels.append(Pixel(layout, window.bits, *reported[:count]))
+            reported = reported[count:]
+        if any(line.startswith("?") for line in reported):
             raise Trouble("the tree has no such node")
-        self.nodes = [int(word) for line in told for word in line.split()[4::2]]
+        self.nodes = [int(word) for line in reported for word in line.split()[4::2]]
 
 
 class Broadcast:
@@ -123,17 +123,17 @@ def looked_at(text: bytes, window: Window) -> tuple[list[State], list[Broadcast]
     layout = 0 if listings.is_listing(text) else (scenes.read(text).need() - 2) // 2
     commands = window.commands()
     answers = iter(listings.held(None, text, commands))
-    told: list[list[list[bytes]]] = []
+    reported: list[list[list[bytes]]] = []
     broadcasts: dict[int, Broadcast] = {}
     for command in commands:
         if command == b"at":
-            told.append([])
+            reported.append([])
         lines = next(answers)
         if command == b"trace":
             broadcasts.update(traced(lines))
         elif not command.startswith((b"until", b"step")):
-            told[-1].append(lines)
-    states = [State(layout, window, each) for each in told]
+            reported[-1].append(lines)
+    states = [State(layout, window, each) for each in reported]
     clocks = range(window.first, window.last)
     return states, [broadcasts[clock] for clock in clocks] + [Broadcast()]
 

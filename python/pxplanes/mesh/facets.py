@@ -449,14 +449,14 @@ def cells(points: kinds.Points, facets: kinds.Facets) -> list[Any]:
     one another, or where there are more parts than a scene has solids."""
     closed(facets)
     if open_edges(facets):
-        raise Trouble("is not convex, and its facets are not turned alike, so that its inside cannot be told")
+        raise Trouble("is not convex, and its facets are not turned alike, so that its inside is unknown")
     turned = facets if volume(points, facets) > 0 else [facet[::-1] for facet in facets]
     size, wide = extent(points)
     digit = digit_of(points) * size
     near = NEAR * digit
     point = crossed(points, turned, near)
     if point:
-        raise Trouble("passes through itself, at %.4g %.4g %.4g, so that its inside cannot be told; "
+        raise Trouble("passes through itself, at %.4g %.4g %.4g, so that its inside is unknown; "
                   "write it as a union of parts that do not" % tuple(part + 0.0 for part in point))
     whole = [([points[at] for at in facet], plane_of([points[at] for at in facet])) for facet in turned]
     polygons: list[Any] = [(polygon, plane[:2]) for polygon, plane in whole

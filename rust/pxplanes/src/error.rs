@@ -25,12 +25,12 @@ pub enum Error {
     NoCommand,
     /// There was no memory for the call.
     Memory,
-    /// The clock lies past the last, which is told.
+    /// The clock is past the last, which it names.
     NoClock {
         /// How many clocks there are.
         clocks: u64,
     },
-    /// The operation lies past the last, which is told.
+    /// The operation is past the last, which it names.
     NoOperation {
         /// How many operations there are.
         operations: u64,
