@@ -1,9 +1,9 @@
 /*
  * Memory for the library where there is no C library: the three functions by which it asks, and two for whoever calls it.
  *
- * A block stands in a class of sizes, four of them to each doubling, so that at most a fifth of it lies idle. What is freed waits in
+ * A block is in a class of sizes, four of them to each doubling, so that at most a fifth of it lies idle. What is freed waits in
  * its class for the next block of that class; what is not there is cut from the end of all. Each block begins at a multiple of 16,
- * behind a word that names its class. Where the machine gives no more memory the answer says so, and nothing else changes.
+ * after a word that names its class. Where the machine gives no more memory the answer says so, and nothing else changes.
  */
 #ifdef __wasm__
 /* (the kit has no headers for this target) */

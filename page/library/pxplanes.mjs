@@ -39,7 +39,7 @@ export function lacking() {
 }
 
 // The library, of the bytes of pxplanes.wasm, a module compiled of them, a response with them, their address, or a promise of one of
-// these; without it, of the file pxplanes.wasm beside this one.
+// these; without it, of the file pxplanes.wasm next to this one.
 export async function load(source = new URL("./pxplanes.wasm", import.meta.url)) {
   const why = lacking();
   if (why) throw new Error(why);

@@ -57,7 +57,7 @@
   function isBeside(each) {
     const {left, right} = each.getBoundingClientRect();
     if ((left < -1 || right > innerWidth + 1) && !each.closest(HELD))
-      found.add(`${nameOf(each)} is beside the window: ${Math.round(left)} to ${Math.round(right)}`);
+      found.add(`${nameOf(each)} is outside the window: ${Math.round(left)} to ${Math.round(right)}`);
   }
 
   function scrolls(each) {

@@ -36,9 +36,9 @@ ROWS = """() => [...document.querySelectorAll("table.way tr")].slice(1).map(row 
   [...row.children].map(cell => cell.textContent).concat(row.querySelector(".now")?.textContent ?? ""))"""
 
 
-def opened(page: Browser, behind: str) -> None:
+def opened(page: Browser, fragment: str) -> None:
     page.open("about:blank")
-    page.open("file://" + pages.PAGE + behind)
+    page.open("file://" + pages.PAGE + fragment)
     page.until("document.body.dataset.drawn === 'yes' && document.body.dataset.shown")
 
 

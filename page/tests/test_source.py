@@ -104,7 +104,7 @@ def test_the_page_runs_without_what_the_oldest_browsers_lack(older: Browser) -> 
     assert older.run("document.getElementById('keys').getBoundingClientRect().height") == 0
     pages.click(older, "[data-take=link]")
     link = older.until("document.body.dataset.link")
-    pages.alone(older, behind="#" + link.split("#")[1])
+    pages.alone(older, fragment="#" + link.split("#")[1])
     with open(FIRST, encoding="utf-8") as file:
         assert pages.source(older) == file.read()
     assert older.faults() == []

@@ -13,9 +13,9 @@ ONES = """view => {
 }"""
 
 
-def opened(page: Browser, behind: str = "") -> None:
+def opened(page: Browser, fragment: str = "") -> None:
     page.open("about:blank")
-    page.open("file://" + pages.PAGE + behind)
+    page.open("file://" + pages.PAGE + fragment)
     page.until("document.body.dataset.drawn === 'yes' && document.body.dataset.shown")
 
 

@@ -44,7 +44,7 @@ class Expression:
 
     @property
     def solids(self) -> List[Solid]:
-        """Its solids, each once, in the order in which they stand in it."""
+        """Its solids, each once, in their order in it."""
         return list(dict.fromkeys(token for token in self._tokens if isinstance(token, Solid)))
 
 
@@ -76,7 +76,7 @@ class Solid(Expression):
         kinds += [("back", plane, "backs[%d]" % at) for at, plane in enumerate(listed(backs, self.called("backs")))]
         own = listed(faces, self.called("faces"))
         if own and kinds:
-            raise ValueError("%s stands beside fronts or backs" % self.called("faces"))
+            raise ValueError("%s are given together with fronts or backs" % self.called("faces"))
         for at, face in enumerate(own):
             kind, *plane = listed(face, self.called("faces[%d]" % at)) or [None]
             if kind not in ("front", "back"):
@@ -181,7 +181,7 @@ def named(solids: Sequence[Solid]) -> dict[Solid, str]:
     given = [solid.name for solid in dict.fromkeys(solids) if solid.name]
     twice = next((name for at, name in enumerate(given) if name in given[:at]), None)
     if twice or len(dict.fromkeys(solids)) < len(solids):
-        raise ValueError("two solids are named %s" % twice if twice else "a solid stands twice in solids")
+        raise ValueError("two solids are named %s" % twice if twice else "a solid comes twice in solids")
     free = (name for name in map("s%d".__mod__, itertools.count(1)) if name not in given)
     return {solid: solid.name or next(free) for solid in solids}
 

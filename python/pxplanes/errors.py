@@ -32,7 +32,7 @@ class NoCommand(Refused):
 
 
 class Malformed(Refused):
-    """A line is not of the language. `cause` is the word of docs/SCENES.md, "Refusals", as `unknown-name`. Behind the note `str`
+    """A line is not of the language. `cause` is the word of docs/SCENES.md, "Refusals", as `unknown-name`. After the note `str`
     of it has a `hint`, where the text seems to be the name of a file."""
 
     hint = ""

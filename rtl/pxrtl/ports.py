@@ -66,7 +66,7 @@ def head(name: str, module: str, values: dict[str, int]) -> str:
 
 
 def skeleton(module: str) -> str:
-    """A module with what ours says of itself and its ports, and nothing inside; of a pixel four acts stand."""
+    """A module with what ours says of itself and its ports, and nothing inside; a pixel has four acts."""
     if module == "pixel":
         with open(os.path.join(RTL, "pixel_student.v"), encoding="utf-8") as file:
             return file.read()

@@ -103,8 +103,8 @@ def header(wide: int, high: int) -> bytes:
 
 
 class Picture:
-    """A file of two images of one size, written row by row wherever a row has its place; and, in a file beside it, the pieces that are in
-    it, a line each behind the sum of what it is made of."""
+    """A file of two images of one size, written row by row wherever a row has its place; and, in a file next to it, the pieces that are in
+    it, a line each after the sum of what it is made of."""
 
     def __init__(self, path: str, wide: int, high: int, total: str):
         self.path, self.wide, self.head = path, wide, header(wide, high)

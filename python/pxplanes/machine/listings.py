@@ -14,7 +14,7 @@ from pxplanes.errors import NoLibrary, Refused, Trouble
 from pxplanes.machine import micros, operations, passes, sessions, states
 
 NUMBER = re.compile(rb"\d{1,18}\Z")
-# The line of a listing that `list` writes in which its first operation stands.
+# The line of a listing that `list` writes that has its first operation.
 FIRST_LINE = 3
 Answer = Optional[list[str]]
 
@@ -126,8 +126,8 @@ class Session:
 
     def at(self) -> Answer:
         place = self.listing.place_of(self.now)
-        behind = "done" if place is None else "macro %d micro %d" % place
-        return ["at %d of %d %s" % (self.now, self.listing.clocks, behind)]
+        rest = "done" if place is None else "macro %d micro %d" % place
+        return ["at %d of %d %s" % (self.now, self.listing.clocks, rest)]
 
     def pixel(self, x: int, y: int) -> Answer:
         if x >= 1 << self.listing.nx or y >= 1 << self.listing.ny:
@@ -156,7 +156,7 @@ FORMS: dict[str, tuple[int, Callable[..., Answer]]] = {
 
 def held(path: Optional[str], text: bytes, commands: Sequence[bytes]) -> list[list[bytes]]:
     """The answers of a session over a scene, by the program at a path or as built, or over a listing; each a list of
-    lines, and none behind a `quit`."""
+    lines, and none after a `quit`."""
     if not is_listing(text):
         return sessions.held(program.needed(path), text, commands)
     session = Session(text)

@@ -1,9 +1,9 @@
 """Waveforms of the broadcasts of a scene or of a listing, and of what pixels hold: as a VCD file, which GTKWave opens, or as a chart.
 
 A VCD file has a clock of 10 ns; the number of the clock, of the operation (`macro`) and of its micro, and the line of the listing
-in which the operation stands; the operation, and what is broadcast, as the tree's operation and the act, with the lines c, a and
+of the operation; the operation, and what is broadcast, as the tree's operation and the act, with the lines c, a and
 b while the tree is fed; of each pixel enable, carry, latch and the bit of its leaf; both keys as numbers, and the bits alive and
-par, which a listing does not have. At time 10 n clock n begins: a value is what stands in that clock, before it is over."""
+par, which a listing does not have. At time 10 n clock n begins: a value is that of the clock, before it is over."""
 from __future__ import annotations
 
 import re
@@ -68,7 +68,7 @@ class Pixel:
 
 
 class State:
-    """What stands before a clock: its place, the pixels and the nodes, by a session's answers."""
+    """What there is before a clock: its place, the pixels and the nodes, by a session's answers."""
 
     def __init__(self, layout: int, window: Window, answers: list[list[bytes]]):
         place, *reported = (lines[0].decode() for lines in answers)
@@ -172,7 +172,7 @@ def signals(text: bytes, window: Window) -> list[vcd.Signal]:
 
 
 def values(clock: int, state: State, broadcast: Broadcast, operations: list[tuple[int, str]]) -> list[Any]:
-    """What the signals behind the clock are in a clock, in their order."""
+    """What the signals after the clock are in a clock, in their order."""
     act = None if broadcast.act is None else spelled(broadcast.act)
     line = operation = None
     if state.macro is not None:
@@ -202,8 +202,8 @@ def in_slots(label: str, words: Iterable[Any]) -> str:
 def wave_lines(label: str, bits: Sequence[Optional[int]]) -> list[str]:
     """A bit over the clocks in two lines: high above, low below, dots where it has no value."""
     high, low = " " * LABEL, label.ljust(LABEL)
-    for bit, behind in zip(bits, [*bits[1:], bits[-1]]):
-        turn = "/" if (bit, behind) == (0, 1) else "\\" if (bit, behind) == (1, 0) else None
+    for bit, later in zip(bits, [*bits[1:], bits[-1]]):
+        turn = "/" if (bit, later) == (0, 1) else "\\" if (bit, later) == (1, 0) else None
         high += ("_" if bit == 1 else " ") * (SLOT - 1) + (" " if turn or bit != 1 else "_")
         low += {0: "_", 1: " ", None: "."}[bit] * (SLOT - 1)
         low += turn or {0: "_", 1: " ", None: "."}[bit]

@@ -120,7 +120,7 @@ class Cloud:
 
 
 class Found:
-    """The planes that are found, each once, with those of like direction close at hand."""
+    """The planes that are found, each once, with those of like direction next to each other."""
 
     def __init__(self) -> None:
         self.planes: list[tuple[int, kinds.Plane]] = []
@@ -161,7 +161,7 @@ def digit_of(points: kinds.Points) -> float:
     return SIX_DIGITS if six else SINGLE
 
 
-def beside(point: kinds.Vector, corners: kinds.Points, normal: kinds.Vector) -> float:
+def distance_aside(point: kinds.Vector, corners: kinds.Points, normal: kinds.Vector) -> float:
     """How far it is, along a facet's plane, from the nearest of its corners to a point."""
     ways = [[a - b for a, b in zip(point, corner)] for corner in corners]
     return math.sqrt(min(max(dot(way, way) - dot(way, normal) ** 2, 0) for way in ways))
@@ -189,7 +189,7 @@ def planes(points: kinds.Points, facets: kinds.Facets, numbers: Optional[Sequenc
                 raise Trouble("is flat: no point is more than %.2g behind its facet %s" % (max(deepest, 0), number))
         for point in cloud.beyond(normal, far + digit):
             before = dot(normal, point) - far
-            if before > 2 * digit and before > 2 * digit * (1 + beside(point, corners, normal) / high):
+            if before > 2 * digit and before > 2 * digit * (1 + distance_aside(point, corners, normal) / high):
                 raise Trouble("is not convex: a point is %.2g before its facet %s"
                               % (cloud.farthest(normal) - far, number))
         found.add(number, (normal, far))

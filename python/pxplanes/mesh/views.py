@@ -124,7 +124,7 @@ def of_camera(numbers: kinds.Vector, size: Sequence[int], far: float, tree: kind
         numbers = turns.between(numbers[:3], numbers[3:])
     place, turn, distance = numbers[:3], numbers[3:6], numbers[6]
     if distance <= 0:
-        raise Trouble("--camera wants a distance above 0")
+        raise Trouble("--camera needs a distance above 0")
     view = View(turns.rows_of(turn), size, far, tree)
     scale = size[1] / (2 * distance * math.tan(math.radians(FIELD / 2)))
     right, _, up = view.turned(place)

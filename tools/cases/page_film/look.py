@@ -80,7 +80,7 @@ with Browser() as page:
     text = ends.content(FIRST)
     scene = scenes.read(text)
     keys, starts = passes.Keys(scene), passes_read.starts(scene, passes.products_of(scene, program.answer(BUILT, ["plan"], text)[1]), 11)
-    alone(page, behind=link(FIRST, "machine", clock=0))
+    alone(page, fragment=link(FIRST, "machine", clock=0))
     page.until("document.body.dataset.shown")
     called(page, TAKEN)
     picture = lambda words: keys.colours[keys.number(words[4], "B", "face")]

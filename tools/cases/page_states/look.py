@@ -1,4 +1,4 @@
-"""Asks the page for states at clocks drawn by lot, and the debugger for the same: pixels, nodes, the place, and what was broadcast."""
+"""Asks the page for states at random clocks, and the debugger for the same: pixels, nodes, the place, and what was broadcast."""
 import os
 import random
 import sys
@@ -42,7 +42,7 @@ def scenes_of_cases():
 
 
 def asked_at(lot, text, clocks):
-    """Questions at clocks drawn by lot: clock, pixel and node."""
+    """Questions at random clocks: clock, pixel and node."""
     scene = scenes.read(text)
     wide, high = program.grid(scene.width, scene.height)
     levels = (wide * high).bit_length() - 1
@@ -73,5 +73,5 @@ with Browser() as page:
             if due != told[4 * at:4 * at + 4]:
                 print("at %s: %r in place of %r" % (question, told[4 * at:4 * at + 4], due))
             compared += 1
-    print("%d states beside the debugger's" % compared if compared < PAIRS else "as many as were wanted")
+    print("%d states compared with the debugger's" % compared if compared < PAIRS else "as many as were wanted")
     print("faults of the page:", page.faults())

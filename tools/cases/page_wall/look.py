@@ -1,4 +1,4 @@
-"""Looks at the wall of planes, at the time line, and at how the page opens and plays, in a browser, beside the debugger's answers."""
+"""Looks at the wall of planes, at the time line, and at how the page opens and plays, in a browser, against the debugger's answers."""
 import base64
 import os
 import random
@@ -132,7 +132,7 @@ def timeline(page, text):
 
 
 def large(page):
-    print("-- one large, another beside it")
+    print("-- one large, another next to it")
     page.press("w")
     page.until("document.activeElement.className.startsWith('tile')")
     for key, modifiers in (("Home", 0), ("ArrowRight", 0), ("Enter", 0), ("ArrowRight", 0), ("Enter", 8)):
@@ -186,7 +186,7 @@ def sight(page):
     first = pixels(page, "array")[2]
     page.until("seen.length > 5")
     seen = page.run("seen")
-    print("each place it comes by begins a pass:", all(clock in starts for _, clock, _ in seen), "| one behind the other:",
+    print("each place it comes by begins a pass:", all(clock in starts for _, clock, _ in seen), "| one after the other:",
           [clock for _, clock, _ in seen] == sorted(starts)[sorted(starts).index(seen[0][1]):][:len(seen)])
     most = max(sum(1 for _, _, other in seen if 0 <= other - time < 1000) for _, _, time in seen)
     print("more than three in a second:", most > 3)
@@ -222,7 +222,7 @@ def half_empty(page):
 with Browser() as page:
     text = ends.content(FIRST)
     page.call("Emulation.setFocusEmulationEnabled", enabled=True)
-    alone(page, behind=link(FIRST, "machine", clock=0))
+    alone(page, fragment=link(FIRST, "machine", clock=0))
     page.until("document.body.dataset.shown")
     walls(page, text)
     timeline(page, text)
