@@ -49,7 +49,7 @@
     const pen = document.createElement("canvas").getContext("2d");
     pen.font = style.font;
     const words = pen.measureText(each.selectedOptions[0]?.textContent ?? "").width;
-    // (a select has its arrow beside the words)
+    // (a select has its arrow next to the words)
     const needed = words + 2 * parseFloat(style.paddingLeft) + 18;
     if (needed > each.clientWidth + 1) found.add(`${nameOf(each)} is cut: ${Math.round(needed)} in ${each.clientWidth}`);
   }

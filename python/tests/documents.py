@@ -40,7 +40,7 @@ NOT_RUN = {
     ("docs/MODELLING.md", "openscad --preview"): "it needs a display",
     ("docs/LIBRARY.md", "./pxplanes --library"): "it proves; the case wrapper_library begins it, and package_of_* and python_* do the rest",
     ("rust/README.md", "tools/package"): "it writes into the checkout's package/; the case rust_crates does both",
-    ("docs/SCALE.md", "./pxplanes batch poster gallery/house.scene 16384"): "it writes 1.6 GB; the case wide_beside_tile writes less",
+    ("docs/SCALE.md", "./pxplanes batch poster gallery/house.scene 16384"): "it writes 1.6 GB; the case poster_against_tile writes less",
     ("docs/STUDIO.md", "./pxplanes view --serve my.scene"): "it serves until it is ended; the cases studio_* do it",
 }
 # What a pixel's memory, an operation and a grid may be, by the places in the sources that say so.

@@ -36,9 +36,9 @@ SHARED = "PXPLANES_LIBRARY"
 PAGE = os.path.join(TOP, "page", "pxplanes.html")
 ARCHIVE = os.path.join(TOP, "crates", "px_c", "out", "libpx_c.a")
 NO_LIBRARY = "there is no library for C; .ci/run builds it"
-SKIPPED = {"built": "it wants a program that is proved", "archive": NO_LIBRARY, "shared": NO_LIBRARY,
+SKIPPED = {"built": "it needs a program that is proved", "archive": NO_LIBRARY, "shared": NO_LIBRARY,
            "page": "there is no page; tools/package --web --page makes it",
-           "kept": "the page was made of other crates; tools/package --web --page, behind a gate, makes it of these",
+           "kept": "the page was made of other crates; tools/package --web --page, after a gate, makes it of these",
            "venv": "this Python makes no venv; Debian's python3-venv has it",
            "chroot": "only root lays out a system, and from an archive of Debian that answers",
            "states": "there is no library for C with the calls for states; .ci/run builds it"}

@@ -70,8 +70,8 @@ def compared(page, text, clocks, pace, due):
     """Whether each picture that the browser recorded is as the debugger's answers have it."""
     _, name = filmed(page, clocks[0], clocks[-1], pace, "60")
     found = shown(page)
-    for clock, colours, told in zip(clocks, found, held(text, clocks)):
-        if colours != [due(words) for words in told]:
+    for clock, colours, lines in zip(clocks, found, held(text, clocks)):
+        if colours != [due(words) for words in lines]:
             print("at %d: another picture" % clock)
     print("%s by each %s: %d pictures of %d" % (name, pace, len(found), len(clocks)))
 

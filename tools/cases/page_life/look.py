@@ -67,9 +67,9 @@ def stops(page, path, place, text):
         for now in [0, clocks] + lot.sample(changes, min(3, len(changes))) + [lot.randrange(clocks) for _ in range(3)]:
             for back in (False, True):
                 due = searched(changes, now, back)
-                told = asked(page, "stop", {**words, "clock": now, "back": back, "x": place[0], "y": place[1]}, text.decode())
-                if told != {"clock": due}:
-                    print("%s, %s, from %d%s: %s in place of %s" % (path, words, now, " back" if back else "", told, due))
+                reply = asked(page, "stop", {**words, "clock": now, "back": back, "x": place[0], "y": place[1]}, text.decode())
+                if reply != {"clock": due}:
+                    print("%s, %s, from %d%s: %s in place of %s" % (path, words, now, " back" if back else "", reply, due))
                 compared, found = compared + 1, found + (due is not None)
     life = asked(page, "life", {"x": place[0], "y": place[1]}, text.decode())
     ended = [0] + [clock for _, _, clock in operations[1:]] + [clocks]
@@ -85,15 +85,15 @@ def rows(page, path, place, text):
     page.until("document.body.dataset.life === '%d %d'" % place)
     operations, clocks, _ = operations_of(text)
     history, bits = histories(text, [place], clocks)[0], scenes.read(text).number_bits()
-    told = page.run("[...document.querySelectorAll('#lives .event')].map(each => [...each.querySelectorAll('span')].map(part => part.textContent))")
+    reply = page.run("[...document.querySelectorAll('#lives .event')].map(each => [...each.querySelectorAll('span')].map(part => part.textContent))")
     fallen = [clock for clock in range(1, clocks + 1) if (history[clock - 1][6], history[clock][6]) == ("1", "0")]
     faces = [int(history[start][4][:bits][::-1], 2) for _, _, start in operations] + [int(history[clocks][4][:bits][::-1], 2)]
     won = [face for before, face in zip(faces, faces[1:]) if face != before]
-    print("%s: put out %s times: %s; faces that won: %s, %d" % (path, "some" if fallen else "no", [int(clock) for what, _, clock in told if "wins" not in what] == fallen,
-          [(what.split(" ")[1]) for what, _, _ in told if "wins" in what] == [str(face) for face in won], len(won)))
+    print("%s: put out %s times: %s; faces that won: %s, %d" % (path, "some" if fallen else "no", [int(clock) for what, _, clock in reply if "wins" not in what] == fallen,
+          [(what.split(" ")[1]) for what, _, _ in reply if "wins" in what] == [str(face) for face in won], len(won)))
     page.run("document.querySelector('#lives .event').click()")
-    page.until("document.body.dataset.shown === '%s'" % told[0][2])
-    print("the first, and where it leads:", " | ".join(told[0]), "|", page.run("document.querySelector('.register').textContent"))
+    page.until("document.body.dataset.shown === '%s'" % reply[0][2])
+    print("the first, and where it leads:", " | ".join(reply[0]), "|", page.run("document.querySelector('.register').textContent"))
 
 
 def by_keys(page, text):
@@ -162,10 +162,10 @@ def edges(page, text):
         marked += step >= 0
         if step < 0:
             continue
-        told = sessions.held(BUILT, text, [b"until %d" % clock] + [b"pixel %d %d" % place for place in places])[1:]
+        reply = sessions.held(BUILT, text, [b"until %d" % clock] + [b"pixel %d %d" % place for place in places])[1:]
         number = lambda strip: sum(bit << at for at, (bit, _) in enumerate(reversed(strip)))
         sums = [number(columns[x]) + number(beside[y]) >> min(step, bits - 1) & 1 for x, y in places]
-        if sums != [int(lines[0].decode().split()[12]) for lines in told]:
+        if sums != [int(lines[0].decode().split()[12]) for lines in reply]:
             print("at %d: the leaf is not the bit of the sum" % clock)
         leaves += 1
     print("marked at some clocks: %s, and the leaves are the sums' bits: %s" % (marked > 5, leaves > 5))
