@@ -213,7 +213,7 @@ struct pxplanes_numbered_face {
     uint32_t solid; /* its solid, from 1 in the order of their lines */
     uint32_t kind;  /* PXPLANES_FACE_NEAR, PXPLANES_FACE_FRONT or PXPLANES_FACE_BACK */
     uint32_t plane; /* which front or back of the solid it is, from 1 in the order of their lines; 0 for the near face */
-    uint32_t line;  /* the line of the text that gives it its number, from 1: the solid's for the near face, else the plane's */
+    uint32_t line;  /* the line of the text that gives it its number, from 1: the solid's for the near face, otherwise the plane's */
     uint32_t red;   /* its colour, each part from 0 to 255 */
     uint32_t green;
     uint32_t blue;
@@ -240,7 +240,7 @@ uint32_t pxplanes_face(const uint8_t *text, size_t text_len, uint32_t number, ui
  *
  * A product is a row of solid numbers, counted from 1 in the order of their lines: first those of the solids that
  * its cells lie inside, rising, then, below 0, those of the solids that they lie outside, and a 0 after them. So
- * "house - door" is 1 -2 0, and found.room numbers are due for all.
+ * "house - door" is 1 -2 0, and found.room numbers are needed for all.
  *
  * A text that is no scene is refused as by pxplanes_check; of the limits after it, only that of "products" counts.
  * found.operations and found.clocks are 0.
@@ -280,7 +280,7 @@ struct pxplanes_moment {
  *     words: node i of level k, with levels from 1, is bit (2^k + i) % 64 of word (2^k + i) / 64. Bits 0 and 1 are 0.
  *
  * The text is refused as by pxplanes_check, and a listing as docs/LISTINGS.md says, by the same numbers of causes and
- * by kinds of its own. NO_CLOCK is answered where clock is past the last, and else NO_ROOM. The room does not depend
+ * by kinds of its own. NO_CLOCK is answered where clock is past the last, and otherwise NO_ROOM. The room does not depend
  * on the clock. So for the first words of a scene:
  *
  *     struct pxplanes_moment state;
@@ -297,13 +297,13 @@ uint32_t pxplanes_state(const uint8_t *text, size_t text_len, uint64_t clock, ui
  * microinstruction in each element. With micros_len 0 nothing but found is written, and found.clocks is how many
  * there are.
  *
- *   bits 0 to 31   the place of memory that the act names, and else 0
+ *   bits 0 to 31   the place of memory that the act names, and otherwise 0
  *   bits 32 to 39  the act: 1 nop, 2 enable-all, 3 enable-carry, 4 enable-tree, 5 enable-bit, 6 set-carry, 7 fetch,
  *                  8 store-tree, 9 store-latch, 10 store-const, 11 toggle, 12 carry-tree, 13 carry-latch,
  *                  14 add-tree (docs/MACHINE.md, "The fourteen acts")
- *   bit 40         the value that it names, and else 0
+ *   bit 40         the value that it names, and otherwise 0
  *   bits 48, 49    what the tree does: 0 hold, 1 clear, 2 feed
- *   bits 56 to 58  the lines a, b and c of a feed, and else 0
+ *   bits 56 to 58  the lines a, b and c of a feed, and otherwise 0
  *
  * All other bits are 0, and no microinstruction is 0. Texts are read as by pxplanes_state. NO_CLOCK is answered
  * where first + micros_len is past the last clock; then no element is written. NO_ROOM is not answered.
@@ -365,7 +365,7 @@ uint32_t pxplanes_course(const uint8_t *text, size_t text_len, uint64_t first, s
  *        outputs of their nodes) give words of which nothing is promised.
  * micros: each names a place below PXPLANES_BITS where its act names one.
  *
- * NO_GRID is answered where a side is none of these; else NO_ROOM; else NO_MICRO, where an element packs no
+ * NO_GRID is answered where a side is none of these; otherwise NO_ROOM; otherwise NO_MICRO, where an element packs no
  * microinstruction, or names a place past the memory, with the index of the first. Then no word is written.
  */
 uint32_t pxplanes_clocks(uint64_t *words, size_t words_len, uint32_t grid_width, uint32_t grid_height,
@@ -379,7 +379,7 @@ uint32_t pxplanes_clocks(uint64_t *words, size_t words_len, uint32_t grid_width,
  *        "sample 20", or "debug" with its lines after the scene (docs/DEBUGGER.md). No words are those of "render".
  * out:   the bytes of the output, found.room of them, from the front on.
  *
- * The text is refused as by the program: with MALFORMED and LIMIT found is what its note tells, and with USAGE the
+ * The text is refused as by the program: with MALFORMED and LIMIT found is what its note says, and with USAGE the
  * words name no command. `debug` is past a LIMIT where its lines are, though the program answers those before: then
  * nothing is written. NO_ROOM is answered after the work, which is then done for nothing: so give room enough where it is
  * known, as for an image of P6, 3 bytes a pixel and 20. `render` and `tile` write two of them, `colour`, `refine` and `shadow` one.

@@ -111,13 +111,13 @@ public:
 
     /* PXPLANES_MALFORMED, PXPLANES_LIMIT, or another of pxplanes.h. */
     std::uint32_t status() const noexcept { return status_; }
-    /* The first bad line, or the one where a limit is passed; else 0. */
+    /* The first bad line, or the one where a limit is passed; otherwise 0. */
     std::uint32_t line() const noexcept { return found_.line; }
-    /* Why the line is bad, as "unexpected"; else empty. */
+    /* Why the line is bad, as "unexpected"; otherwise empty. */
     std::string cause() const { return cause_name(found_.cause); }
-    /* Which limit is passed, as "solids"; else empty. */
+    /* Which limit is passed, as "solids"; otherwise empty. */
     std::string kind() const { return kind_name(found_.kind); }
-    /* What was found where the limit is passed, or the index of what is no microinstruction; else 0. */
+    /* What was found where the limit is passed, or the index of what is no microinstruction; otherwise 0. */
     std::int64_t number() const noexcept { return found_.number; }
     /* All that the call found, as pxplanes.h lists it for each status. */
     const pxplanes_found &found() const noexcept { return found_; }
@@ -438,7 +438,7 @@ constexpr std::size_t carry = PXPLANES_BITS + 1;
 constexpr std::size_t latch = PXPLANES_BITS + 2;
 constexpr std::size_t leaf = PXPLANES_BITS + 3;
 
-/* A state of the machine that is one's own: a value, to copy and to keep. */
+/* A state of the machine of your own: a value, to copy and to keep. */
 class state {
 public:
     /* The machine after the first clocks of a scene or of a listing. */

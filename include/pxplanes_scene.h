@@ -26,7 +26,7 @@ struct pxplanes_plane {
 
 enum pxplanes_kind { PXPLANES_FRONT, PXPLANES_BACK };
 
-/* A front or a back; it has a colour of its own where has_colour is not 0, and else that of its solid. In C++ its name is
+/* A front or a back; it has a colour of its own where has_colour is not 0, and otherwise that of its solid. In C++ its name is
  * `struct pxplanes_face`, since a call of pxplanes.h has the short one. */
 struct pxplanes_face {
     enum pxplanes_kind kind;

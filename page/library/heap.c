@@ -30,7 +30,7 @@ static uintptr_t heap_start(void)
     return (uintptr_t) &__heap_base;
 }
 
-/* The end of memory, grown by a few pages at least where that is possible, so that `end` lies before it; else as it was. */
+/* The end of memory, grown by a few pages at least where that is possible, so that `end` lies before it; otherwise as it was. */
 static uintptr_t heap_end(uintptr_t end)
 {
     uint64_t pages = __builtin_wasm_memory_size(0), due = (end + PAGE - 1) / PAGE;

@@ -163,7 +163,7 @@ async function saveHere(now, text, suggestedName) {
   }
 }
 
-// A model becomes a scene, a text is opened, and all else is taken for another renderer's map.
+// A model becomes a scene, a text is opened, and everything that remains is taken for another renderer's map.
 async function dropped(file) {
   const name = file.name.replace(/\.\w+$/, ""), kind = file.name.split(".").pop().toLowerCase();
   if (file.size > LARGEST_DROP) throw new Trouble(`${file.name} is larger than ${LARGEST_DROP >> 20} MiB`);

@@ -1,5 +1,5 @@
 /*
- * Checks of heap.c in a process of one's own, as `cc -fsanitize=address,undefined heap_check.c heap.c` builds it: blocks that live at
+ * Checks of heap.c in a process of its own, as `cc -fsanitize=address,undefined heap_check.c heap.c` builds it: blocks that live at
  * one time lie apart, inside the memory that there is, at multiples of 16; they keep what is in them, moved ones too; being out of
  * memory is reported, and ends with what is freed; and what is freed serves again. It ends with 1 at the first thing that is wrong.
  */

@@ -1,4 +1,4 @@
-"""The page in Firefox: it draws, shows the machine, tells the story, and takes what is written in the editor."""
+"""The page in Firefox: it draws, shows the machine, shows the story, and takes what is written in the editor."""
 import shutil
 from typing import Iterator
 

@@ -1,4 +1,4 @@
-"""The story that the page tells when it is opened: its steps, what each says of the machine, and how it is closed for
+"""The story that the page shows when it is opened: its steps, what each says of the machine, and how it is closed for
 good."""
 import pytest
 

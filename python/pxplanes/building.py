@@ -60,7 +60,7 @@ class Solid(Expression):
     """A convex solid. Each plane is `(A, B, C)`; one of `fronts` or `backs` may have a colour of its own, as
     `(A, B, C, R, G, B)`. Without a name it gets one from its scene. What is given is not changed any more.
 
-    Face numbers go over the fronts and then the backs; `faces`, in place of both, has them in an order of one's own, as
+    Face numbers go over the fronts and then the backs; `faces`, in place of both, has them in your own order, as
     `("back", A, B, C)`. Raises `ValueError` and `TypeError`, which name the solid and the plane."""
 
     def __init__(self, *, fronts: Iterable[Numbers] = (), sides: Iterable[Numbers] = (), backs: Iterable[Numbers] = (),
@@ -119,7 +119,7 @@ class Scene:
     """A picture of `size` (width, height) that shows an expression. `depth` is the bits of a depth, or these and the fraction
     bits. `solids` are all solids in the order of the text; where they are not given, those of the expression as they come there.
 
-    `text` is the canonical text: `tidy` of the program gives it back. What a single solid does not tell, as too deep an
+    `text` is the canonical text: `tidy` of the program gives it back. What a single solid does not show, as too deep an
     expression, `render` refuses as it does with any text. Raises `ValueError` and `TypeError`, which name what is wrong."""
 
     def __init__(self, size: Numbers, depth: Union[int, Numbers], show: Expression, solids: Optional[Iterable[Solid]] = None):

@@ -23,7 +23,7 @@ HEARD: contextvars.ContextVar[list[str] | None] = contextvars.ContextVar("heard"
 
 
 def say(tool: str, line: object) -> None:
-    """Tells a line on standard error, or who listens."""
+    """Prints a line on standard error, or who listens."""
     listener = HEARD.get()
     if listener is None:
         print("%s: %s" % (tool, line), file=sys.stderr)

@@ -1,4 +1,4 @@
-"""Tells the words of a text apart by a TextMate grammar, as an editor does. Tests use it.
+"""Separates the words of a text by a TextMate grammar, as an editor does. Tests use it.
 
 What the grammars of editors/textmate use of the form is here, and no more: `match` with `captures`, `begin` without an end,
 `patterns` and `include` of another grammar."""

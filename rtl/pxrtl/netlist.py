@@ -83,7 +83,7 @@ class Netlist:
         return seen[bit]
 
     def made(self, bit, given, seen):
-        """What a cell makes of its inputs, where that can be said; else a name of its own."""
+        """What a cell makes of its inputs, where that can be said; otherwise a name of its own."""
         name, _, at = self.drivers[bit]
         cell = self.cells[name]
         take = lambda port: [self.value(it, given, seen) for it in cell["connections"][port]]

@@ -46,7 +46,7 @@ def is_quit(command: bytes) -> bool:
 
 
 class Answers:
-    """Tells the lines of a session's output apart: those of each command, one after another."""
+    """Separates the lines of a session's output: those of each command, one after another."""
 
     def __init__(self) -> None:
         self.now = 0

@@ -53,7 +53,7 @@ def greatest(lines: Any, x: float, y: float) -> Any:
 
 
 def visit(fronts: Any, backs: Any, box: Any, report: Any, is_none: Any) -> None:
-    """Tells of each pixel of a box its place, and what is greatest there of fronts and of backs; of a whole box in
+    """Reports of each pixel of a box its place, and what is greatest there of fronts and of backs; of a whole box in
     which no cell is the numbers of a front and a back that leave none."""
     (left, right), (top, bottom) = box
     if right - left + bottom - top > SMALL and len(fronts) + len(backs) > FEW:

@@ -172,7 +172,7 @@ def planes(points: kinds.Points, facets: kinds.Facets, numbers: Optional[Sequenc
     """The half-spaces `normal * p <= far` whose common part is the solid, each once, in the order
     of the facets. `Trouble` where it is flat, open or not convex. Where points are not exact, a facet may be off
     by what their last digits leave open, the more the slimmer it is and the farther a point is from it;
-    one that is too slim to tell its plane is passed over where the others close the solid without it."""
+    one that is too slim to give its plane is passed over where the others close the solid without it."""
     size, wide = extent(points)
     digit = (EXACT if is_exact else digit_of(points)) * size
     closed(facets)
@@ -202,7 +202,7 @@ def planes(points: kinds.Points, facets: kinds.Facets, numbers: Optional[Sequenc
     by_number = [plane for _, plane in sorted(found.planes)]
     for corners, normal, number in slim:
         if bulge(by_number, corners, normal) > SLIM * wide:
-            raise Trouble("has a facet too slim to tell its plane: facet %s" % number)
+            raise Trouble("has a facet too slim to give its plane: facet %s" % number)
     return by_number
 
 

@@ -104,7 +104,7 @@ pub(crate) fn ended(status: u32, found: &sys::Found) -> Result<()> {
     })
 }
 
-/// Calls with buffers of no element, and once more with as many as are due, where some are; what was found, and the buffers.
+/// Calls with buffers of no element, and once more with as many as are needed, where some are; what was found, and the buffers.
 pub(crate) fn filled<T: Clone + Default, const N: usize>(
     mut call: impl FnMut(&mut [Vec<T>; N], &mut sys::Found) -> u32,
 ) -> Result<(sys::Found, [Vec<T>; N])> {
