@@ -233,7 +233,7 @@ async function followAddress() {
   return true;
 }
 
-// Copies a link to what is shown, or shows it where the browser does not let the page copy. The address of a studio is for nobody else:
+// Copies a link to what is shown, or shows it where the browser does not let the page copy. The address of a studio is for its owner alone:
 // then the link is one to the file of the page.
 async function copyLink(isFrame) {
   const page = server.isServed() ? "pxplanes.html" : location.href.split(/[?#]/)[0], part = "#" + await link.packed(shown());

@@ -1,5 +1,4 @@
-"""The story that the page shows when it is opened: its steps, what each says of the machine, and how it is closed for
-good."""
+"""The story that the page shows when it is opened: its steps, what each says of the machine, and how it stays closed."""
 import pytest
 
 import pages

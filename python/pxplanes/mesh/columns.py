@@ -348,7 +348,7 @@ def first_inside(tree: Any, leaves: Sequence[Any], owner: Array, triangles: Tria
     Array, Array, Array]:
     """The same for an expression of closed meshes: at each pixel the first crossing after which the expression holds.
     A mesh is where its surface winds around a point. The third is the leaf that is at the near plane where the
-    expression holds there, else none."""
+    expression holds there, otherwise none."""
     parts = [(which, y * size[0] + x, triangles.depth(which, x, y)) for which, x, y in triangles.spans()]
     which, at, z = (np.concatenate(part) for part in zip(*parts)) if parts else (np.zeros(0, int),) * 3
     order = np.lexsort((triangles.way[which], z, at))
