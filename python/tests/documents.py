@@ -24,6 +24,7 @@ LINK = re.compile(r"\[[^\]]*\]\(([^)\s]+)\)")
 HEADING = re.compile(r"^#{1,6} (.+?) *$", re.M)
 NAMED = re.compile(r'\b(above|below|[\w/.]*?[A-Z_]+\.md)(?:\]\([^)]*\))?,? \(?((?:(?:, | and )?"[^"]+")+)')
 COMMENT = re.compile(r"\n *(?:///?!?|#|\*|%)? *")
+SPOKEN = re.compile(r'"""(.*?)"""|^\s*(?:\*|//[/!]?|/\*\*?|#!?) (.*?)$|  (?://|#|/\*) (.*?)$', re.M | re.S)
 SPAN = re.compile(r"`([^`\n]+)`")
 PLACE = re.compile(r"(?:tools|docs|crates|cases|gallery|suite|man|rtl|python|include|examples|editors|page)/[\w./-]*\w")
 TOOL = re.compile(r"(?:^|[\s(])(?:\./|\S*/)?(tools/[\w/]+|rtl/rtl|page/build|pxplanes(?: (?:%s)\b)?)(?=\s|$)" % "|".join(frame.WORDS))
@@ -60,7 +61,7 @@ MADE = ("examples/c/command",)
 MOST_WORDS = 800
 # The words that a paragraph and a cell of a table may have.
 PARAGRAPH_WORDS, CELL_WORDS = 90, 30
-# Words that documents do without, each with the plain one. They may be quoted, and headings that sources name keep theirs.
+# Words that documents and comments do without, each with the plain one. They may be quoted, and headings that sources name keep theirs.
 PLAIN = (
     (r"behind (?:a|the|its|their|each|every|that|this)? ?(?:end|gate|clock|scene|lines?|text|words?|feed|header|proofs?|step)\b", "after"),
     (r"\bbeside\b", "compared with, next to"), (r"\b(?:tells?|told)\b", "says, reports"), (r"\bwants\b", "needs"),
@@ -417,10 +418,16 @@ def wrong_size():
         yield "%s has %d words, and may have %d" % (README, words, MOST_WORDS)
 
 
+def comments(leaf):
+    """The comments and docstrings of a source."""
+    return " ".join(" ".join(filter(None, found.groups())) for found in SPOKEN.finditer(content(leaf)))
+
+
 def wrong_words():
-    """A word that a plain one can replace, outside of quotes, code and headings."""
-    for leaf in names():
-        text = re.sub(r'(?m)^#.*$|`[^`\n]*`|"[^"]*"|\]\([^)]*\)', " ", prose(leaf))
+    """A word that a plain one can replace, outside of quotes, code and headings: in documents, and in comments outside of crates/."""
+    texts = [(leaf, prose(leaf)) for leaf in names()] + [(leaf, comments(leaf)) for leaf in sources() if not leaf.startswith("crates/")]
+    for leaf, text in texts:
+        text = re.sub(r'(?m)^#.*$|`[^`\n]*`|"[^"]*"|\]\([^)]*\)', " ", text)
         for form, plain in PLAIN:
             for found in re.finditer(form, " ".join(text.split()), re.I):
                 yield "%s: %r; better is %r" % (leaf, found.group(), plain)
