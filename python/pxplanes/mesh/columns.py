@@ -151,7 +151,7 @@ class Before:
             self.most > distances.far)
 
     def why_empty(self) -> str:
-        return "nothing of the model is before the camera, or what is left of it is smaller than a pixel"
+        return "nothing of the model is before the camera, or the rest of it is smaller than a pixel"
 
 
 def portrait(leaves: Sequence[tuple[Any, bool]], turn: Sequence[float], fov: float) -> tuple[

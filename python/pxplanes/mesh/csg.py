@@ -335,7 +335,7 @@ class Reader:
         most = max((x for flat in flats for x, _ in flat.corners), default=0)
         angle = max(-360.0, min(360.0, found.get("angle", 360)))
         if least < 0:
-            raise self.bad("rotate_extrude of what is left of the axis is not read here", line, Untaken)
+            raise self.bad("rotate_extrude of what is at the left of the axis is not read here", line, Untaken)
         count = primitives.fragments(most, primitives.settings(found))
         count = max(int(count * abs(angle) / 360), 1)
         return solids.each(tree, lambda flat: joined("+", [

@@ -107,7 +107,7 @@ class Perspective:
     def why_empty(self) -> str:
         if not self.has_common:
             return "what the model intersects has no common part"
-        return "nothing of the model is before the camera, or what is left of it is smaller than a pixel"
+        return "nothing of the model is before the camera, or the rest of it is smaller than a pixel"
 
 
 def is_inside(tree: kinds.Tree, point: kinds.Vector) -> bool:

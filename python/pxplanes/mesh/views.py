@@ -71,7 +71,7 @@ class View:
             return "what the model intersects has no common part"
         if self.beyond():
             return "the model is beyond its edges"
-        return "nothing is left of the model, or what is left is smaller than a pixel"
+        return "nothing is left of the model, or the rest is smaller than a pixel"
 
 
 def box_of(rows: Any, points: Any) -> Any:
