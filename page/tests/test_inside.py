@@ -1,5 +1,5 @@
-"""What the page shows of one pixel against the library: the wires of its circuit, its way through the tree, the waveform
-of an operation; and the triangle that is dragged on the array."""
+"""What the page shows of one pixel against the library: the wires of its circuit, its way through the tree, the
+waveform of an operation; and the triangle that is dragged on the array."""
 import re
 from typing import Any
 

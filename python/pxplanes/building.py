@@ -19,8 +19,8 @@ Plane = Tuple[int, ...]
 
 
 class Expression:
-    """A set of cells. `a + b` has the cells of either side, `a * b` of both, `a - b` those of a that b lacks, and `a ^ b` those
-    of exactly one side."""
+    """A set of cells. `a + b` has the cells of either side, `a * b` of both, `a - b` those of a that b lacks, and `a
+    ^ b` those of exactly one side."""
 
     _tokens: Tuple[Union[str, Solid], ...]
 

@@ -149,8 +149,8 @@ def glued(words: list[str], with_word: Sequence[str]) -> list[str]:
 
 def options(words: Iterable[str], flags: Sequence[str], with_word: Sequence[str],
             repeated: Sequence[str] = ()) -> tuple[list[str], dict[str, Any]]:
-    """Splits words into the others and what the options say; `with_word` take the word after them, and so do those that may be repeated,
-    which give a list."""
+    """Splits words into the others and what the options say; `with_word` take the word after them, and so do those
+    that may be repeated, which give a list."""
     words = glued(list(words), (*with_word, *repeated))
     parser = Words(add_help=False, allow_abbrev=False, argument_default=argparse.SUPPRESS)
     for flag in flags:

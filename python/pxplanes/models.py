@@ -14,8 +14,8 @@ Numbers = Sequence[float]
 
 
 class Model(NamedTuple):
-    """The `text` of the scene, and what `pxplanes convert` says of it on standard error, line by line: how planes were rounded, what is cut off,
-    what was made of several solids."""
+    """The `text` of the scene, and what `pxplanes convert` says of it on standard error, line by line: how planes
+    were rounded, what is cut off, what was made of several solids."""
 
     text: str
     notes: tuple[str, ...]

@@ -1,5 +1,5 @@
-"""The documents compared with what they speak of: their links, the headings, places and options that they name, their tables of commands,
-statuses, causes, limits and clocks, and which of their blocks are runs. Tests use it.
+"""The documents compared with what they speak of: their links, the headings, places and options that they name, their
+tables of commands, statuses, causes, limits and clocks, and which of their blocks are runs. Tests use it.
 
 Each check yields what is wrong, a line each. Sources are read as text, by the few forms that are there."""
 import argparse

@@ -104,8 +104,8 @@ STARVED = ("one_solid", "difference_of_a_difference", "drilled_block", "debug_go
 
 
 def wrong_when_refused(under: counted.Counted, words: list[bytes], text: bytes) -> Iterator[str]:
-    """Refuses each request in turn. The program must then end with status 7, no output and at most the line `out of memory`; the run
-    in which none is refused must be as the first."""
+    """Refuses each request in turn. The program must then end with status 7, no output and at most the line `out of
+    memory`; the run in which none is refused must be as the first."""
     whole = under.run(words, text)
     for number in range(1, whole.requests + 2):
         run = under.run(words, text, number)
@@ -177,8 +177,8 @@ def ended_at(text: str, at: int) -> int:
 
 
 def asking(text: str) -> Iterator[str]:
-    """The calls of a source that ask for memory: those that always do, and those whose answer is looked at. An array that
-    asks for none has a `push` without an answer."""
+    """The calls of a source that ask for memory: those that always do, and those whose answer is looked at. An array
+    that asks for none has a `push` without an answer."""
     text = re.sub(r"(?m)^\s*//.*$", "", text)
     for found in re.finditer("%s|%s" % (WHOLE.pattern, ANSWERED.pattern), text):
         end = ended_at(text, found.start() + min(found[0].find(each) % 99 for each in "(["))

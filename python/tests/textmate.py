@@ -1,7 +1,7 @@
 """Separates the words of a text by a TextMate grammar, as an editor does. Tests use it.
 
-What the grammars of editors/textmate use of the form is here, and no more: `match` with `captures`, `begin` without an end,
-`patterns` and `include` of another grammar."""
+What the grammars of editors/textmate use of the form is here, and no more: `match` with `captures`, `begin` without
+an end, `patterns` and `include` of another grammar."""
 import json
 import os
 import re
