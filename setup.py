@@ -16,7 +16,7 @@ TAG = "py3", "none", "manylinux_2_17_x86_64"
 
 
 class WithLibrary(build_py):
-    """Copies the library, for newer processors too, and the page beside the modules."""
+    """Copies the library, for newer processors too, and the page next to the modules."""
 
     def run(self):
         super().run()

@@ -62,7 +62,7 @@
  *   - None prints, exits, keeps state or memory, starts a thread or opens a file. Calls are independent of one
  *     another, so any number of threads may make them at once, each with buffers of its own.
  *   - A call takes memory only by malloc and realloc, and gives all of it back before it returns.
- *   - A buffer is written with PXPLANES_OK alone: its front is what the call says, and what lies behind that stays
+ *   - A buffer is written with PXPLANES_OK alone: its front is what the call says, and what comes after that stays
  *     as it was. With every other status each buffer is as it was. *found and *state are written on every return.
  *   - The stack that a call needs does not depend on the text. Some 256 KiB are enough.
  */
@@ -195,7 +195,7 @@ uint32_t pxplanes_window(const uint8_t *text, size_t text_len, uint32_t x, uint3
                          struct pxplanes_found *found);
 
 /*
- * Draws a picture in colour: bytes 3 * (y * found.width + x) and the two behind it are red, green and blue of the
+ * Draws a picture in colour: bytes 3 * (y * found.width + x) and the two after it are red, green and blue of the
  * face that shows at (x, y), and black for the background.
  *
  * rgb has 3 * found.width * found.height bytes or more. Refusals are those of pxplanes_check.
@@ -213,7 +213,7 @@ struct pxplanes_numbered_face {
     uint32_t solid; /* its solid, from 1 in the order of their lines */
     uint32_t kind;  /* PXPLANES_FACE_NEAR, PXPLANES_FACE_FRONT or PXPLANES_FACE_BACK */
     uint32_t plane; /* which front or back of the solid it is, from 1 in the order of their lines; 0 for the near face */
-    uint32_t line;  /* the line of the text that gives it its number, from 1: the solid's for the near face, else the plane's */
+    uint32_t line;  /* the line of the text that gives it its number, from 1: the solid's for the near face, otherwise the plane's */
     uint32_t red;   /* its colour, each part from 0 to 255 */
     uint32_t green;
     uint32_t blue;
@@ -239,10 +239,10 @@ uint32_t pxplanes_face(const uint8_t *text, size_t text_len, uint32_t number, ui
  * Lists the products that are drawn, those that can show anything, in the order of the program's `plan`.
  *
  * A product is a row of solid numbers, counted from 1 in the order of their lines: first those of the solids that
- * its cells lie inside, rising, then, below 0, those of the solids that they lie outside, and a 0 behind them. So
- * "house - door" is 1 -2 0, and found.room numbers are due for all.
+ * its cells lie inside, rising, then, below 0, those of the solids that they lie outside, and a 0 after them. So
+ * "house - door" is 1 -2 0, and found.room numbers are needed for all.
  *
- * A text that is no scene is refused as by pxplanes_check; of the limits behind it, only that of "products" counts.
+ * A text that is no scene is refused as by pxplanes_check; of the limits after it, only that of "products" counts.
  * found.operations and found.clocks are 0.
  */
 uint32_t pxplanes_products(const uint8_t *text, size_t text_len, int32_t *literals, size_t literals_len,
@@ -251,7 +251,7 @@ uint32_t pxplanes_products(const uint8_t *text, size_t text_len, int32_t *litera
 /* Memory bits of a pixel of the machine. */
 #define PXPLANES_BITS 72
 
-/* Where the machine stands. pxplanes_state writes all fields on every return; with another status than OK each is 0. */
+/* Where the machine is. pxplanes_state writes all fields on every return; with another status than OK each is 0. */
 struct pxplanes_moment {
     uint32_t grid_width;      /* columns of the grid of pixels: 2, 4, .. 512 */
     uint32_t grid_height;     /* its rows: 2, 4, .. 512 */
@@ -268,7 +268,7 @@ struct pxplanes_moment {
 /*
  * Finds the machine after the first `clock` clocks of a scene or of a listing: a text whose first word is "pxlist"
  * is a listing, and every other one a scene. A listing is read for pixels of 72 memory bits. Clock 0 is before the
- * first broadcast, where every bit is 0, and clock found.clocks is behind the last.
+ * first broadcast, where every bit is 0, and clock found.clocks is after the last.
  *
  * words: found.room of them, or more: the bits of the machine, all in one list.
  *   - First PXPLANES_BITS + 4 planes, each of grid_height rows from row 0, each of words_per_row words from column 0:
@@ -276,11 +276,11 @@ struct pxplanes_moment {
  *     the pixel. Bit i of word w of a row is the pixel of column 64 * w + i, and 0 past the last column. So memory
  *     bit b of pixel (x, y) is
  *         words[((size_t) b * state.grid_height + y) * state.words_per_row + x / 64] >> x % 64 & 1
- *   - Then the outputs of all nodes of the tree, and behind them their carries, each (2^(levels + 1) + 63) / 64
+ *   - Then the outputs of all nodes of the tree, and after them their carries, each (2^(levels + 1) + 63) / 64
  *     words: node i of level k, with levels from 1, is bit (2^k + i) % 64 of word (2^k + i) / 64. Bits 0 and 1 are 0.
  *
  * The text is refused as by pxplanes_check, and a listing as docs/LISTINGS.md says, by the same numbers of causes and
- * by kinds of its own. NO_CLOCK is answered where clock is past the last, and else NO_ROOM. The room does not depend
+ * by kinds of its own. NO_CLOCK is answered where clock is past the last, and otherwise NO_ROOM. The room does not depend
  * on the clock. So for the first words of a scene:
  *
  *     struct pxplanes_moment state;
@@ -297,13 +297,13 @@ uint32_t pxplanes_state(const uint8_t *text, size_t text_len, uint64_t clock, ui
  * microinstruction in each element. With micros_len 0 nothing but found is written, and found.clocks is how many
  * there are.
  *
- *   bits 0 to 31   the place of memory that the act names, and else 0
+ *   bits 0 to 31   the place of memory that the act names, and otherwise 0
  *   bits 32 to 39  the act: 1 nop, 2 enable-all, 3 enable-carry, 4 enable-tree, 5 enable-bit, 6 set-carry, 7 fetch,
  *                  8 store-tree, 9 store-latch, 10 store-const, 11 toggle, 12 carry-tree, 13 carry-latch,
  *                  14 add-tree (docs/MACHINE.md, "The fourteen acts")
- *   bit 40         the value that it names, and else 0
+ *   bit 40         the value that it names, and otherwise 0
  *   bits 48, 49    what the tree does: 0 hold, 1 clear, 2 feed
- *   bits 56 to 58  the lines a, b and c of a feed, and else 0
+ *   bits 56 to 58  the lines a, b and c of a feed, and otherwise 0
  *
  * All other bits are 0, and no microinstruction is 0. Texts are read as by pxplanes_state. NO_CLOCK is answered
  * where first + micros_len is past the last clock; then no element is written. NO_ROOM is not answered.
@@ -346,7 +346,7 @@ struct pxplanes_operation {
  *          10 close: the other literal judges
  *          11 merge: a live candidate takes the place of the best where it is nearer
  *
- * A face stands with the roles 3, 4, 6 and 9, and another literal with 8, 9 and 10. Texts are read as by
+ * A face comes with the roles 3, 4, 6 and 9, and another literal with 8, 9 and 10. Texts are read as by
  * pxplanes_state. NO_OPERATION is answered where first + course_len is past the last operation; then no element is
  * written. NO_ROOM is not answered.
  */
@@ -360,12 +360,12 @@ uint32_t pxplanes_course(const uint8_t *text, size_t text_len, uint64_t first, s
  * PXPLANES_MEMORY is never answered.
  *
  * words: the state of a grid of grid_width by grid_height pixels, 2, 4, .. 512 each, in found.room words of them or
- *        more (with words_len 0 that is how to ask how many). With OK they hold the state behind the last clock; what
- *        lies behind them stays. Words that no state has (a bit set where no pixel or node stands, or leaves that are not the
+ *        more (with words_len 0 that is how to ask how many). With OK they hold the state after the last clock; what
+ *        comes after them stays. Words that no state has (a bit set where no pixel or node is, or leaves that are not the
  *        outputs of their nodes) give words of which nothing is promised.
  * micros: each names a place below PXPLANES_BITS where its act names one.
  *
- * NO_GRID is answered where a side is none of these; else NO_ROOM; else NO_MICRO, where an element packs no
+ * NO_GRID is answered where a side is none of these; otherwise NO_ROOM; otherwise NO_MICRO, where an element packs no
  * microinstruction, or names a place past the memory, with the index of the first. Then no word is written.
  */
 uint32_t pxplanes_clocks(uint64_t *words, size_t words_len, uint32_t grid_width, uint32_t grid_height,
@@ -376,12 +376,12 @@ uint32_t pxplanes_clocks(uint64_t *words, size_t words_len, uint32_t grid_width,
  * writes what it writes to its standard output, byte for byte.
  *
  * words: those of a command with spaces between them, as "tidy", "tile 1024 768", "refine 2", "shadow", "list", "play",
- *        "sample 20", or "debug" with its lines behind the scene (docs/DEBUGGER.md). No words are those of "render".
+ *        "sample 20", or "debug" with its lines after the scene (docs/DEBUGGER.md). No words are those of "render".
  * out:   the bytes of the output, found.room of them, from the front on.
  *
- * The text is refused as by the program: with MALFORMED and LIMIT found is what its note tells, and with USAGE the
+ * The text is refused as by the program: with MALFORMED and LIMIT found is what its note says, and with USAGE the
  * words name no command. `debug` is past a LIMIT where its lines are, though the program answers those before: then
- * nothing is written. NO_ROOM is answered behind the work, which is then done for nothing: so give room enough where it is
+ * nothing is written. NO_ROOM is answered after the work, which is then done for nothing: so give room enough where it is
  * known, as for an image of P6, 3 bytes a pixel and 20. `render` and `tile` write two of them, `colour`, `refine` and `shadow` one.
  *
  *     struct pxplanes_found found;
@@ -395,7 +395,7 @@ uint32_t pxplanes_run(const uint8_t *text, size_t text_len, const uint8_t *words
 
 /*
  * The word of found.cause, as "unexpected"; of found.kind, as "solids"; and the version of the library, as
- * "1.0.0". In ASCII, with no byte 0 behind it.
+ * "1.0.0". In ASCII, with no byte 0 after it.
  *
  * Each gives the length of the word, and writes it to the front of the buffer where it fits; where it does not,
  * nothing is written. A number that names nothing has a word of length 0. No word is longer than 16 bytes.

@@ -1,5 +1,5 @@
 /*
- * pxplanes.hpp: the calls of pxplanes.h from C++17 on. What each of them does is told there.
+ * pxplanes.hpp: the calls of pxplanes.h from C++17 on. pxplanes.h says what each of them does.
  *
  *     #include <iostream>
  *     #include <pxplanes.hpp>
@@ -111,13 +111,13 @@ public:
 
     /* PXPLANES_MALFORMED, PXPLANES_LIMIT, or another of pxplanes.h. */
     std::uint32_t status() const noexcept { return status_; }
-    /* The first bad line, or the one where a limit is passed; else 0. */
+    /* The first bad line, or the one where a limit is passed; otherwise 0. */
     std::uint32_t line() const noexcept { return found_.line; }
-    /* Why the line is bad, as "unexpected"; else empty. */
+    /* Why the line is bad, as "unexpected"; otherwise empty. */
     std::string cause() const { return cause_name(found_.cause); }
-    /* Which limit is passed, as "solids"; else empty. */
+    /* Which limit is passed, as "solids"; otherwise empty. */
     std::string kind() const { return kind_name(found_.kind); }
-    /* What was found where the limit is passed, or the index of what is no microinstruction; else 0. */
+    /* What was found where the limit is passed, or the index of what is no microinstruction; otherwise 0. */
     std::int64_t number() const noexcept { return found_.number; }
     /* All that the call found, as pxplanes.h lists it for each status. */
     const pxplanes_found &found() const noexcept { return found_; }
@@ -293,7 +293,7 @@ inline colours colour(std::string_view text)
     return drawn;
 }
 
-/* Writes the products that are drawn to a buffer of the caller's, a 0 behind each: pxplanes_products. */
+/* Writes the products that are drawn to a buffer of the caller's, a 0 after each: pxplanes_products. */
 inline void products(std::string_view text, std::int32_t *literals, std::size_t literals_size)
 {
     pxplanes_found found{};
@@ -432,13 +432,13 @@ inline void clocks(std::uint64_t *words, std::size_t words_size, std::uint32_t g
     detail::need(pxplanes_clocks(words, words_size, grid_width, grid_height, packed, packed_size, &found), found);
 }
 
-/* The planes of a state that lie behind its memory bits. */
+/* The planes of a state that come after its memory bits. */
 constexpr std::size_t enable = PXPLANES_BITS;
 constexpr std::size_t carry = PXPLANES_BITS + 1;
 constexpr std::size_t latch = PXPLANES_BITS + 2;
 constexpr std::size_t leaf = PXPLANES_BITS + 3;
 
-/* A state of the machine that is one's own: a value, to copy and to keep. */
+/* A state of the machine of your own: a value, to copy and to keep. */
 class state {
 public:
     /* The machine after the first clocks of a scene or of a listing. */
@@ -452,7 +452,7 @@ public:
         moment_ = read_state(text, clock, words_.data(), words_.size());
     }
 
-    /* Where it stands. Behind a clock of one's own, `operation`, `operation_clock` and `next_micro` are not known, and 0. */
+    /* Where it is. After a clock of your own, `operation`, `operation_clock` and `next_micro` are not known, and 0. */
     const pxplanes_moment &moment() const noexcept { return moment_; }
     /* Its words, as pxplanes_state lays them out. */
     const std::vector<std::uint64_t> &words() const noexcept { return words_; }

@@ -26,7 +26,7 @@ struct pxplanes_plane {
 
 enum pxplanes_kind { PXPLANES_FRONT, PXPLANES_BACK };
 
-/* A front or a back; it has a colour of its own where has_colour is not 0, and else that of its solid. In C++ its name is
+/* A front or a back; it has a colour of its own where has_colour is not 0, and otherwise that of its solid. In C++ its name is
  * `struct pxplanes_face`, since a call of pxplanes.h has the short one. */
 struct pxplanes_face {
     enum pxplanes_kind kind;
@@ -136,7 +136,7 @@ static inline int pxplanes_overlaps_(const char *word, const char *text, size_t 
 }
 
 /*
- * Writes "(left sign right)", with a 0 behind it, and gives its length without the 0. Where room is not more than that, the
+ * Writes "(left sign right)", with a 0 after it, and gives its length without the 0. Where room is not more than that, the
  * buffer has the empty text, if it has room for any. The sign is '+', '*', '-' or '^'; both sides are names, or were joined
  * in another buffer. If the sign is another one, or a side is null or overlaps the buffer, it gives 0 and writes nothing.
  */

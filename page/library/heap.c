@@ -1,9 +1,9 @@
 /*
  * Memory for the library where there is no C library: the three functions by which it asks, and two for whoever calls it.
  *
- * A block stands in a class of sizes, four of them to each doubling, so that at most a fifth of it lies idle. What is freed waits in
+ * A block is in a class of sizes, four of them to each doubling, so that at most a fifth of it lies idle. What is freed waits in
  * its class for the next block of that class; what is not there is cut from the end of all. Each block begins at a multiple of 16,
- * behind a word that names its class. Where the machine gives no more memory the answer says so, and nothing else changes.
+ * after a word that names its class. Where the machine gives no more memory the answer says so, and nothing else changes.
  */
 #ifdef __wasm__
 /* (the kit has no headers for this target) */
@@ -30,7 +30,7 @@ static uintptr_t heap_start(void)
     return (uintptr_t) &__heap_base;
 }
 
-/* The end of memory, grown by a few pages at least where that is possible, so that `end` lies before it; else as it was. */
+/* The end of memory, grown by a few pages at least where that is possible, so that `end` lies before it; otherwise as it was. */
 static uintptr_t heap_end(uintptr_t end)
 {
     uint64_t pages = __builtin_wasm_memory_size(0), due = (end + PAGE - 1) / PAGE;

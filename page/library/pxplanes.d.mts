@@ -171,7 +171,7 @@ export function lacking(): string | null;
 
 /**
  * The library, of the bytes of pxplanes.wasm, a module compiled of them, a response with them, their address, or a promise of one of these;
- * without it, of the file pxplanes.wasm beside this module.
+ * without it, of the file pxplanes.wasm next to this module.
  */
 type Source = BufferSource | WebAssembly.Module | Response | Blob | URL | string;
 export function load(source?: Source | Promise<Source>): Promise<Library>;

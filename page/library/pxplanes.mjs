@@ -39,7 +39,7 @@ export function lacking() {
 }
 
 // The library, of the bytes of pxplanes.wasm, a module compiled of them, a response with them, their address, or a promise of one of
-// these; without it, of the file pxplanes.wasm beside this one.
+// these; without it, of the file pxplanes.wasm next to this one.
 export async function load(source = new URL("./pxplanes.wasm", import.meta.url)) {
   const why = lacking();
   if (why) throw new Error(why);
@@ -202,16 +202,16 @@ export class Library {
   run(text, words = "render") {
     const bytes = bytesOf(text), asked = bytesOf(words, "words");
     for (let room = ROOM; ;) {
-      const {status, told, output} = this.#with([bytes.length, asked.length, room, FOUND], ([text, words, out, found]) => {
+      const {status, details, output} = this.#with([bytes.length, asked.length, room, FOUND], ([text, words, out, found]) => {
         this.#put(text, bytes);
         this.#put(words, asked);
         const status = this.#calls.pxplanes_run(...[text, bytes.length, words, asked.length, out, room, found].map(BigInt));
-        const told = this.#found(found);
-        return {status, told, output: status === STATUS.ok ? this.#copy(Uint8Array, out, told.room) : null};
+        const details = this.#found(found);
+        return {status, details, output: status === STATUS.ok ? this.#copy(Uint8Array, out, details.room) : null};
       });
       if (output) return output;
-      if (status !== STATUS.room) throw this.#refusal(status, told);
-      room = told.room;
+      if (status !== STATUS.room) throw this.#refusal(status, details);
+      room = details.room;
     }
   }
 
@@ -264,9 +264,9 @@ export class Library {
       this.#put(place, bytes);
       const given = places.flatMap((each, at) => [each, buffers[at][0] / buffers[at][1]]);
       const status = this.#calls["pxplanes_" + name](...whole([place, bytes.length]), ...numbers, ...whole([...given, ...written, found]));
-      const told = this.#found(found);
-      if (status !== STATUS.ok) throw this.#refusal(status, told);
-      return answer(told, places);
+      const details = this.#found(found);
+      if (status !== STATUS.ok) throw this.#refusal(status, details);
+      return answer(details, places);
     });
   }
 

@@ -1,4 +1,4 @@
-// Numbers of the text that are dragged: by a grip beside the one under the pointer, or with Alt and the arrows the one at the cursor; and
+// Numbers of the text that are dragged: by a grip next to the one under the pointer, or with Alt and the arrows the one at the cursor; and
 // the lines of a solid over the picture. The text changes when the one before is drawn, so that the picture follows.
 import {drawn, made} from "./show.js";
 

@@ -1,4 +1,4 @@
-// Along the edges of the array, the numbers whose sums the tree makes: A*x + C of each column above it and B*y of each row beside it, in
+// Along the edges of the array, the numbers whose sums the tree makes: A*x + C of each column above it and B*y of each row next to it, in
 // binary, the lowest bit next to the array. They run in bit by bit: the leaf of a pixel is the bit of their sum that is marked. Bits that
 // are as the highest one, the sign, are left out; the highest one is marked for all of them.
 import {packed} from "./palette.js";
@@ -6,7 +6,7 @@ import {made, put} from "./show.js";
 
 const ROOM = 120, LEAST = 2, MOST = 9;
 // Of a bit that has run in, the one that the leaves show, and one to come: its colours as 0 and as 1.
-const [BEHIND, NOW, TO_COME] = [[[24, 30, 40], [255, 255, 255]], [[110, 60, 10], [255, 160, 40]], [[28, 30, 34], [92, 98, 108]]]
+const [DONE, NOW, TO_COME] = [[[24, 30, 40], [255, 255, 255]], [[110, 60, 10], [255, 160, 40]], [[28, 30, 34], [92, 98, 108]]]
   .map(pair => pair.map(packed));
 
 const bitOf = (number, bit) => Math.abs(Math.floor(number / 2 ** bit) % 2);
@@ -58,7 +58,7 @@ function fill(canvas, width, height, place, now) {
   const pixels = new Uint32Array(width * height);
   for (let at = 0; at < pixels.length; at++) {
     const [number, bit] = place(at % width, Math.floor(at / width));
-    pixels[at] = (bit < now ? BEHIND : bit === now ? NOW : TO_COME)[bitOf(number, bit)];
+    pixels[at] = (bit < now ? DONE : bit === now ? NOW : TO_COME)[bitOf(number, bit)];
   }
   put(canvas, pixels);
 }
@@ -70,5 +70,5 @@ export const binary = (number, bits) => Array.from({length: bits}, (_, at) => bi
 export function saidOf({form: [a, b, c], bits, now}, [x, y]) {
   const column = a * x + c, row = b * y, sum = column + row, shown = Math.min(bits, Math.max(0, now + 1));
   const own = shown ? `; ${shown === 1 ? "its lowest bit has" : `its lowest ${shown} bits have`} run in: ${binary(sum, shown)}` : "; no bit has run in yet";
-  return `${a}*${x} + ${c} = ${column} above, ${b}*${y} = ${row} beside: the sum is ${sum}${own}`.replaceAll("+ -", "- ");
+  return `${a}*${x} + ${c} = ${column} above, ${b}*${y} = ${row} at the left: the sum is ${sum}${own}`.replaceAll("+ -", "- ");
 }

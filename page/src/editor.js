@@ -1,4 +1,4 @@
-// The editor: CodeMirror, with the colours of solids and faces beside their lines, and a mark and what is wrong at the line that is refused.
+// The editor: CodeMirror, with the colours of solids and faces next to their lines, and a mark and what is wrong at the line that is refused.
 import CodeMirror from "codemirror/lib/codemirror.js";
 import "codemirror/addon/dialog/dialog.js";
 import "codemirror/addon/edit/matchbrackets.js";
@@ -98,7 +98,7 @@ export class Editor {
   // Puts words in the place of some columns of a line; changes of one `origin` that follow each other are undone together.
   write(row, [from, to], words, origin = "+input") { this.code.replaceRange(words, {line: row, ch: from}, {line: row, ch: to}, origin); }
 
-  // The colours that the lines in sight give, each beside its number.
+  // The colours that the lines in sight give, each next to its number.
   chips() {
     const {code} = this, {from, to} = code.getViewport(), last = Math.min(to, code.lineCount());
     code.operation(() => {

@@ -1,4 +1,4 @@
-// What the page holds beside its modules: packed, the library and what it offers; and a scene of its own.
+// What the page holds in addition to its modules: packed, the library and what it offers; and a scene of its own.
 import {unpacked as opened} from "./pack.js";
 
 const at = id => document.getElementById(id);

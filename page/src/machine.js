@@ -21,7 +21,7 @@ const GAP = 4, PICTURE = "best colours", FIRST_VIEW = "enable";
 export class Machine {
   constructor(tell) {
     Object.assign(this, {tell, text: null, head: null, course: null, state: null, before: null, pixel: null});
-    // What is shown large, and what beside it: names of views; none beside it is "".
+    // What is shown large, and what next to it: names of views; none next to it is "".
     Object.assign(this, {view: PICTURE, beside: "", wanted: 0, frames: 0});
     this.player = new Player(this);
     this.strip = new Strip(clock => this.go(clock), tell);
@@ -251,7 +251,7 @@ export class Machine {
 
   viewNamed(name) { return this.views.find(view => view.name === name); }
 
-  // Shows a view large, or beside the one that is.
+  // Shows a view large, or next to the one that is.
   choose(name, isBeside) {
     this[isBeside ? "beside" : "view"] = isBeside && name === this.beside ? "" : name;
     this.paint();

@@ -26,7 +26,7 @@ import {at} from "./show.js";
 const main = document.querySelector("main");
 const TABS = ["write", "machine", "compare", "lesson"], PARTS = ["write", "machine", "compare"];
 const MODELS = ["csg", "off", "stl"], TEXTS = ["scene", "listing"];
-const LARGEST_DROP = 1 << 26, TOLD = 6000, SMALLEST = 12, LARGEST = 30, FIRST = "first", NOTHING = "none";
+const LARGEST_DROP = 1 << 26, NOTICE_MS = 6000, SMALLEST = 12, LARGEST = 30, FIRST = "first", NOTHING = "none";
 // What a page opens by itself, and how it is shown then: in the midst of being drawn, and going on.
 const OPENING = "letters", SIGHT = {view: "best colours", beside: "", isPlayed: "pass", share: 0.55, pixel: [60, 180]};
 
@@ -163,7 +163,7 @@ async function saveHere(now, text, suggestedName) {
   }
 }
 
-// A model becomes a scene, a text is opened, and all else is taken for another renderer's map.
+// A model becomes a scene, a text is opened, and everything that remains is taken for another renderer's map.
 async function dropped(file) {
   const name = file.name.replace(/\.\w+$/, ""), kind = file.name.split(".").pop().toLowerCase();
   if (file.size > LARGEST_DROP) throw new Trouble(`${file.name} is larger than ${LARGEST_DROP >> 20} MiB`);
@@ -233,7 +233,7 @@ async function followAddress() {
   return true;
 }
 
-// Copies a link to what is shown, or shows it where the browser does not let the page copy. The address of a studio is for nobody else:
+// Copies a link to what is shown, or shows it where the browser does not let the page copy. The address of a studio is for its owner alone:
 // then the link is one to the file of the page.
 async function copyLink(isFrame) {
   const page = server.isServed() ? "pxplanes.html" : location.href.split(/[?#]/)[0], part = "#" + await link.packed(shown());
@@ -302,7 +302,7 @@ function note(words, isTrouble = false) {
   notice.textContent = words;
   notice.hidden = false;
   clearTimeout(note.timer);
-  note.timer = setTimeout(() => { notice.hidden = true; }, TOLD);
+  note.timer = setTimeout(() => { notice.hidden = true; }, NOTICE_MS);
 }
 
 function choose(tab) {
@@ -370,7 +370,7 @@ async function opened(scenes) {
   if (own || isLinked) return;
   if (served && isDraft) texts.choose(texts.open[0]);
   if (served || isDraft) return;
-  if (!remembered().isTold && page.story.begin(1)) return;
+  if (!remembered().hasSeenStory && page.story.begin(1)) return;
   open(name, text, SIGHT);
   choose("machine");
 }
@@ -411,7 +411,7 @@ async function start() {
     () => { open(untouched("new", BOX), BOX); choose("write"); editor.focus(); }, tell);
   at("version").textContent = `Version ${given.version}.`;
   page.scenes = given.gallery;
-  page.story = new Story(showStep, () => remember({isTold: true}));
+  page.story = new Story(showStep, () => remember({hasSeenStory: true}));
   at("tell").addEventListener("click", () => page.story.begin(1));
   page.lesson = new Lesson(given.lesson, ({name, text, view, pixel}, clock, isOpen) => {
     if (isOpen && page.tab === "machine" && machine.text === text && texts.text === text) return machine.go(clock);

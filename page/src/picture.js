@@ -1,4 +1,4 @@
-// The picture beside the text: drawn again at each change, with a pixel and its ray.
+// The picture next to the text: drawn again at each change, with a pixel and its ray.
 import {Trouble, ask, latest} from "./ask.js";
 import {css, greys, hue} from "./palette.js";
 import {choice} from "./rove.js";

@@ -16,7 +16,7 @@ export class Screen {
     this.inner = null;
     // The scale that was chosen; null where the image is as large as there is room for.
     this.zoom = null;
-    // What stays free beside and above the image, and what is called each time it was placed.
+    // What stays free next to and above the image, and what is called each time it was placed.
     this.margins = [0, 0];
     this.whenPlaced = [];
     [this.mark, this.frame] = ["mark", "frame"].map(name => this.stage.appendChild(made("div", name)));

@@ -2,7 +2,7 @@
 import * as drafts from "./drafts.js";
 import {at, made} from "./show.js";
 
-// At most so many tabs are in sight; the texts that were shown longest ago are in a list beside them.
+// At most so many tabs are in sight; the texts that were shown longest ago are in a list next to them.
 const KEPT_AFTER = 400, IN_SIGHT = 8;
 
 // How the lines of a text end: an editor knows line feeds alone.
@@ -129,7 +129,7 @@ export class Texts {
     this.label();
   }
 
-  // Takes what stood there before the draft.
+  // Takes what was there before the draft.
   asItWas(own = this.now) {
     own.isDraft = false;
     this.editor.replace(own.doc, own.endings.lines.join("\n"));

@@ -8,7 +8,7 @@ const CAPTION = 13, LEAST = 33, GAP = 4, COARSE = 64;
 const GROUPS = ["", "key B", "key T", "rest"];
 
 export class Wall {
-  // `onChoose` is called with the name of a view, and whether it is shown beside the large one.
+  // `onChoose` is called with the name of a view, and whether it is shown next to the large one.
   constructor(root, onChoose) {
     // (each image is drawn on `page` at the array's size, and from there on the wall's sheet)
     Object.assign(this, {root, onChoose, tiles: [], of: null, shown: null, page: made("canvas"), sheet: made("canvas", "sheet")});

@@ -108,5 +108,5 @@ class Firefox:
         raise Trouble("in %d seconds it did not come: %s" % (seconds, script))
 
     def faults(self) -> list[str]:
-        """Firefox tells this protocol of none."""
+        """Firefox reports none by this protocol."""
         return []

@@ -1,7 +1,7 @@
 /*
- * Checks of heap.c in a process of one's own, as `cc -fsanitize=address,undefined heap_check.c heap.c` builds it: blocks that live at
- * one time lie apart, inside the memory that there is, at multiples of 16; they keep what stands in them, moved ones too; want of
- * memory is told, and ends with what is freed; and what is freed serves again. It ends with 1 at the first thing that is wrong.
+ * Checks of heap.c in a process of its own, as `cc -fsanitize=address,undefined heap_check.c heap.c` builds it: blocks that live at
+ * one time lie apart, inside the memory that there is, at multiples of 16; they keep what is in them, moved ones too; being out of
+ * memory is reported, and ends with what is freed; and what is freed serves again. It ends with 1 at the first thing that is wrong.
  */
 #include <stdint.h>
 #include <stdio.h>
@@ -57,7 +57,7 @@ static void need(int is_so, const char *what)
 static void looked_at(unsigned which)
 {
     for (uint64_t at = 0; at < living[which].size; at++)
-        need(living[which].block[at] == living[which].sign, "a block keeps what stands in it");
+        need(living[which].block[at] == living[which].sign, "a block keeps what is in it");
 }
 
 static void put(unsigned which, void *block, uint64_t size)
@@ -127,14 +127,14 @@ int main(void)
     need(!rattle_alloc(16, 4096).ok, "an alignment past 16 is refused");
     while (count < 64 && (blocks[count] = px_malloc(1 << 20)) != NULL)
         count++;
-    need(count > 0 && count < 64, "want of memory is told");
+    need(count > 0 && count < 64, "being out of memory is reported");
     memset(blocks[0], 7, 1 << 20);
     answer = rattle_realloc(blocks[0], 1 << 20, 1 << 23, 8);
     need(!answer.ok && *(unsigned char *) blocks[0] == 7, "a block that cannot grow stays");
     px_free(NULL);
     while (count > 0)
         px_free(blocks[--count]);
-    need(px_malloc(1 << 20) != NULL, "want of memory ends with what is freed");
+    need(px_malloc(1 << 20) != NULL, "being out of memory ends with what is freed");
     free(memory);
     puts("the heap is well");
     return 0;

@@ -51,10 +51,10 @@ const calls = [...Object.entries(CALLS).map(([name, words]) => [px, name, words]
 const FIELDS = ["words", "width", "height"];
 
 // The bytes of an answer, as a text to compare.
-const told = value => JSON.stringify(value, (_, own) => typeof own === "bigint" ? String(own) : ArrayBuffer.isView(own) ? Array.from(own, String).join() : own);
+const shownAs = value => JSON.stringify(value, (_, own) => typeof own === "bigint" ? String(own) : ArrayBuffer.isView(own) ? Array.from(own, String).join() : own);
 const RIGHT = [() => px.render(text), () => px.window(text, 20, 9, 8, 8), () => px.colour(text), () => px.state(text, 3000).words, () => px.clocks(state, packed), () => px.products(text), () => px.run(text, "cost"),
   () => machine.state(2999).words, () => px.counts(text)];
-const right = RIGHT.map(call => told(call())), outcomes = {}, failures = [];
+const right = RIGHT.map(call => shownAs(call())), outcomes = {}, failures = [];
 
 function all() {
   drawn = Number(seed);
@@ -73,7 +73,7 @@ function one(at) {
     if (!["TypeError", "RangeError", "Refused"].includes(outcome) || !error.message) failures.push(`${name}, argument ${place}: ${error?.stack}`);
   }
   outcomes[outcome] = (outcomes[outcome] ?? 0) + 1;
-  if (at % EVERY === 0 && RIGHT.some((call, which) => told(call()) !== right[which])) failures.push(`${name}, argument ${place}: another answer after it`);
+  if (at % EVERY === 0 && RIGHT.some((call, which) => shownAs(call()) !== right[which])) failures.push(`${name}, argument ${place}: another answer after it`);
 }
 
 const [first, second] = [all(), all()];

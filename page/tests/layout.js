@@ -49,7 +49,7 @@
     const pen = document.createElement("canvas").getContext("2d");
     pen.font = style.font;
     const words = pen.measureText(each.selectedOptions[0]?.textContent ?? "").width;
-    // (a select has its arrow beside the words)
+    // (a select has its arrow next to the words)
     const needed = words + 2 * parseFloat(style.paddingLeft) + 18;
     if (needed > each.clientWidth + 1) found.add(`${nameOf(each)} is cut: ${Math.round(needed)} in ${each.clientWidth}`);
   }
@@ -57,7 +57,7 @@
   function isBeside(each) {
     const {left, right} = each.getBoundingClientRect();
     if ((left < -1 || right > innerWidth + 1) && !each.closest(HELD))
-      found.add(`${nameOf(each)} is beside the window: ${Math.round(left)} to ${Math.round(right)}`);
+      found.add(`${nameOf(each)} is outside the window: ${Math.round(left)} to ${Math.round(right)}`);
   }
 
   function scrolls(each) {

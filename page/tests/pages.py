@@ -23,15 +23,15 @@ def link(path: str, tab: str = "write", **more: Any) -> str:
     return "#" + base64.urlsafe_b64encode(packed).decode().rstrip("=")
 
 
-def alone(page: AnyBrowser, path: str = PAGE, behind: str | None = None) -> str:
+def alone(page: AnyBrowser, path: str = PAGE, fragment: str | None = None) -> str:
     """Opens the page as a file, with the first scene of the documents or what its address says, and waits until the
     text is drawn or refused."""
-    behind = link(FIRST) if behind is None else behind
+    fragment = link(FIRST) if fragment is None else fragment
     if not os.path.isfile(path):
         raise Trouble("there is no page at %s; tools/package --web makes it" % path)
     # (a page that is open at this address would stay)
     page.open("about:blank")
-    page.open("file://" + os.path.abspath(path) + behind)
+    page.open("file://" + os.path.abspath(path) + fragment)
     return str(page.until("document.body.dataset.drawn !== 'no' && document.body.dataset.drawn"))
 
 

@@ -1,4 +1,4 @@
-"""The page in Firefox: it draws, shows the machine, tells the story, and takes what is written in the editor."""
+"""The page in Firefox: it draws, shows the machine, shows the story, and takes what is written in the editor."""
 import shutil
 from typing import Iterator
 
@@ -17,9 +17,9 @@ def firefox() -> Iterator[Firefox]:
         yield own
 
 
-def opened(page: Firefox, behind: str) -> None:
+def opened(page: Firefox, fragment: str) -> None:
     page.open("about:blank")
-    page.open("file://" + pages.PAGE + behind)
+    page.open("file://" + pages.PAGE + fragment)
     page.until("document.body?.dataset.drawn === 'yes'")
 
 

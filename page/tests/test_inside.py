@@ -1,5 +1,5 @@
-"""What the page shows of one pixel against the library: the wires of its circuit, its way through the tree, the waveform
-of an operation; and the triangle that is dragged on the array."""
+"""What the page shows of one pixel against the library: the wires of its circuit, its way through the tree, the
+waveform of an operation; and the triangle that is dragged on the array."""
 import re
 from typing import Any
 
@@ -36,9 +36,9 @@ ROWS = """() => [...document.querySelectorAll("table.way tr")].slice(1).map(row 
   [...row.children].map(cell => cell.textContent).concat(row.querySelector(".now")?.textContent ?? ""))"""
 
 
-def opened(page: Browser, behind: str) -> None:
+def opened(page: Browser, fragment: str) -> None:
     page.open("about:blank")
-    page.open("file://" + pages.PAGE + behind)
+    page.open("file://" + pages.PAGE + fragment)
     page.until("document.body.dataset.drawn === 'yes' && document.body.dataset.shown")
 
 

@@ -63,7 +63,7 @@ def browser() -> Iterator[Browser]:
 @pytest.mark.parametrize("width, height", SIZES)
 def test_nothing_overlaps_or_is_cut(browser: Browser, width: int, height: int, dark: bool, letters: int) -> None:
     browser.size(width, height, dark)
-    pages.alone(browser, behind=link(HOUSE, "machine", clock=40000, view="best colours", pixel=[48, 74]))
+    pages.alone(browser, fragment=link(HOUSE, "machine", clock=40000, view="best colours", pixel=[48, 74]))
     browser.run("document.activeElement.blur()")
     enlarge(browser, "larger", letters)
     findings = []

@@ -106,7 +106,7 @@ def host(place: Path) -> Iterator[str]:
     server.shutdown()
 
 
-@pytest.mark.parametrize("with_wasm", [True, False], ids=["in the bundle", "beside it"])
+@pytest.mark.parametrize("with_wasm", [True, False], ids=["in the bundle", "next to it"])
 def test_a_bundle_in_a_page_and_in_a_worker(chromium: Browser, place: Path, host: str, with_wasm: bool) -> None:
     bytes_of = 'import wasm from "pxplanes/pxplanes.wasm";' if with_wasm else "const wasm = undefined;"
     fetched = "said(wasm, await (await fetch('first.scene')).text())"

@@ -231,8 +231,8 @@ WALKED = """() => {
 
 
 def test_the_tab_key_goes_through_the_machine_in_order_and_is_seen(page: Browser) -> None:
-    """From the choice of a view over the triangle and its corners to the parts of a pixel and the transport; what has the focus is in
-    the page, and has an outline. A group of radio buttons is one stop."""
+    """From the choice of a view over the triangle and its corners to the parts of a pixel and the transport; what
+    has the focus is in the page, and has an outline. A group of radio buttons is one stop."""
     page.call("Emulation.setFocusEmulationEnabled", enabled=True)
     shown(page, "circuit")
     page.run("document.getElementById('view').focus()")
@@ -310,8 +310,8 @@ ROWS = """clocks => {
 
 
 def test_the_time_line_has_rows_of_solids_literals_and_clocks(page: Browser) -> None:
-    """The first scene draws pyramid * - shaft and then bar: three literals. A solid's bar has its colour, and of neighbours among the
-    literals, and among the clocks, one is darker."""
+    """The first scene draws pyramid * - shaft and then bar: three literals. A solid's bar has its colour, and of
+    neighbours among the literals, and among the clocks, one is darker."""
     page.run("document.activeElement.blur()")
     page.press("2")
     page.until("document.body.dataset.shown")

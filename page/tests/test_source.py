@@ -39,10 +39,10 @@ def test_the_syntax_is_that_of_the_oldest_browsers(part: str) -> None:
     """esbuild, which writes what these browsers read, finds nothing to warn of, and nothing to write otherwise."""
     found = re.search(r'<script type="[a-z/]+" id="%s">\n(.*?)</script>' % part, web_page.read(web_page.PAGE), re.S)
     assert found
-    told = [subprocess.run(["esbuild", "--minify", "--log-level=warning", "--target=" + target], input=found.group(1), capture_output=True, text=True)
+    runs = [subprocess.run(["esbuild", "--minify", "--log-level=warning", "--target=" + target], input=found.group(1), capture_output=True, text=True)
             for target in (",".join(web_page.OLDEST), "esnext")]
-    assert [(run.returncode, run.stderr) for run in told] == [(0, "")] * 2
-    assert told[0].stdout == told[1].stdout
+    assert [(run.returncode, run.stderr) for run in runs] == [(0, "")] * 2
+    assert runs[0].stdout == runs[1].stdout
 
 
 @pytest.mark.skipif(shutil.which("wasm-validate") is None, reason="there is no wasm-validate")
@@ -104,7 +104,7 @@ def test_the_page_runs_without_what_the_oldest_browsers_lack(older: Browser) -> 
     assert older.run("document.getElementById('keys').getBoundingClientRect().height") == 0
     pages.click(older, "[data-take=link]")
     link = older.until("document.body.dataset.link")
-    pages.alone(older, behind="#" + link.split("#")[1])
+    pages.alone(older, fragment="#" + link.split("#")[1])
     with open(FIRST, encoding="utf-8") as file:
         assert pages.source(older) == file.read()
     assert older.faults() == []

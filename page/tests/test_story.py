@@ -1,5 +1,4 @@
-"""The story that the page tells when it is opened: its steps, what each says of the machine, and how it is closed for
-good."""
+"""The story that the page shows when it is opened: its steps, what each says of the machine, and how it stays closed."""
 import pytest
 
 import pages
@@ -13,9 +12,9 @@ ONES = """view => {
 }"""
 
 
-def opened(page: Browser, behind: str = "") -> None:
+def opened(page: Browser, fragment: str = "") -> None:
     page.open("about:blank")
-    page.open("file://" + pages.PAGE + behind)
+    page.open("file://" + pages.PAGE + fragment)
     page.until("document.body.dataset.drawn === 'yes' && document.body.dataset.shown")
 
 
@@ -83,7 +82,7 @@ def test_the_letters_clocks_are_the_librarys(page: Browser) -> None:
     page.until("document.body.dataset.shown === '%d'" % found["clocks"])
 
 
-def test_an_edited_text_is_not_told(page: Browser) -> None:
+def test_the_story_leaves_an_edited_text_alone(page: Browser) -> None:
     pages.alone(page)
     pages.choose(page, "- shaft)")
     pages.written(page, "+ shaft)")

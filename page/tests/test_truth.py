@@ -1,4 +1,4 @@
-"""Whether what the page shows is true at each moment: of the text that stands, of the pixel under the pointer, of what
+"""Whether what the page shows is true at each moment: of the present text, of the pixel under the pointer, of what
 was copied and saved."""
 import struct
 import zlib
@@ -76,7 +76,7 @@ def test_a_refused_file_is_said_on_each_tab(page: Browser, part: str) -> None:
 def test_a_page_that_opens_a_refused_text_says_so(page: Browser, tmp_path: Path) -> None:
     path = tmp_path / "bad.scene"
     path.write_text("pxscen 1\n")
-    assert alone(page, behind=link(str(path))) == "refused"
+    assert alone(page, fragment=link(str(path))) == "refused"
     assert "not-header" in text_of(page, "#write .refusal")
     assert not page.run("document.getElementById('picture').checkVisibility({checkVisibilityCSS: true})")
 
@@ -192,8 +192,8 @@ def test_two_maps_are_compared_without_a_scene(page: Browser, tmp_path: Path) ->
 def test_other_forms_are_refused_by_name(page: Browser, name: str, content: bytes, said: str) -> None:
     page.run("delete document.body.dataset.compared")
     drop(page, name, content)
-    told = page.until("document.body.dataset.compared")
-    assert said in told and "`pxplanes compare` reads it" in told
+    reported = page.until("document.body.dataset.compared")
+    assert said in reported and "`pxplanes compare` reads it" in reported
 
 
 @pytest.mark.parametrize("clipboard", ["undefined", "{writeText: () => Promise.reject(new DOMException('no', "
@@ -240,10 +240,10 @@ def test_what_a_link_says_wrongly_is_named(page: Browser, more: dict[str, object
     page.until(DRAWN)
 
 
-@pytest.mark.parametrize("behind", ["#eJyrVkrOSS0", "#s=nothing", "#e=99"])
-def test_a_damaged_link_is_named(page: Browser, behind: str) -> None:
+@pytest.mark.parametrize("fragment", ["#eJyrVkrOSS0", "#s=nothing", "#e=99"])
+def test_a_damaged_link_is_named(page: Browser, fragment: str) -> None:
     page.open("about:blank")
-    page.open("file://" + pages.PAGE + behind)
+    page.open("file://" + pages.PAGE + fragment)
     assert "wrong" in (said := page.until("document.getElementById('notice') && " + NOTICE)) or "damaged" in said
     assert page.until(DRAWN) == "yes"
 

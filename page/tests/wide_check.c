@@ -1,6 +1,6 @@
 /*
- * Checks wide.c beside the compiler's own products, as `cc -DWIDE_PRODUCT=wide_product wide_check.c wide.c` builds it: numbers at the
- * edges of their halves, each with each, and a million by lot. It ends with 1 at the first product that differs.
+ * Checks wide.c against the compiler's own products, as `cc -DWIDE_PRODUCT=wide_product wide_check.c wide.c` builds it: numbers at the
+ * edges of their halves, each with each, and a million random ones. It ends with 1 at the first product that differs.
  */
 #include <stdint.h>
 #include <stdio.h>

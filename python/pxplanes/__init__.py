@@ -4,10 +4,10 @@
     picture = pxplanes.render(pxplanes.from_file("docs/scenes/first.scene"))
     picture.depths[16, 24]      # the depth at x 24, y 16: rows from the top come first
 
-A text is `str`, `bytes` or a `Scene`; in examples `text` is that of docs/scenes/first.scene. What is not accepted raises `Malformed` or `Limit`, with the first bad line. Arrays are those of
-NumPy where it is there, and `memoryview`s of the same shape and numbers else. Calls keep nothing, and may be made by several
-threads at once. docs/SCENES.md has the language, docs/MACHINE.md the machine.
-"""
+A text is `str`, `bytes` or a `Scene`; in examples `text` is that of docs/scenes/first.scene. What is not accepted
+raises `Malformed` or `Limit`, with the first bad line. Arrays are those of NumPy where it is there, and
+`memoryview`s of the same shape and numbers otherwise. Calls keep nothing, and may be made by several threads at
+once. docs/SCENES.md has the language, docs/MACHINE.md the machine."""
 from .building import Expression, Scene, Solid
 from .calls import from_file
 from .commands import listing, play, refine, shadow, tidy, tile

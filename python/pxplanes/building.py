@@ -19,8 +19,8 @@ Plane = Tuple[int, ...]
 
 
 class Expression:
-    """A set of cells. `a + b` has the cells of either side, `a * b` of both, `a - b` those of a that b lacks, and `a ^ b` those
-    of exactly one side."""
+    """A set of cells. `a + b` has the cells of either side, `a * b` of both, `a - b` those of a that b lacks, and `a
+    ^ b` those of exactly one side."""
 
     _tokens: Tuple[Union[str, Solid], ...]
 
@@ -44,7 +44,7 @@ class Expression:
 
     @property
     def solids(self) -> List[Solid]:
-        """Its solids, each once, in the order in which they stand in it."""
+        """Its solids, each once, in their order in it."""
         return list(dict.fromkeys(token for token in self._tokens if isinstance(token, Solid)))
 
 
@@ -60,7 +60,7 @@ class Solid(Expression):
     """A convex solid. Each plane is `(A, B, C)`; one of `fronts` or `backs` may have a colour of its own, as
     `(A, B, C, R, G, B)`. Without a name it gets one from its scene. What is given is not changed any more.
 
-    Face numbers go over the fronts and then the backs; `faces`, in place of both, has them in an order of one's own, as
+    Face numbers go over the fronts and then the backs; `faces`, in place of both, has them in your own order, as
     `("back", A, B, C)`. Raises `ValueError` and `TypeError`, which name the solid and the plane."""
 
     def __init__(self, *, fronts: Iterable[Numbers] = (), sides: Iterable[Numbers] = (), backs: Iterable[Numbers] = (),
@@ -76,7 +76,7 @@ class Solid(Expression):
         kinds += [("back", plane, "backs[%d]" % at) for at, plane in enumerate(listed(backs, self.called("backs")))]
         own = listed(faces, self.called("faces"))
         if own and kinds:
-            raise ValueError("%s stands beside fronts or backs" % self.called("faces"))
+            raise ValueError("%s are given together with fronts or backs" % self.called("faces"))
         for at, face in enumerate(own):
             kind, *plane = listed(face, self.called("faces[%d]" % at)) or [None]
             if kind not in ("front", "back"):
@@ -119,7 +119,7 @@ class Scene:
     """A picture of `size` (width, height) that shows an expression. `depth` is the bits of a depth, or these and the fraction
     bits. `solids` are all solids in the order of the text; where they are not given, those of the expression as they come there.
 
-    `text` is the canonical text: `tidy` of the program gives it back. What a single solid does not tell, as too deep an
+    `text` is the canonical text: `tidy` of the program gives it back. What a single solid does not show, as too deep an
     expression, `render` refuses as it does with any text. Raises `ValueError` and `TypeError`, which name what is wrong."""
 
     def __init__(self, size: Numbers, depth: Union[int, Numbers], show: Expression, solids: Optional[Iterable[Solid]] = None):
@@ -181,7 +181,7 @@ def named(solids: Sequence[Solid]) -> dict[Solid, str]:
     given = [solid.name for solid in dict.fromkeys(solids) if solid.name]
     twice = next((name for at, name in enumerate(given) if name in given[:at]), None)
     if twice or len(dict.fromkeys(solids)) < len(solids):
-        raise ValueError("two solids are named %s" % twice if twice else "a solid stands twice in solids")
+        raise ValueError("two solids are named %s" % twice if twice else "a solid comes twice in solids")
     free = (name for name in map("s%d".__mod__, itertools.count(1)) if name not in given)
     return {solid: solid.name or next(free) for solid in solids}
 

@@ -34,7 +34,7 @@ class Found(ctypes.Structure):
 
 
 class FoundState(ctypes.Structure):
-    """`struct pxplanes_moment`: what stands beside the words of a state."""
+    """`struct pxplanes_moment`: what comes with the words of a state."""
 
     _fields_ = [(name, c_uint32) for name in ("grid_width", "grid_height", "words_per_row", "bits", "levels")] + [
         (name, c_uint64) for name in ("clock", "clocks", "operation", "operation_clock", "next_micro")]

@@ -16,14 +16,14 @@ from pxplanes.errors import Trouble
 
 HERE = os.path.dirname(os.path.abspath(__file__))
 TOP = os.path.dirname(os.path.dirname(HERE))
-# The page: beside these modules in a wheel, otherwise in the checkout or where it is installed.
+# The page: next to these modules in a wheel, otherwise in the checkout or where it is installed.
 PAGE = next(filter(os.path.isfile, [os.path.join(HERE, "pxplanes.html")]), os.path.join(TOP, "page", "pxplanes.html"))
 TROUBLE = 2
 HEARD: contextvars.ContextVar[list[str] | None] = contextvars.ContextVar("heard", default=None)
 
 
 def say(tool: str, line: object) -> None:
-    """Tells a line on standard error, or who listens."""
+    """Prints a line on standard error, or who listens."""
     listener = HEARD.get()
     if listener is None:
         print("%s: %s" % (tool, line), file=sys.stderr)
@@ -57,17 +57,17 @@ def replaced(path: str, content: bytes) -> None:
     place, mask = os.path.realpath(path), os.umask(0o077)
     os.umask(mask)
     mode = os.stat(place).st_mode & 0o7777 if os.path.exists(place) else 0o666 & ~mask
-    handle, beside = tempfile.mkstemp(prefix=".px-", dir=os.path.dirname(place))
+    handle, written = tempfile.mkstemp(prefix=".px-", dir=os.path.dirname(place))
     os.close(handle)
     try:
-        with open(beside, "wb") as file:
+        with open(written, "wb") as file:
             file.write(content)
             file.flush()
             os.fchmod(file.fileno(), mode)
             os.fsync(file.fileno())
-        os.replace(beside, place)
+        os.replace(written, place)
     except BaseException:
-        os.unlink(beside)
+        os.unlink(written)
         raise
 
 
@@ -125,12 +125,12 @@ def jobs(word: str | None) -> int:
     if word is None:
         return os.cpu_count() or 1
     if not word.isdigit() or int(word) == 0:
-        raise Trouble("--jobs wants a number from 1 on, and not %s" % word)
+        raise Trouble("--jobs needs a number from 1 on, and not %s" % word)
     return int(word)
 
 
 class Words(argparse.ArgumentParser):
-    """The words of a tool; bad ones are told in one line, as all else that goes wrong."""
+    """The words of a tool; bad ones are reported in one line, as everything that goes wrong."""
 
     def error(self, message: str) -> NoReturn:
         unknown = re.match(r"unrecognized arguments: (--\S+)", message)
@@ -140,7 +140,7 @@ class Words(argparse.ArgumentParser):
 
 
 def glued(words: list[str], with_word: Sequence[str]) -> list[str]:
-    """The words with a number below 0 behind its option in one word, so that it is no option itself."""
+    """The words with a number below 0 after its option in one word, so that it is no option itself."""
     for at in range(len(words) - 2, -1, -1):
         if words[at] in with_word and re.match(r"-[.\d]", words[at + 1]):
             words[at:at + 2] = ["%s=%s" % (words[at], words[at + 1])]
@@ -149,8 +149,8 @@ def glued(words: list[str], with_word: Sequence[str]) -> list[str]:
 
 def options(words: Iterable[str], flags: Sequence[str], with_word: Sequence[str],
             repeated: Sequence[str] = ()) -> tuple[list[str], dict[str, Any]]:
-    """Splits words into the others and what the options say; `with_word` take the word behind, and so do those that may be repeated,
-    which give a list."""
+    """Splits words into the others and what the options say; `with_word` take the word after them, and so do those
+    that may be repeated, which give a list."""
     words = glued(list(words), (*with_word, *repeated))
     parser = Words(add_help=False, allow_abbrev=False, argument_default=argparse.SUPPRESS)
     for flag in flags:

@@ -7,9 +7,9 @@ class NoLibrary(OSError):
 
 
 class Refused(ValueError):
-    """A text is not accepted. `line` is the first bad line, counted from 1, and 0 where it has none; `str` of it is the
-    program's own note, as `malformed line 7: unknown-name`. The program ends with `status` for it, and writes `said` to its standard
-    error."""
+    """A text is not accepted. `line` is the first bad line, counted from 1, and 0 where it has none; `str` of it is
+    the program's own note, as `malformed line 7: unknown-name`. The program ends with `status` for it, and writes
+    `said` to its standard error."""
 
     line = 0
     status: int
@@ -32,8 +32,8 @@ class NoCommand(Refused):
 
 
 class Malformed(Refused):
-    """A line is not of the language. `cause` is the word of docs/SCENES.md, "Refusals", as `unknown-name`. Behind the note `str`
-    of it has a `hint`, where the text seems to be the name of a file."""
+    """A line is not of the language. `cause` is the word of docs/SCENES.md, "Refusals", as `unknown-name`. After the
+    note `str` of it has a `hint`, where the text seems to be the name of a file."""
 
     hint = ""
     status = 3

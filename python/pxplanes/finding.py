@@ -27,13 +27,13 @@ def is_newer() -> bool:
 
 
 def for_processor(place: str) -> str:
-    """A library, or the one beside it that is built for this processor."""
+    """A library, or the one next to it that is built for this processor."""
     newer = os.path.join(os.path.dirname(place), NEWER, os.path.basename(place))
     return newer if os.path.exists(newer) and is_newer() else place
 
 
 def places() -> Iterator[str]:
-    """Where the library may be: as the environment says, beside this module, in the checkout, where
+    """Where the library may be: as the environment says, next to this module, in the checkout, where
     tools/install puts it, in the system."""
     if os.environ.get(VARIABLE):
         yield os.environ[VARIABLE]

@@ -1,6 +1,6 @@
 """Scenes of models: OpenSCAD's .csg and .scad, and solids as OFF, STL, OBJ, PLY, 3MF or glTF, as `pxplanes convert` makes them (docs/MODELLING.md).
 
-Not proved: planes are rounded to whole numbers. Hulls want scipy or OpenSCAD, and .scad OpenSCAD."""
+Not proved: planes are rounded to whole numbers. Hulls need scipy or OpenSCAD, and .scad OpenSCAD."""
 from __future__ import annotations
 
 import os
@@ -14,8 +14,8 @@ Numbers = Sequence[float]
 
 
 class Model(NamedTuple):
-    """The `text` of the scene, and what `pxplanes convert` says of it on standard error, line by line: how planes were rounded, what is cut off,
-    what was made of several solids."""
+    """The `text` of the scene, and what `pxplanes convert` says of it on standard error, line by line: how planes
+    were rounded, what is cut off, what was made of several solids."""
 
     text: str
     notes: tuple[str, ...]

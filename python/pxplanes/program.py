@@ -22,7 +22,7 @@ SLOW = 2 * 10 ** 9
 
 
 def newer_of(path: str) -> str | None:
-    """The build for newer processors beside a program; None where there is none, or an older one."""
+    """The build for newer processors next to a program; None where there is none, or an older one."""
     newer = path + NEWER_END
     return newer if os.access(newer, os.X_OK) and os.path.getmtime(path) <= os.path.getmtime(newer) else None
 

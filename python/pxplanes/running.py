@@ -73,20 +73,20 @@ def heard(call: Callable[[], T], clocks: int, progress: Optional[Progress] = Non
     return answer
 
 
-def done(name: str, text: Text, before: tuple[Any, ...], buffers: list[Buffer], behind: tuple[Any, ...] = (),
+def done(name: str, text: Text, before: tuple[Any, ...], buffers: list[Buffer], after: tuple[Any, ...] = (),
          clocks: int = 0, progress: Optional[Progress] = None) -> tuple[int, Found]:
     """What a call finds, as `asked` gives it, if it makes so many clocks."""
     given = [word for each in buffers for word in each.given()]
-    return heard(lambda: asked(name, text, *before, *given, *behind), clocks, progress)
+    return heard(lambda: asked(name, text, *before, *given, *after), clocks, progress)
 
 
-def filled(name: str, kind: str, text: Text, *before: Any, behind: tuple[Any, ...] = (),
+def filled(name: str, kind: str, text: Text, *before: Any, after: tuple[Any, ...] = (),
            clocks: int = 0) -> tuple[Buffer, Found]:
     """The buffer of a call that makes so many clocks, which it filled."""
-    buffer, (status, found) = Buffer(kind, 0), asked(name, text, *before, None, 0, *behind)
+    buffer, (status, found) = Buffer(kind, 0), asked(name, text, *before, None, 0, *after)
     while status != OK:
         buffer = Buffer(kind, found.room)
-        status, found = done(name, text, before, [buffer], behind, clocks)
+        status, found = done(name, text, before, [buffer], after, clocks)
     return buffer, found
 
 

@@ -33,8 +33,8 @@ SLOW = ("test_case", "test_runs", "test_golden_maps_of_the_suite", "test_only_th
 
 @pytest.hookimpl(trylast=True)
 def pytest_collection_modifyitems(items):
-    """Spreads what is slow over the processes, so that each begins with its share. xdist gives each process a piece of the list first,
-    of this size, and the rest bit by bit."""
+    """Spreads what is slow over the processes, so that each begins with its share. xdist gives each process a piece
+    of the list first, of this size, and the rest bit by bit."""
     count = int(os.environ.get("PYTEST_XDIST_WORKER_COUNT", "1"))
     slow, quick = ([item for item in items if (item.originalname in SLOW) == is_slow] for is_slow in (True, False))
     piece, ordered = max(len(items) // count // 4, 2), []

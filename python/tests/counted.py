@@ -1,4 +1,4 @@
-"""Runs the built program under a small library that stands before malloc and its kin. Tests use it.
+"""Runs the built program under a small library that comes before malloc and its kin. Tests use it.
 
 The library counts all requests for memory, and can refuse one of them."""
 import os
@@ -13,7 +13,7 @@ from pxplanes.errors import Trouble
 SECONDS = 600
 STARVED = 7
 RECORD = struct.Struct("4Q")
-# It writes to the file of STARVE_TOLD, at each call: how many requests there were, whether it refused the one of the
+# It writes to the file of STARVE_RECORD, at each call: how many requests there were, whether it refused the one of the
 # number in STARVE_AT, whether the system refused one, and the bytes of the largest.
 LIBRARY = r"""
 #include <errno.h>
@@ -23,21 +23,21 @@ LIBRARY = r"""
 #include <sys/mman.h>
 void *__libc_malloc(size_t), *__libc_calloc(size_t, size_t), *__libc_realloc(void *, size_t);
 void *__libc_memalign(size_t, size_t);
-static uint64_t before[4], *told = before, at;
+static uint64_t before[4], *record = before, at;
 __attribute__((constructor)) static void start(void) {
     at = strtoul(getenv("STARVE_AT"), 0, 10);
-    told = mmap(0, sizeof before, PROT_READ | PROT_WRITE, MAP_SHARED, open(getenv("STARVE_TOLD"), O_RDWR), 0);
-    if (told == MAP_FAILED) abort();
+    record = mmap(0, sizeof before, PROT_READ | PROT_WRITE, MAP_SHARED, open(getenv("STARVE_RECORD"), O_RDWR), 0);
+    if (record == MAP_FAILED) abort();
 }
 static int is_refused(size_t n) {
-    if (told != before && n > told[3]) told[3] = n;
-    if (told == before || ++told[0] != at) return 0;
-    told[1] = 1;
+    if (record != before && n > record[3]) record[3] = n;
+    if (record == before || ++record[0] != at) return 0;
+    record[1] = 1;
     errno = ENOMEM;
     return 1;
 }
 static void *given(void *p) {
-    if (!p) told[2] = 1;
+    if (!p) record[2] = 1;
     return p;
 }
 void *malloc(size_t n) { return is_refused(n) ? 0 : given(__libc_malloc(n)); }
@@ -66,7 +66,7 @@ class Run:
     is_refused_by_system: bool
     largest: int
 
-    def told(self) -> str:
+    def described(self) -> str:
         if self.status is None:
             return "no answer: %s" % self.note
         return "status %d, %d bytes, note %r" % (self.status, len(self.output), self.note[:80])
@@ -87,14 +87,14 @@ class Counted:
 
     def run(self, words: list[str] | list[bytes], text: bytes, refused: int = 0) -> Run:
         """Runs it on words and an input; the request of the number `refused` is refused, from 1 on."""
-        with tempfile.NamedTemporaryFile(dir=self.folder) as told:
-            told.truncate(RECORD.size)
-            environment = {"LD_PRELOAD": self.library, "STARVE_AT": str(refused), "STARVE_TOLD": told.name}
+        with tempfile.NamedTemporaryFile(dir=self.folder) as record:
+            record.truncate(RECORD.size)
+            environment = {"LD_PRELOAD": self.library, "STARVE_AT": str(refused), "STARVE_RECORD": record.name}
             command = [self.program, *words]
             try:
                 done = subprocess.run(command, input=text, capture_output=True, env=environment, timeout=SECONDS)
             except subprocess.TimeoutExpired:
                 return Run(None, b"", "none in %d seconds" % SECONDS, 0, True, False, 0)
-            requests, by_library, by_system, largest = RECORD.unpack(told.read(RECORD.size))
+            requests, by_library, by_system, largest = RECORD.unpack(record.read(RECORD.size))
         note = done.stderr.decode("latin-1")
         return Run(done.returncode, done.stdout, note, requests, bool(by_library), bool(by_system), largest)

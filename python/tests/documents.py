@@ -1,7 +1,7 @@
-"""The documents compared with what they speak of: their links, the headings, places and options that they name, their tables of commands,
-statuses, causes, limits and clocks, and which of their blocks are runs. Tests use it.
+"""The documents compared with what they speak of: their links, the headings, places and options that they name, their
+tables of commands, statuses, causes, limits and clocks, and which of their blocks are runs. Tests use it.
 
-Each check yields what is wrong, a line each. Sources are read as text, by the few forms that stand there."""
+Each check yields what is wrong, a line each. Sources are read as text, by the few forms that are there."""
 import argparse
 import functools
 import math
@@ -24,6 +24,7 @@ LINK = re.compile(r"\[[^\]]*\]\(([^)\s]+)\)")
 HEADING = re.compile(r"^#{1,6} (.+?) *$", re.M)
 NAMED = re.compile(r'\b(above|below|[\w/.]*?[A-Z_]+\.md)(?:\]\([^)]*\))?,? \(?((?:(?:, | and )?"[^"]+")+)')
 COMMENT = re.compile(r"\n *(?:///?!?|#|\*|%)? *")
+SPOKEN = re.compile(r'"""(.*?)"""|^\s*(?:\*|//[/!]?|/\*\*?|#!?) (.*?)$|  (?://|#|/\*) (.*?)$', re.M | re.S)
 SPAN = re.compile(r"`([^`\n]+)`")
 PLACE = re.compile(r"(?:tools|docs|crates|cases|gallery|suite|man|rtl|python|include|examples|editors|page)/[\w./-]*\w")
 TOOL = re.compile(r"(?:^|[\s(])(?:\./|\S*/)?(tools/[\w/]+|rtl/rtl|page/build|pxplanes(?: (?:%s)\b)?)(?=\s|$)" % "|".join(frame.WORDS))
@@ -36,11 +37,11 @@ NOT_RUN = {
     ("docs/INSTALL.md", "sudo apt install"): "it installs; the case debian_in_a_chroot installs those packages, and draws with them",
     ("docs/INSTALL.md", "tools/install --prefix"): "it installs; the cases package_of_all and package_wheel do",
     ("docs/INSTALL.md", ".ci/run"): "it is the gate",
-    ("docs/INSTALL.md", "tools/package --source"): "it wants a gate; the case debian_from_source does it",
-    ("docs/MODELLING.md", "openscad --preview"): "it wants a display",
+    ("docs/INSTALL.md", "tools/package --source"): "it needs a gate; the case debian_from_source does it",
+    ("docs/MODELLING.md", "openscad --preview"): "it needs a display",
     ("docs/LIBRARY.md", "./pxplanes --library"): "it proves; the case wrapper_library begins it, and package_of_* and python_* do the rest",
     ("rust/README.md", "tools/package"): "it writes into the checkout's package/; the case rust_crates does both",
-    ("docs/SCALE.md", "./pxplanes batch poster gallery/house.scene 16384"): "it writes 1.6 GB; the case wide_beside_tile writes less",
+    ("docs/SCALE.md", "./pxplanes batch poster gallery/house.scene 16384"): "it writes 1.6 GB; the case poster_against_tile writes less",
     ("docs/STUDIO.md", "./pxplanes view --serve my.scene"): "it serves until it is ended; the cases studio_* do it",
 }
 # What a pixel's memory, an operation and a grid may be, by the places in the sources that say so.
@@ -55,12 +56,12 @@ RTL_WORDS = ("check", "prove", "marks", "draw", "simulate-board", "send", "fpga"
 OF_LIGHTS = ("unexpected", "word-count", "bad-name", "unknown-name")
 OF_SCENES_ALONE = ("bad-name", "second-name", "bad-expression", "unknown-name", "missing-end")
 OWN_TROUBLE = "1"
-# What a document names, and a command that stands beside it makes.
+# What a document names, and a command next to it makes.
 MADE = ("examples/c/command",)
 MOST_WORDS = 800
 # The words that a paragraph and a cell of a table may have.
 PARAGRAPH_WORDS, CELL_WORDS = 90, 30
-# Words that documents do without, each with the plain one. They may be quoted, and headings that sources name keep theirs.
+# Words that documents and comments do without, each with the plain one. They may be quoted, and headings that sources name keep theirs.
 PLAIN = (
     (r"behind (?:a|the|its|their|each|every|that|this)? ?(?:end|gate|clock|scene|lines?|text|words?|feed|header|proofs?|step)\b", "after"),
     (r"\bbeside\b", "compared with, next to"), (r"\b(?:tells?|told)\b", "says, reports"), (r"\bwants\b", "needs"),
@@ -204,7 +205,7 @@ def options_in(parser):
 
 
 def commands_in(leaf):
-    """The commands that a document shows, each without what stands behind a sign of the shell."""
+    """The commands that a document shows, each without what comes after a sign of the shell."""
     shown = SPAN.findall(prose(leaf)) + [line for _, block in FENCED.findall(content(leaf)) for line in block.split("\n")
                                          if COMMAND.match(line)]
     shown += [line for block in INDENTED.findall(content(leaf)) for line in block.split("\n")]
@@ -273,13 +274,13 @@ def wrong_commands():
     """The commands as the usage line, the words of the program, the tables, the manual and the wrapper have them."""
     due = [words.split()[0] for words in re.search(r"\[(.*)\]", usage()).group(1).split("|")]
     first = [SPAN.findall(row[0])[0].split()[0] for row in rows(SCENES, "Commands")]
-    told = re.search(r"(?s)Use: pxplanes.*?\n\n(.*?)\n\n", content(WRAPPER)).group(1)
+    listed = re.search(r"(?s)Use: pxplanes.*?\n\n(.*?)\n\n", content(WRAPPER)).group(1)
     manual = re.search(r"(?m)^\.Op Cm (.*)$", content(MAN)).group(1)
     found = (("crates/px_commands", re.findall(r'word == b"([a-z]+)"', content("crates/px_commands/src/command_words.rt"))),
              (SCENES, first + ["sample"] * bool(re.search(r"(?m)^`sample N`", content(SCENES)))),
              (MAN, re.findall(r"(?m)^\.It Cm (\w+)", content(MAN))),
              (MAN + ", synopsis", [each.split()[0] for each in manual.split(" | ")]),
-             (WRAPPER + " --help", [word for line in told.split("\n") for word in re.match(
+             (WRAPPER + " --help", [word for line in listed.split("\n") for word in re.match(
                  r" *((?:\w+, )*\w+)", line).group(1).split(", ")]),
              (WRAPPER, re.search(r"for command in (.*); do", content(WRAPPER)).group(1).split()))
     for what, has in found:
@@ -314,9 +315,9 @@ def wrong_causes():
     """The words of causes and limits in the tables, as the program prints them."""
     of = lambda table, cell: [word for row in table for word in SPAN.findall(row[cell])]
     listed = [row[0].strip("`").lower() for row in rows("docs/LISTINGS.md", "Limits")]
-    limits_told = of(rows(SCENES, "Limits")[:-4], 2)
+    limits_listed = of(rows(SCENES, "Limits"), 2)
     yield from difference(SCENES + ", Causes", of(rows(SCENES, "Causes"), 0) + ["missing-end"], words_of("cause_word"))
-    yield from difference(SCENES + ", Limits", limits_told, words_of("scene_word"))
+    yield from difference(SCENES + ", Limits", limits_listed, words_of("scene_word"))
     yield from difference("docs/LISTINGS.md, Limits", listed, words_of("list_word"))
     yield from difference("docs/LISTINGS.md, Refusals", of(rows("docs/LISTINGS.md", "Refusals"), 0), [
         each for each in words_of("cause_word") if each not in OF_SCENES_ALONE])
@@ -360,7 +361,7 @@ def wrong_limits():
 
 
 def wrong_clocks():
-    """A row of the table of operations whose clocks are others than those of the tools, which the checks hold beside the program."""
+    """A row of the table of operations whose clocks are others than those of the tools, which the checks compare with the program."""
     for cells in rows("docs/MACHINE.md", "Microprograms"):
         for name in re.findall(r"`(\w+)", cells[0]):
             word = re.sub(r"(?<=[a-z])(?=[A-Z])", "-", name).lower()
@@ -381,17 +382,17 @@ def wrong_operations():
     lines = [span for row in rows("docs/LISTINGS.md", "Operations") for span in SPAN.findall(row[0])]
     yield from difference("docs/LISTINGS.md", lines, [list_cures.form_of(word) for word in list_cures.FORMS])
     spoken = re.findall(r'word == b"([a-z]+)"', content("crates/px_debug/src/command.rt"))
-    told = [row[0].strip("`").split()[0] for row in rows("docs/DEBUGGER.md", "Lines") if "`" in row[0]]
-    yield from difference("docs/DEBUGGER.md", told, spoken)
+    shown = [row[0].strip("`").split()[0] for row in rows("docs/DEBUGGER.md", "Lines") if "`" in row[0]]
+    yield from difference("docs/DEBUGGER.md", shown, spoken)
 
 
 def wrong_lists():
     """A tool that tools/README.md does not name."""
-    told = content("tools/README.md")
+    named = content("tools/README.md")
     for folder, form in (("tools", "`tools/%s"), ("tools/dev", "`%s`")):
         for leaf in sorted(os.listdir(os.path.join(ends.TOP, folder))):
             path = os.path.join(ends.TOP, folder, leaf)
-            if os.path.isfile(path) and os.access(path, os.X_OK) and form % leaf not in told:
+            if os.path.isfile(path) and os.access(path, os.X_OK) and form % leaf not in named:
                 yield "tools/README.md names no %s" % leaf
 
 
@@ -401,7 +402,7 @@ def wrong_times():
         yield "%s does not say how long the first proof takes" % README
     for leaf in names() + [MAN]:
         if leaf not in (README, "CHANGES.md") and re.search(r"\d+ to \d+ minutes", content(leaf)):
-            yield "%s tells minutes, which %s does" % (leaf, README)
+            yield "%s says minutes, which %s does" % (leaf, README)
 
 
 def wrong_rooms():
@@ -417,10 +418,16 @@ def wrong_size():
         yield "%s has %d words, and may have %d" % (README, words, MOST_WORDS)
 
 
+def comments(leaf):
+    """The comments and docstrings of a source."""
+    return " ".join(" ".join(filter(None, found.groups())) for found in SPOKEN.finditer(content(leaf)))
+
+
 def wrong_words():
-    """A word that a plain one can replace, outside of quotes, code and headings."""
-    for leaf in names():
-        text = re.sub(r'(?m)^#.*$|`[^`\n]*`|"[^"]*"|\]\([^)]*\)', " ", prose(leaf))
+    """A word that a plain one can replace, outside of quotes, code and headings: in documents, and in comments outside of crates/."""
+    texts = [(leaf, prose(leaf)) for leaf in names()] + [(leaf, comments(leaf)) for leaf in sources() if not leaf.startswith("crates/")]
+    for leaf, text in texts:
+        text = re.sub(r'(?m)^#.*$|`[^`\n]*`|"[^"]*"|\]\([^)]*\)', " ", text)
         for form, plain in PLAIN:
             for found in re.finditer(form, " ".join(text.split()), re.I):
                 yield "%s: %r; better is %r" % (leaf, found.group(), plain)

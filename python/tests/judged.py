@@ -57,7 +57,7 @@ def joined(draw, depth):
 
 
 def turn(draw):
-    """One in three stands square, so that faces meet."""
+    """One in three is square, so that faces meet."""
     if draw.random() < 0.34:
         return "rotate([0, 0, %d]) " % draw.choice((0, 90, 180))
     return "rotate([%d, %d, %d]) " % tuple(draw.randint(-90, 90) for _ in range(3))
@@ -294,16 +294,16 @@ def word_of(path, way, words, folder, camera, ends, away, triangles):
             cells = 2 ** int(re.search(r"^depth (\d+)", scene.read(), re.M).group(1)) - 1
     else:
         cells = int((re.findall(r"cells of (\d+)", said) or [4095])[-1])
-    told = [float(number) for number in re.findall(r"rounded by (?:at most )?([-+.e\d]+) cells", said)]
+    rounded = [float(number) for number in re.findall(r"rounded by (?:at most )?([-+.e\d]+) cells", said)]
     depths = depths_of(maps)
     lens = lens_of(camera, ends, cells, depths, away)
-    room = (1 if camera.perspective else 1.6) + sum(told)
+    room = (1 if camera.perspective else 1.6) + sum(rounded)
     bad, there = ray_judge.wrong_pixels(depths, cells, away, lens, room)
-    # at a steep face behind an edge the rays around a pixel are not near enough: what is wrong is so by nearer ones too
+    # at a steep face after an edge the rays around a pixel are not near enough: what is wrong is so by nearer ones too
     if bad:
         nearer = ray_judge.nearest(triangles, camera, SIZE, NEARER)
         bad = sorted(set(bad) & set(ray_judge.wrong_pixels(depths, cells, nearer, lens, room)[0]))
-    row.update(pixels=there, rounded=sum(told), columns="drawn by columns" in said)
+    row.update(pixels=there, rounded=sum(rounded), columns="drawn by columns" in said)
     if bad:
         x, y = bad[0] % SIZE[0], bad[0] // SIZE[0]
         return {**row, "word": "wrong", "why": "%d of %d pixels, the first x %d, y %d: %d, and not %s" % (

@@ -59,11 +59,11 @@ def edges(scene: scenes.Scene, face: Face) -> Iterator[tuple[Form, str]]:
             words = "at or behind" if face.is_front else "at or before"
             words = words[6:] if at < own else words
             yield (less(first.plane, second.plane, int(at < own)),
-                   "keep the pixels where %s stands %s %s" % (face.of_solid(), words, each.said))
+                   "keep the pixels where %s is %s %s" % (face.of_solid(), words, each.said))
     for each in other:
         front, back = (face, each) if face.is_front else (each, face)
         yield (less(back.plane, front.plane, 1),
-               "keep the pixels where %s stands %s %s" % (face.of_solid(), "before" if face.is_front else "behind", each.said))
+               "keep the pixels where %s is %s %s" % (face.of_solid(), "before" if face.is_front else "behind", each.said))
 
 
 class Passes:
@@ -123,7 +123,7 @@ class Passes:
         if fraction:
             yield "load-const", (self.deep[0], fraction, 0), "the cell at it or behind it: no fraction in key T"
         yield "load-const", (self.length, self.bits, face.number), "put face %d into key T" % face.number
-        yield self.bit("set-bit", self.alive, 1, "here a candidate stands: alive is 1")
+        yield self.bit("set-bit", self.alive, 1, "here is a candidate: alive is 1")
 
     def alive_ones(self) -> Made:
         return self.bit("keep-bit", self.alive, 1, "keep the pixels with a candidate")
@@ -137,7 +137,7 @@ class Passes:
         return self.bit("set-bit", self.alive, 0, "there the candidate dies: alive is 0")
 
     def counted(self, faces: list[Face], more: int = 0, other: int = 0) -> Iterator[Pass]:
-        """The passes that count in par which of these faces stand before the candidate."""
+        """The passes that count in par which of these faces are before the candidate."""
         for face in faces:
             yield self.step("turn" if other else "front", face, other), "against `%s`: count %s" % (face.solid.name, face.said), [
                 self.alive_ones(), *self.kept(face), self.passed(face, more), ("toggle", (self.par,), "count it: turn par")]

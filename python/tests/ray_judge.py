@@ -1,5 +1,5 @@
 """Judges pictures of models by rays, with nothing of the tool's code: triangles against rays by Moeller and Trumbore,
-five rays a pixel, in its middle and a little beside it. Camera, files and the random programs are written here too,
+five rays a pixel, in its middle and a little next to it. Camera, files and the random programs are written here too,
 from the words of docs/MODELLING.md."""
 import math
 from typing import NamedTuple
@@ -7,7 +7,7 @@ from typing import NamedTuple
 import numpy as np
 
 FIVE = np.array(((0, 0), (-1, -1), (1, -1), (-1, 1), (1, 1)))
-BESIDE = 0.02
+ASIDE = 0.02
 THIN = 1e-9
 PAIRS = 400000
 
@@ -32,33 +32,33 @@ def camera_of(eye, at, size, perspective, fov=22.5):
                   focal if perspective else focal / np.linalg.norm(at - eye), perspective)
 
 
-def rays_of(lens, size, beside=BESIDE):
+def rays_of(lens, size, aside=ASIDE):
     """Origins and ways of all rays, five to a pixel; a way goes one unit along the camera's axis."""
     x, y = np.meshgrid(np.arange(size[0]), np.arange(size[1]))
-    across = (x.ravel()[:, None] + beside * FIVE[:, 0] - lens.middle[0]) / lens.focal
-    down = (y.ravel()[:, None] + beside * FIVE[:, 1] - lens.middle[1]) / lens.focal
+    across = (x.ravel()[:, None] + aside * FIVE[:, 0] - lens.middle[0]) / lens.focal
+    down = (y.ravel()[:, None] + aside * FIVE[:, 1] - lens.middle[1]) / lens.focal
     off = (across[..., None] * lens.rows[0] + down[..., None] * lens.rows[1]).reshape(-1, 3)
     if lens.perspective:
         return np.broadcast_to(lens.eye, off.shape), lens.rows[2] + off
     return lens.eye + off, np.broadcast_to(lens.rows[2], off.shape)
 
 
-def boxes_of(triangles, lens, size, beside):
+def boxes_of(triangles, lens, size, aside):
     """The pixels at which each triangle may be; all of them for one that is not before the eye."""
     seen = (triangles - lens.eye) @ lens.rows.T
     low, high = np.zeros((len(seen), 2), int), np.tile(np.array(size) - 1, (len(seen), 1))
     is_before = (seen[..., 2] > 1e-6 * np.abs(seen).max()).all(1) if lens.perspective else np.ones(len(seen), bool)
     own = seen[is_before]
     places = lens.middle + lens.focal * own[..., :2] / (own[..., 2:] if lens.perspective else 1)
-    low[is_before] = np.maximum(low[is_before], np.clip(np.floor(places.min(1) - 2 * beside), -1, 1e6).astype(int))
-    high[is_before] = np.minimum(high[is_before], np.clip(np.ceil(places.max(1) + 2 * beside), -1, 1e6).astype(int))
+    low[is_before] = np.maximum(low[is_before], np.clip(np.floor(places.min(1) - 2 * aside), -1, 1e6).astype(int))
+    high[is_before] = np.minimum(high[is_before], np.clip(np.ceil(places.max(1) + 2 * aside), -1, 1e6).astype(int))
     return low, np.maximum(high - low + 1, 0)
 
 
-def crossings(triangles, lens, size, beside=BESIDE):
+def crossings(triangles, lens, size, aside=ASIDE):
     """Of each crossing its ray, its distance along the axis, and 1 where the ray goes in, -1 where it comes out."""
-    origins, ways = rays_of(lens, size, beside)
-    low, wide = boxes_of(triangles, lens, size, beside)
+    origins, ways = rays_of(lens, size, aside)
+    low, wide = boxes_of(triangles, lens, size, aside)
     counts, found, first = wide.prod(1), [], 0
     while first < len(triangles):
         last = max(first + 1, int(np.searchsorted(np.cumsum(counts[first:]), PAIRS)) + first)
@@ -82,10 +82,10 @@ def hits(triangles, origins, ways, ray):
     return ray[met], t[met], np.where(det[met] > 0, 1, -1)
 
 
-def nearest(triangles, lens, size, beside=BESIDE):
+def nearest(triangles, lens, size, aside=ASIDE):
     """Of each pixel and each of its five rays how far along the axis it meets a mesh first, from either side; infinite
     for nowhere."""
-    ray, t, _ = crossings(triangles, lens, size, beside)
+    ray, t, _ = crossings(triangles, lens, size, aside)
     out = np.full(5 * size[0] * size[1], np.inf)
     np.minimum.at(out, ray[t > 0] if lens.perspective else ray, t[t > 0] if lens.perspective else t)
     return out.reshape(-1, 5)

@@ -10,7 +10,7 @@ A case is a folder cases/NAME with these files; one that is not there is empty, 
   status  its exit status
 N cases go side by side, as many as there are processors where it is not said. Prints a line for each
 case that fails, and last 'N passed, M failed'. Ends with 0 where none failed
-and at least one passed, with 1 else, and with 2 where there is no program.
+and at least one passed, with 1 otherwise, and with 2 where there is no program.
 """
 import concurrent.futures
 import gzip

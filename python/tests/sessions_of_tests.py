@@ -9,7 +9,7 @@ from pxplanes.batch.groups import kill_session
 
 
 class Groups:
-    """What runs of them now. `run` is as `subprocess.run`, from any thread; `end` kills all, and nothing is begun behind it."""
+    """What runs of them now. `run` is as `subprocess.run`, from any thread; `end` kills all, and nothing is begun after it."""
 
     def __init__(self) -> None:
         self.running: set[subprocess.Popen[Any]] = set()

@@ -10,7 +10,7 @@ F = np.float32
 
 
 def plain(a, b, c, x, y, scene):
-    """The plane as it stands."""
+    """The plane as it is."""
     p = F(1 << scene.fraction)
     return (F(a) / p * x.astype(F) + F(b) / p * y.astype(F)) + F(c) / p
 

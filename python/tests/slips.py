@@ -32,8 +32,8 @@ def is_mended(text, meant):
 
 
 def slipped(text, count, chance, plain=False):
-    """A text with so many slips, in lines of their own, each of which alone has it refused, or, if `plain`, is mended alone as
-    meant; and what they are. None if one has not."""
+    """A text with so many slips, in lines of their own, each of which alone has it refused, or, if `plain`, is
+    mended alone as meant; and what they are. None if one has not."""
     lines, whats, taken = text.split("\n")[:-1], [], set()
     own = [place for place, line in enumerate(lines) if line.split("#")[0].strip()]
     out = list(lines)
@@ -62,8 +62,8 @@ def drawn(text):
 
 
 def counted(texts, count, most, seed, plain=False):
-    """Of so many refused texts with one slip, or with two up to `most`: how many have one reading at each mistake, are mended as
-    meant, and otherwise; those mended otherwise, and those not mended."""
+    """Of so many refused texts with one slip, or with two up to `most`: how many have one reading at each mistake,
+    are mended as meant, and otherwise; those mended otherwise, and those not mended."""
     chance = random.Random(seed)
     counts, wrong, left = {"refused": 0, "one reading": 0, "as meant": 0, "otherwise": 0}, [], []
     while counts["refused"] < count:

@@ -1,7 +1,7 @@
 """What the tests share: cases in folders, the runs that documents show, and what must be installed for them.
 
-A case is a folder of tools/cases. It is copied to an empty folder, with links to the repository's folders next to it, and its `run`
-is given to bash there, with PROGRAM set. If root runs it, it cannot write into the repository.
+A case is a folder of tools/cases. It is copied to an empty folder, with links to the repository's folders next to it,
+and its `run` is given to bash there, with PROGRAM set. If root runs it, it cannot write into the repository.
 
   run     the command lines
   stdin   their input
@@ -36,9 +36,9 @@ SHARED = "PXPLANES_LIBRARY"
 PAGE = os.path.join(TOP, "page", "pxplanes.html")
 ARCHIVE = os.path.join(TOP, "crates", "px_c", "out", "libpx_c.a")
 NO_LIBRARY = "there is no library for C; .ci/run builds it"
-SKIPPED = {"built": "it wants a program that is proved", "archive": NO_LIBRARY, "shared": NO_LIBRARY,
+SKIPPED = {"built": "it needs a program that is proved", "archive": NO_LIBRARY, "shared": NO_LIBRARY,
            "page": "there is no page; tools/package --web --page makes it",
-           "kept": "the page was made of other crates; tools/package --web --page, behind a gate, makes it of these",
+           "kept": "the page was made of other crates; tools/package --web --page, after a gate, makes it of these",
            "venv": "this Python makes no venv; Debian's python3-venv has it",
            "chroot": "only root lays out a system, and from an archive of Debian that answers",
            "states": "there is no library for C with the calls for states; .ci/run builds it"}
@@ -94,8 +94,8 @@ def limit():
 
 @functools.lru_cache(None)
 def unwritable():
-    """The words before a command to which the repository can't be written, though its folder has links to it; none if that needs
-    rights that this process has not."""
+    """The words before a command to which the repository can't be written, though its folder has links to it; none
+    if that needs rights that this process has not."""
     words = ["unshare", "--mount", "sh", "-c", 'mount --bind "$0" "$0" && mount -o remount,bind,ro "$0" && exec "$@"', TOP]
     return words if shutil.which("unshare") and subprocess.run([*words, "true"], capture_output=True).returncode == 0 else []
 

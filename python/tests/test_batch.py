@@ -74,8 +74,8 @@ def test_full_disk(built, tmp_path):
         os.environ, PYTHONPATH=os.path.join(support.TOP, "python"), PXPLANES_PROGRAM=built, PYTHONDONTWRITEBYTECODE="1"))
     if "mount" in done.stderr or "unshare" in done.stderr:
         pytest.skip("no mount here")
-    told = done.stdout.splitlines()
-    assert "first.scene: failed: No space left on device" in told[0] and told[-1].startswith("1 scenes: 1 drawn"), done.stdout + done.stderr
+    lines = done.stdout.splitlines()
+    assert "first.scene: failed: No space left on device" in lines[0] and lines[-1].startswith("1 scenes: 1 drawn"), done.stdout + done.stderr
 
 
 def numbers(data):

@@ -169,7 +169,7 @@ def test_half_a_pixel_of_a_scene_that_is_twice_as_large(tmp_path):
     ours = write(tmp_path / "ours", *(each.astype(int) for each in shown_by(path("once.scene"))))
     theirs = write(tmp_path / "theirs", shown_by(path("twice.scene"))[0][1::2, 1::2].astype(int))
     status, lines = call("compare", "--only", "depths", "--scene", path("once.scene"), "--first", "0", ours, theirs)
-    # one slope alone cannot tell half a pixel from 6 cells
+    # one slope alone cannot separate half a pixel from 6 cells
     assert lines[:2] == ["1536 of 3072 pixels differ", "no cause found: these explain all 1536 pixels equally well: "
                          "samples are +0.5 columns and +0.5 rows aside; depths are off by 6"]
 

@@ -36,7 +36,7 @@ def raw_stl(header, after=b"", far=0.0):
 
 @pytest.mark.parametrize("header, after",
                          [(b"made by hand", b""), (b"solid made by hand", b""),
-                          (b"solid made by hand", b"more bytes behind")])
+                          (b"solid made by hand", b"more bytes after")])
 def test_raw_stl_is_known_by_its_count(header, after):
     points, sides = mesh_files.READERS["stl"](raw_stl(header, after))
     assert sorted(map(tuple, points)) == sorted(CORNERS) and len(sides) == 4

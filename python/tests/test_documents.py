@@ -91,8 +91,8 @@ def test_steps_of_the_passes(built):
     commands = [line for clock, *_ in steps for line in (b"until %d" % int(clock), b"field 20 20")]
     answers = sessions.held(built, scene, commands)[1::2]
     assert steps
-    for (clock, *told), lines in zip(steps, answers):
-        assert lines == [("field 20 20 b %s %s t %s %s alive %s par %s" % tuple(told)).encode()], "clock %s" % clock
+    for (clock, *numbers), lines in zip(steps, answers):
+        assert lines == [("field 20 20 b %s %s t %s %s alive %s par %s" % tuple(numbers)).encode()], "clock %s" % clock
 
 
 def test_claps_of_the_lesson(built):
@@ -102,9 +102,9 @@ def test_claps_of_the_lesson(built):
     nodes = [(level, index) for level in (1, 2) for index in range(2 ** level)]
     commands = [line for clock in range(722, 723 + len(claps))
                 for line in [b"until %d" % clock] + [b"tree %d %d" % node for node in nodes]]
-    told = [lines[0].decode().split() for lines in sessions.held(built, scene, commands)]
-    told = [told[at + 1:at + 1 + len(nodes)] for at in range(0, len(told), 1 + len(nodes))]
-    cards = [[words[4] + "/" + words[6] if int(words[2]) % 2 else words[4] for words in row] for row in told]
+    found = [lines[0].decode().split() for lines in sessions.held(built, scene, commands)]
+    found = [found[at + 1:at + 1 + len(nodes)] for at in range(0, len(found), 1 + len(nodes))]
+    cards = [[words[4] + "/" + words[6] if int(words[2]) % 2 else words[4] for words in row] for row in found]
     rows = [(" ".join(row[:2]), " ".join(row[2:])) for row in cards]
     assert len(claps) == 6
     for number, (clap, *shown) in enumerate(claps):

@@ -1,5 +1,5 @@
-"""Wrong bodies, of crates/NAME/must-fail and crates/NAME/wrong: `rt` drops one in silence if the text that it replaces is not in its
-file exactly once."""
+"""Wrong bodies, of crates/NAME/must-fail and crates/NAME/wrong: `rt` drops one in silence if the text that it
+replaces is not in its file exactly once."""
 import glob
 import os
 

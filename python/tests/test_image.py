@@ -113,7 +113,7 @@ def test_radiance_hdr_is_read(tmp_path):
     assert np.array_equal(maps.read(file)[0].numbers, 2.0 ** (X % 4))
 
 
-def test_grey_pictures_and_numbers_of_three_bytes_are_told_apart():
+def test_grey_pictures_and_numbers_of_three_bytes_differ():
     def of(body):
         return maps.maps_of(b"P6\n2 1\n255\n" + body)[0].is_grey_picture
     assert of(b"\7\7\7\x30\x30\x30") and not of(b"\0\0\7\x30\x30\x30") and not of(b"\0\0\0\xff\xff\xff")

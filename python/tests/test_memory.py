@@ -69,7 +69,7 @@ def wrong_in(under: counted.Counted, trial: Trial, is_good: bool = False) -> str
     run = under.run(words, text)
     most = TIMES * needed(words, text)
     if run.status is None or run.is_refused_by_system or run.status == counted.STARVED or is_good and run.status != 0:
-        return "%s: %s" % (name, run.told())
+        return "%s: %s" % (name, run.described())
     return "%s: a request of %d bytes, more than %d" % (name, run.largest, most) if run.largest > most else None
 
 
@@ -104,15 +104,15 @@ STARVED = ("one_solid", "difference_of_a_difference", "drilled_block", "debug_go
 
 
 def wrong_when_refused(under: counted.Counted, words: list[bytes], text: bytes) -> Iterator[str]:
-    """Refuses each request in turn. The program must then end with status 7, no output and at most the line `out of memory`; the run
-    in which none is refused must be as the first."""
+    """Refuses each request in turn. The program must then end with status 7, no output and at most the line `out of
+    memory`; the run in which none is refused must be as the first."""
     whole = under.run(words, text)
     for number in range(1, whole.requests + 2):
         run = under.run(words, text, number)
         refused = counted.STARVED, b"", run.note if run.note in ("", "out of memory\n") else "out of memory\n"
         expected = refused if number <= whole.requests else (whole.status, whole.output, whole.note)
         if run.is_refused != (number <= whole.requests) or (run.status, run.output, run.note) != expected:
-            yield "allocation %d: %s" % (number, run.told())
+            yield "allocation %d: %s" % (number, run.described())
 
 
 @pytest.mark.parametrize("name", STARVED)
@@ -125,7 +125,7 @@ COMMANDS = ("render", "colour", "tidy", "plan", "cost", "list", "refine 2", "til
 
 
 def with_lines(words: list[bytes], text: bytes) -> bytes:
-    """The input of a command: what it reads behind the scene too."""
+    """The input of a command: what it reads after the scene too."""
     return text + {b"shadow": b"light s0\n", b"debug": b"run\nback 1\nquit\n"}.get(words[0], b"")
 
 
@@ -167,7 +167,7 @@ def test_samples(under: counted.Counted) -> None:
 
 
 def ended_at(text: str, at: int) -> int:
-    """Where the parenthesis at a place is closed, behind it."""
+    """Where the parenthesis at a place is closed, after it."""
     depth = 0
     for end in range(at, len(text)):
         depth += {"(": 1, "[": 1, ")": -1, "]": -1}.get(text[end], 0)
@@ -177,8 +177,8 @@ def ended_at(text: str, at: int) -> int:
 
 
 def asking(text: str) -> Iterator[str]:
-    """The calls of a source that ask for memory: those that always do, and those whose answer is looked at. An array that
-    asks for none has a `push` without an answer."""
+    """The calls of a source that ask for memory: those that always do, and those whose answer is looked at. An array
+    that asks for none has a `push` without an answer."""
     text = re.sub(r"(?m)^\s*//.*$", "", text)
     for found in re.finditer("%s|%s" % (WHOLE.pattern, ANSWERED.pattern), text):
         end = ended_at(text, found.start() + min(found[0].find(each) % 99 for each in "(["))
@@ -198,7 +198,7 @@ def found_calls() -> set[str]:
 
 
 def test_every_call_that_asks_is_listed() -> None:
-    """Each line of the list is a call and, behind two spaces, the bytes that it asks for."""
+    """Each line of the list is a call and, after two spaces, the bytes that it asks for."""
     lines = [line for line in ends.content(LISTED).decode("utf-8").splitlines() if line and not line.startswith("#")]
     listed = dict(line.split("  ", 1) for line in lines)
     assert len(listed) == len(lines) and all(size.strip() for size in listed.values())

@@ -1,4 +1,4 @@
-"""Pictures of models, pixel by pixel beside rays that share no code with the tool."""
+"""Pictures of models, pixel by pixel against rays that share no code with the tool."""
 import math
 import os
 import random

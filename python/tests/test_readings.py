@@ -43,8 +43,8 @@ def is_beyond_the_text(command, text, note):
         return False
     if line.group(2) == "products" or command in ([b"refine"], [b"tile"]):
         return line.group(1) == "0"
-    behind = int(line.group(1)) > text.count(b"\n") or line.group(2) == "pixel-memory"
-    return command == [b"shadow"] and behind
+    is_after = int(line.group(1)) > text.count(b"\n") or line.group(2) == "pixel-memory"
+    return command == [b"shadow"] and is_after
 
 
 def wrong_reading(name, words, text, wanted):
@@ -63,7 +63,7 @@ def wrong_reading(name, words, text, wanted):
         planes = [line for line in output.decode().split("\n")
                   if line.startswith(("front", "back"))]
         if own_faces(text) != planes:
-            return "its faces are told otherwise than tidy writes them"
+            return "its faces are other than tidy writes them"
     return None
 
 

@@ -47,10 +47,10 @@ def test_until_changes(built, session, thing, pixel):
     wanted = [(clock, values[clock], values[clock - 1]) for clock in range(1, len(values)) if values[clock] != values[clock - 1]]
     found = []
     while True:
-        told = session.told("until %s %d %d" % (thing, *pixel))
-        if "any more" in told[0]:
+        lines = session.obey("until %s %d %d" % (thing, *pixel))
+        if "any more" in lines[0]:
             break
-        new, old = told[0].split(": ")[1].split(", and ")
+        new, old = lines[0].split(": ")[1].split(", and ")
         found.append((session.now, int(new), int(old.split()[0])))
     assert found == wanted
 
@@ -60,36 +60,36 @@ def test_until_rises(built, session):
     values = [int(each[6]) for each in every_clock(built, 7, 8)]
     rises = [clock for clock in range(1, len(values)) if values[clock] > values[clock - 1]]
     found = []
-    while "any more" not in session.told("until enable 7 8 rises")[0]:
+    while "any more" not in session.obey("until enable 7 8 rises")[0]:
         found.append(session.now)
     assert found == rises
 
 
 def test_face_and_depth(session):
     """A face wins with its depth: docs/PICTURE.md's picture of this scene has face 2 and depth 5 at 7 8."""
-    assert session.told("until face 7 8")[0] == "face of pixel 7 8: 2, and 0 before"
-    session.told("watch 7 8")
-    session.told("run")
-    assert "best key depth 5 face 2" in session.told("where")[-1]
+    assert session.obey("until face 7 8")[0] == "face of pixel 7 8: 2, and 0 before"
+    session.obey("watch 7 8")
+    session.obey("run")
+    assert "best key depth 5 face 2" in session.obey("where")[-1]
 
 
 def test_back(session):
     """`back` goes clocks back, and alone takes back the last move."""
-    session.told("until 300")
-    session.told("step 7")
+    session.obey("until 300")
+    session.obey("step 7")
     assert session.now == 307
-    session.told("back")
+    session.obey("back")
     assert session.now == 300
-    session.told("back 40")
-    assert session.now == 260 and "clock 260 of 561" in session.told("where")[0]
+    session.obey("back 40")
+    assert session.now == 260 and "clock 260 of 561" in session.obey("where")[0]
 
 
 def test_plane(session):
     """A bit plane has a block for each pixel: enable after the sides is the triangle that the sides leave."""
-    session.told("until 536")
+    session.obey("until 536")
     scene = scenes.read(content(TRIANGLE))
     sides = [side.plane for side in scene.solids[0].sides]
-    lines = session.told("plane enable")[:-1]
+    lines = session.obey("plane enable")[:-1]
     shown = {(x, 2 * row + low) for row, line in enumerate(lines) for x, block in enumerate(line) for low in (0, 1)
              if block in ("\u2580\u2588", "\u2584\u2588")[low]}
     assert shown == {(x, y) for x in range(16) for y in range(16) if all(a * x + b * y + c >= 0 for a, b, c in sides)}
@@ -100,7 +100,7 @@ def test_plane(session):
     ("until bit 99 0 0", "bits 0 to"), ("tree 0 0", "no such place"), ("until colour 1 1", "until takes"), ("run 3", "takes")))
 def test_mistakes(session, line, said):
     """A line that asks for nothing that there is moves nothing, and its answer says why."""
-    assert said in session.told(line)[0] and session.now == 0
+    assert said in session.obey(line)[0] and session.now == 0
 
 
 def test_pipe(built):

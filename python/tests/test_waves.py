@@ -62,8 +62,8 @@ def wrong_wave(wave, built):
         answers = sessions.held(built, scene, [command.encode() for command in commands])[1:]
         for turn, clock in enumerate(range(last, first - 1, -1)):
             step = len(asked) + 2
-            told = [[line.decode() for line in lines] for lines in answers[turn * step:(turn + 1) * step]]
-            wrong = wrong_clock(waves, clock, wave, told) or wrong_place(waves, clock, told[0][0], listing)
+            answered_lines = [[line.decode() for line in lines] for lines in answers[turn * step:(turn + 1) * step]]
+            wrong = wrong_clock(waves, clock, wave, answered_lines) or wrong_place(waves, clock, answered_lines[0][0], listing)
             if wrong:
                 return "clock %d: %s" % (clock, wrong)
     except Trouble as bad:
@@ -71,17 +71,17 @@ def wrong_wave(wave, built):
     return None if waves.end == 10 * last else "it ends at %d" % waves.end
 
 
-def wrong_clock(waves, clock, wave, told):
+def wrong_clock(waves, clock, wave, answered_lines):
     """What is wrong with a clock's waveforms by a session's answers there, or None."""
     name, pixels, bits, nodes, first, last = wave
     for time in (10 * clock, 10 * clock + 9) if clock < last else (10 * clock,):
         for at, pixel in enumerate(pixels):
             found = waved(waves, time, pixel, bits)
-            wanted = answered(found, bits, *(lines[0] for lines in told[1 + 2 * at:3 + 2 * at]))
+            wanted = answered(found, bits, *(lines[0] for lines in answered_lines[1 + 2 * at:3 + 2 * at]))
             wrong = [key for key in wanted if wanted[key] != found[key]]
             if wrong:
                 return "%r in place of %r" % (found[wrong[0]], wanted[wrong[0]])
-        for node, lines in zip(nodes, told[1 + 2 * len(pixels):]):
+        for node, lines in zip(nodes, answered_lines[1 + 2 * len(pixels):]):
             found = [waves.at("node_%d_%d.%s" % (*node, name), time) for name in ("output", "carry")]
             if lines[0] != "tree %d %d out %s carry %s" % (*node, *found):
                 return "%r in place of %r" % (found, lines[0])
@@ -89,8 +89,8 @@ def wrong_clock(waves, clock, wave, told):
             return "it is called %r" % waves.at("machine.clock", time)
     if first < clock:
         line = "%d: %s" % (clock - 1, broadcast_of(waves, 10 * (clock - 1) + 5))
-        if told[-2][-1] != line:
-            return "%r in place of %r" % (line, told[-2][-1])
+        if answered_lines[-2][-1] != line:
+            return "%r in place of %r" % (line, answered_lines[-2][-1])
     high = [waves.at("machine.clk", 10 * clock + part) for part in (0, 4, 5, 9)]
     return None if high == [1, 1, 0, 0] or clock == last else "its clock is %r" % high
 

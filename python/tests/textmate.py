@@ -1,7 +1,7 @@
-"""Tells the words of a text apart by a TextMate grammar, as an editor does. Tests use it.
+"""Separates the words of a text by a TextMate grammar, as an editor does. Tests use it.
 
-What the grammars of editors/textmate use of the form is here, and no more: `match` with `captures`, `begin` without an end,
-`patterns` and `include` of another grammar."""
+What the grammars of editors/textmate use of the form is here, and no more: `match` with `captures`, `begin` without
+an end, `patterns` and `include` of another grammar."""
 import json
 import os
 import re
@@ -12,7 +12,7 @@ FOLDER = os.path.join(TOP, "editors", "textmate", "syntaxes")
 
 
 class Grammar:
-    """The patterns of a grammar; a line is told apart by the first that fits, from left to right."""
+    """The patterns of a grammar; a line is of the first that fits, from left to right."""
 
     def __init__(self, scope):
         with open(os.path.join(FOLDER, scope.split(".")[1] + ".tmLanguage.json")) as file:
@@ -29,12 +29,12 @@ class Grammar:
         """Of each line the scope of each of its bytes that is no blank; None where it has none."""
         patterns = self.patterns
         for line in lines:
-            scopes, opened = told(line, patterns)
+            scopes, opened = scopes_of(line, patterns)
             patterns = opened or patterns
             yield [scope for scope, letter in zip(scopes, line) if letter not in " \t\r"]
 
 
-def told(line, patterns):
+def scopes_of(line, patterns):
     """The scope of each letter of a line, and the patterns that a `begin` in it opens."""
     scopes, at, opened = [None] * len(line), 0, None
     while at < len(line):
@@ -57,5 +57,5 @@ def fill(scopes, match, group, pattern):
     if "name" in pattern and first >= 0:
         scopes[first:last] = [pattern["name"]] * (last - first)
     if "patterns" in pattern and "begin" not in pattern and first >= 0:
-        inner, _ = told(match.group(group), pattern["patterns"])
+        inner, _ = scopes_of(match.group(group), pattern["patterns"])
         scopes[first:last] = inner

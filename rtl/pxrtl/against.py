@@ -101,7 +101,7 @@ def comes_late(bench, states, differs):
     return not simulation.difference(bench.nx, bench.ny, dict(states([clock]))[clock], found)
 
 
-def told(bench, states, differs, by, waves):
+def report(bench, states, differs, by, waves):
     """The lines of a difference; its waveforms are written, what is expected next to what was found."""
     clock, wrong = differs
     made = bench.micros
@@ -123,7 +123,7 @@ def compared(folder, files, run, said, by):
         before = max([0] + [end for end in run.ends if end < differs[0]])
         inside = range(before, differs[0] + 1)
         differs = first_difference(bench, inside, run.states(inside)) or differs
-    return told(bench, run.states, differs, by, said.waves) if differs else None
+    return report(bench, run.states, differs, by, said.waves) if differs else None
 
 
 def drawn(folder, files, text, said):
@@ -196,7 +196,7 @@ def check_micros(made, nx, ny, bits, files, said, folder, every=1):
     if differs and every > 1:
         inside = range(max(0, differs[0] - every), differs[0] + 1)
         differs = first_difference(bench, inside, states(inside)) or differs
-    return told(bench, states, differs, TABLE, said.waves) if differs else None
+    return report(bench, states, differs, TABLE, said.waves) if differs else None
 
 
 def at_random(count, seed, bits):

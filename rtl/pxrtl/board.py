@@ -283,7 +283,7 @@ class Drawing:
         picture = monitor if monitor is not None and len(keys) == 1 else shades.enlarged(self.whole(seen))
         return wrong + ([other] if other else []), picture
 
-    def told(self, path: str, board: str) -> str:
+    def describe(self, path: str, board: str) -> str:
         """The line of a drawing in which nothing differs."""
         windows = " in %d windows" % len(self.windows) if len(self.windows) > 1 else ""
         return "%s: %d by %d pixels on %s of %d by %d%s; it holds what `play` prints%s%s" % (

@@ -157,7 +157,7 @@ def drawings(said, links, named: str) -> int:
     for path in said.texts:
         drawing = board.Drawing(ends.content(path), *said.size, said.coarser, said.program)
         wrong, picture = drawing.drawn(links(board))
-        print("\n  ".join([path + ":"] + wrong if wrong else [drawing.told(path, named)]), flush=True)
+        print("\n  ".join([path + ":"] + wrong if wrong else [drawing.describe(path, named)]), flush=True)
         statuses.append(proving.WRONG if wrong else proving.PROVED)
         if said.output:
             with open(said.output, "wb") as file:

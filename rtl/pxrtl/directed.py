@@ -25,7 +25,7 @@ NODE_ANSWER = re.compile(r"^clock (\d+) row (\d+) node (\d+) found (\S+) due (\S
 
 
 class Input:
-    """What a pixel is told in a clock: an act with its place and value, or `open`, and the bit of its leaf."""
+    """What a pixel gets in a clock: an act with its place and value, or `open`, and the bit of its leaf."""
 
     def __init__(self, act="nop", place=0, value=0, tree=0, opens=False):
         self.act, self.place, self.value, self.tree, self.opens = act, place, value, tree, opens
@@ -68,7 +68,7 @@ def tried(draw, act, place):
 
 
 def opened(draw, place):
-    """The pixel is opened in the midst of what it is told, twice, from a state of ones."""
+    """The pixel is opened in the midst of what it gets, twice, from a state of ones."""
     for step in prepared(draw, place, {"s": 1, "c": 1, "l": 1, "e": 1}):
         yield step
     yield Input(draw.choice(micros.ACTS), place, 1, 1, True)
@@ -114,7 +114,7 @@ def inputs(seed, count):
 
 
 class Fault:
-    """A row's first difference: at which clock, what is told of it, and the rest of the line."""
+    """A row's first difference: at which clock, what is said of it, and the rest of the line."""
 
     def __init__(self, row, clock, text):
         self.row, self.clock, self.text = row, clock, text
@@ -131,17 +131,17 @@ def parted(bits):
 def wrong_of(found, due):
     names = ("enable", "carry", "latch")
     at = next((at for at, pair in enumerate(zip(found[0], due[0])) if pair[0] != pair[1]), None)
-    told = ["memory bit %d is %s, and %s is expected" % (at, found[0][at], due[0][at])] if at is not None else []
-    return told + ["%s is %s, and %s is expected" % it for it in zip(names, found[1:], due[1:]) if it[1] != it[2]]
+    wrong = ["memory bit %d is %s, and %s is expected" % (at, found[0][at], due[0][at])] if at is not None else []
+    return wrong + ["%s is %s, and %s is expected" % it for it in zip(names, found[1:], due[1:]) if it[1] != it[2]]
 
 
-def fault_of(match, told):
+def fault_of(match, given):
     """What a line of the bench's answers says, in words."""
     clock, row, found, due, before, late = match
     if int(row) == len(ROWS):
         return Fault(BETWEEN, int(clock), "it changes between two clocks: %s" %
                      "; ".join(wrong_of(parted(found), parted(due))))
-    step, found, due, before = told[int(clock)], parted(found), parted(due), parted(before)
+    step, found, due, before = given[int(clock)], parted(found), parted(due), parted(before)
     seen = ["tree %d" % step.tree] + ["%s %s" % it for it in zip(("enable", "carry", "latch"), before[1:])]
     if step.act in micros.HAVE_A_PLACE and not step.opens:
         seen.insert(0, "its bit %s" % before[0][step.place])
@@ -176,17 +176,17 @@ def written(folder, codes, texts):
 def pixel(folder, files, simulator, seconds, count, seed, waves=None, only_random=False):
     """How many clocks were run, the first fault of each act that has one, and the acts that had nothing to change."""
     draw = random.Random(seed)
-    told = begun(draw) + list(at_random(draw, count)) if only_random else inputs(seed, count)
-    written(folder, [step.code() for step in told], [step.text() for step in told])
+    given = begun(draw) + list(at_random(draw, count)) if only_random else inputs(seed, count)
+    written(folder, [step.code() for step in given], [step.text() for step in given])
     texts = [simulation.proof("px_acts.v"), simulation.bench("px_pixel_bench.v"), files["pixel"]]
-    bench = simulation.Simulation(folder, "px_pixel_bench", texts, {"N": BITS, "CLOCKS": len(told)}, simulator,
+    bench = simulation.Simulation(folder, "px_pixel_bench", texts, {"N": BITS, "CLOCKS": len(given)}, simulator,
                                   seconds=seconds, has_waves=not only_random)
     answers = bench.run("answers.txt")
-    faults = [fault_of(match, told) for match in ANSWER.findall(answers)]
+    faults = [fault_of(match, given) for match in ANSWER.findall(answers)]
     moved = MOVED.search(answers).group(1)[::-1]
     still = [row for row, bit in zip(ROWS, moved) if bit == "0" and row != "nop"]
     shown(bench, faults, waves)
-    return len(told), faults, still
+    return len(given), faults, still
 
 
 def moves(draw, count, levels=1):
@@ -200,16 +200,16 @@ def moves(draw, count, levels=1):
 
 
 def move_text(code, above):
-    """What a node or a tree is told, in words."""
+    """What a node or a tree gets, in words."""
     move = MOVES[1 if code & 1 else 2 if code & 2 else 0]
     return "%s, %s %d, line %d" % (move, above, code >> 2 & 1, code >> 3)
 
 
-def run_tree(folder, files, simulator, seconds, levels, told, above, has_waves):
+def run_tree(folder, files, simulator, seconds, levels, given, above, has_waves):
     """The bench of a tree, and of its first differences clock, row, node, what was found, due and before."""
-    written(folder, ["%x" % it for it in told], [move_text(it, above) for it in told])
+    written(folder, ["%x" % it for it in given], [move_text(it, above) for it in given])
     texts = [simulation.bench("px_tree_bench.v"), simulation.proof("px_nodes.v"), files["node"], files["tree"]]
-    bench = simulation.Simulation(folder, "px_tree_bench", texts, {"LEVELS": levels, "CLOCKS": len(told)}, simulator,
+    bench = simulation.Simulation(folder, "px_tree_bench", texts, {"LEVELS": levels, "CLOCKS": len(given)}, simulator,
                                   seconds=seconds, has_waves=has_waves)
     found = NODE_ANSWER.findall(bench.run("answers.txt"))
     return bench, [tuple(map(int, it[:3])) + it[3:] for it in found]
@@ -217,24 +217,24 @@ def run_tree(folder, files, simulator, seconds, levels, told, above, has_waves):
 
 def node(folder, files, simulator, seconds, seed, waves=None, count=400):
     """How many clocks were run on both nodes, as a tree of one level, and the first fault of each row of each kind."""
-    told = list(moves(random.Random(seed), count))
+    given = list(moves(random.Random(seed), count))
     files = dict(files, tree=ports.file_of("tree"))
-    bench, found = run_tree(folder, files, simulator, seconds, 1, told, "parent", bool(waves))
+    bench, found = run_tree(folder, files, simulator, seconds, 1, given, "parent", bool(waves))
     faults = []
     for clock, row, which, got, due, before in found:
         wrong = ["%s is %s, and %s is expected" % it for it in zip(("its output", "its carry"), got[1:], due[1:])
                  if it[1] != it[2]]
-        text = "parent %d, line %d, output %s, carry %s: " % (told[clock] >> 2 & 1, told[clock] >> 3, *before)
+        text = "parent %d, line %d, output %s, carry %s: " % (given[clock] >> 2 & 1, given[clock] >> 3, *before)
         faults.append(Fault("%s %s" % (("even", "odd")[which % 2], MOVES[row]), clock, text + "; ".join(wrong)))
     shown(bench, faults, waves)
-    return len(told), faults
+    return len(given), faults
 
 
 def tree(folder, files, simulator, seconds, seed, waves=None, sizes=range(1, 10), count=None):
     """The greatest size of a tree that was run, and the first fault of each row of the first size that has one."""
     for levels in sizes:
-        told = list(moves(random.Random(seed), count or (100 if levels < WIDE else 14), levels))
-        bench, found = run_tree(folder, files, simulator, seconds, levels, told, "root", bool(waves))
+        given = list(moves(random.Random(seed), count or (100 if levels < WIDE else 14), levels))
+        bench, found = run_tree(folder, files, simulator, seconds, levels, given, "root", bool(waves))
         faults = {}
         for clock, row, which, got, due, _ in found:
             at = next(at for at in (1, 2, 0) if got[at] != due[at])

@@ -74,7 +74,7 @@ class Mark:
     def proved(self):
         return "no: " + self.not_proved if self.not_proved else "yes"
 
-    def told(self):
+    def lines(self):
         """A line for each thing that is wrong, in the order of the clocks."""
         if self.trouble:
             return [self.trouble]
@@ -138,7 +138,7 @@ def page_rows(found, rows, is_asked):
     for mark in found:
         if not mark.is_right:
             name = html.escape(mark.name)
-            yield '<dt id="%s">%s</dt>' % (name, name) + "".join("<dd>%s</dd>" % html.escape(it) for it in mark.told())
+            yield '<dt id="%s">%s</dt>' % (name, name) + "".join("<dd>%s</dd>" % html.escape(it) for it in mark.lines())
     yield "</dl>\n</html>"
 
 

@@ -43,10 +43,10 @@ class Netlist:
         """The cell of a type that gives a net by this port, and the bit of the port."""
         cell, driven_by, at = self.drivers.get(bit, (None, None, 0))
         if cell is None or self.cells[cell]["type"] != type_ or driven_by != port:
-            raise Wrong("%s is not the %s of a %s, but %s" % (what, port, type_, self.told(bit)))
+            raise Wrong("%s is not the %s of a %s, but %s" % (what, port, type_, self.describe(bit)))
         return cell, at
 
-    def told(self, bit):
+    def describe(self, bit):
         """A net in words."""
         if bit in self.inputs:
             name, at = self.inputs[bit]
@@ -83,7 +83,7 @@ class Netlist:
         return seen[bit]
 
     def made(self, bit, given, seen):
-        """What a cell makes of its inputs, where that can be said; else a name of its own."""
+        """What a cell makes of its inputs, where that can be said; otherwise a name of its own."""
         name, _, at = self.drivers[bit]
         cell = self.cells[name]
         take = lambda port: [self.value(it, given, seen) for it in cell["connections"][port]]
@@ -131,14 +131,14 @@ class Netlist:
     def must_be(self, bit, due, what):
         """A net must be another one."""
         if bit != due and self.value(bit, {}) != self.value(due, {}):
-            raise Wrong("%s is %s, and not %s" % (what, self.told(bit), self.told(due)))
+            raise Wrong("%s is %s, and not %s" % (what, self.describe(bit), self.describe(due)))
 
     def must_be_function(self, bit, ports, function, what, due):
         """A net must be a function of ports of one bit."""
         for values in itertools.product("01", repeat=len(ports)):
             given = {self.port(name): value for name, value in zip(ports, values)}
             if self.value(bit, given) != "01"[bool(function(*(value == "1" for value in values)))]:
-                raise Wrong("%s is not %s, but %s" % (what, due, self.told(bit)))
+                raise Wrong("%s is not %s, but %s" % (what, due, self.describe(bit)))
 
     def must_be_ports(self, cell, names, what):
         """Ports of a cell must be those of the whole."""
@@ -156,7 +156,7 @@ def only_the_clear(net, bit, what):
 
 
 def node_at(net, bit, number_, line, what, clear_of):
-    """The node that gives a net; told what it must be told, and odd where its number is."""
+    """The node that gives a net; with the inputs that it must have, and odd where its number is."""
     cell, _ = net.driver(bit, "node", "out", what)
     if (net.parameter(cell, "ODD") or 0) != number_ % 2:
         raise Wrong("%s is %s" % (what, "even" if number_ % 2 else "odd"))
@@ -203,7 +203,7 @@ REGISTERS = (("enables", "enable"), ("carries", "carry"), ("latches", "latch"))
 
 
 def pixels(net, count, bits, named):
-    """The pixels of a whole, by the registers that they show; each is told what all are told, and shows its memory."""
+    """The pixels of a whole, by the registers that they show; each gets what all get, and shows its memory."""
     found = []
     for number_ in range(count):
         what = named(number_)

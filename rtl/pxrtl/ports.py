@@ -53,14 +53,6 @@ def ports(module: str) -> tuple[Port, ...]:
     return head_of(module)[1]
 
 
-def row(module: str) -> str:
-    """The row of a module in the table of rtl/README.md."""
-    cells = {way: " ".join("`%s%s`" % (port.name, "" if port.width == "1" else "[%s]" % port.width)
-                           for port in ports(module) if port.direction == way) for way in ("input", "output")}
-    return "| `%s` | %s | %s | %s |" % (module, ", ".join("%s = %d" % it for it in parameters(module).items()),
-                                        cells["input"], cells["output"])
-
-
 def declared(module: str) -> str:
     """The list of ports as Verilog text, in brackets."""
     return "(%s)" % ", ".join("%s [%s-1:0] %s" % (port.direction, port.width, port.name) if port.width != "1" else
@@ -74,7 +66,7 @@ def head(name: str, module: str, values: dict[str, int]) -> str:
 
 
 def skeleton(module: str) -> str:
-    """A module with what ours says of itself and its ports, and nothing inside; of a pixel four acts stand."""
+    """A module with what ours says of itself and its ports, and nothing inside; a pixel has four acts."""
     if module == "pixel":
         with open(os.path.join(RTL, "pixel_student.v"), encoding="utf-8") as file:
             return file.read()

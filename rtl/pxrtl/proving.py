@@ -76,14 +76,14 @@ def wrong_bits(before: dict[str, str], after: dict[str, str], names: Iterable[st
 def case_of_pixel(case: Model, clocks: int) -> tuple[list[str], list[str]]:
     """A case in words: the inputs and the state before, and what is wrong after."""
     before, after = case[clocks], case[clocks + 1]
-    act, place, told = act_of(before), int(before["place"], 2), []
+    act, place, said = act_of(before), int(before["place"], 2), []
     if act in micros.HAVE_A_PLACE:
-        told += ["place %d" % place, "its bit %s" % before["memory"][-1 - place]]
-    told += ["%s %s" % (name, before[name]) for name in (("value",) if act in micros.HAVE_A_VALUE else ()) +
+        said += ["place %d" % place, "its bit %s" % before["memory"][-1 - place]]
+    said += ["%s %s" % (name, before[name]) for name in (("value",) if act in micros.HAVE_A_VALUE else ()) +
              ("tree", "enable", "carry", "latch")]
     found = ["memory bit %d is %s, and %s is expected" % (at, after["memory"][-1 - at], before["due_memory"][-1 - at])
              for at in differing(before["due_memory"], after["memory"])[:1]]
-    return told, found + wrong_bits(before, after, ("enable", "carry", "latch"))
+    return said, found + wrong_bits(before, after, ("enable", "carry", "latch"))
 
 
 def case_of_node(case: Model, clocks: int) -> tuple[list[str], list[str]]:
@@ -94,14 +94,14 @@ def case_of_node(case: Model, clocks: int) -> tuple[list[str], list[str]]:
 
 def case_of_tree(case: Model, clocks: int) -> tuple[list[str], list[str]]:
     before, after = case[clocks], case[clocks + 1]
-    told = ["%s %s" % (name, before[name]) for name in ("root", "line")]
+    said = ["%s %s" % (name, before[name]) for name in ("root", "line")]
     for vector, word in (("outs", "output"), ("carries", "carry")):
         for at in differing(before["due_" + vector], after[vector])[:1]:
             level = max(1, at).bit_length() - 1
             name = "node %d of level %d" % (at - (1 << level), level) if at > 1 else "bit %d" % at
-            return told, ["the %s of %s is %s, and %s is expected" % (word, name, after[vector][-1 - at],
+            return said, ["the %s of %s is %s, and %s is expected" % (word, name, after[vector][-1 - at],
                     before["due_" + vector][-1 - at])]
-    return told, ["a leaf is not its node of the last level"]
+    return said, ["a leaf is not its node of the last level"]
 
 
 def values(**widths: int) -> list[str]:

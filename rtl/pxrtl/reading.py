@@ -165,7 +165,7 @@ def statements(text: str, first: int, last: int) -> list[Block]:
 
 
 def read_inside(blocks: list[Block]) -> dict[str, set[str]]:
-    """What each function reads besides its arguments: it is not waited for where the function is called."""
+    """What each function reads in addition to its arguments: it is not waited for where the function is called."""
     outside = declared("".join(block.text for block in blocks if block.kind != "function"))
     bodies = {(NAME.findall(re.split(r"[(;]", block.text)[0]) or [""])[-1]: block.text for block in blocks
               if block.kind == "function"}
@@ -198,7 +198,7 @@ def out_of_order(block: Block, others: list[Block]) -> Iterator[str]:
         read = set().union(*(names(other.text) for other in others if not HEAD.match(other.text)))
         for name in sorted((assigned(block.text, "=") - declared(block.text)) & read):
             yield "`%s` is written by `=` in a block with a clock and used outside of it: " \
-                "the order of blocks is not told" % name
+                "the order of blocks is unknown" % name
 
 
 def first_values(blocks: list[Block]) -> list[str]:

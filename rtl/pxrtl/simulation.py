@@ -46,7 +46,7 @@ def kept(top, words, sources, driver):
 
 
 class Simulation:
-    """A bench in a folder with modules of one's own, compiled for a simulator, ready to run."""
+    """A bench in a folder with your own modules, compiled for a simulator, ready to run."""
 
     def __init__(self, folder, top, sources, values, simulator=None, defines=(), seconds=SECONDS, has_waves=True):
         self.folder, self.seconds, self.has_waves = folder, seconds, has_waves
@@ -98,7 +98,7 @@ class State:
 
 
 class Bench:
-    """An array of a size with modules of one's own, ready to run a list of microinstructions in a folder."""
+    """An array of a size with your own modules, ready to run a list of microinstructions in a folder."""
 
     def __init__(self, folder, files, nx, ny, bits, made_, simulator=None, seconds=SECONDS, has_waves=True):
         self.folder, self.nx, self.ny, self.bits, self.micros, self.clocks = folder, nx, ny, bits, made_, len(made_)
@@ -143,7 +143,7 @@ class Bench:
 
 
 class Difference:
-    """The first difference of two states: where, in which pixel, what it is and what was due."""
+    """The first difference of two states: where, in which pixel, what it is and what was expected."""
 
     def __init__(self, what, found, due, pixel=0):
         self.what, self.found, self.due, self.pixel = what, found, due, pixel

@@ -84,8 +84,8 @@ def alone(folder: str, module: str, sources: list[str], values: dict[str, int]) 
         structure.refuse_two_constants(file.read())
     design = top_of(folder, "mapped.json")
     if CONFLICT.search(printed):
-        told = re.search(r"multiple conflicting drivers for \S+?\.\\?(\S+?)( \S*)?:", printed)
-        raise structure.Refused("%s is driven twice" % (told.group(1) if told else "a net"))
+        driven = re.search(r"multiple conflicting drivers for \S+?\.\\?(\S+?)( \S*)?:", printed)
+        raise structure.Refused("%s is driven twice" % (driven.group(1) if driven else "a net"))
     if LOOP in printed and LOOP in run(folder, "read_rtlil alone.il\ntechmap\ncheck\n"):
         raise structure.Refused("there is a loop without a register")
     refuse_clocks(design)

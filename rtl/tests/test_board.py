@@ -1,5 +1,5 @@
-"""A board in Verilator: what it must do, each a check that the right board passes and that kills the mutants named in mutants.txt.
-Then the same over a pseudo-terminal, what is refused, and bitstreams."""
+"""A board in Verilator: what it must do, each a check that the right board passes and that kills the mutants named
+in mutants.txt. Then the same over a pseudo-terminal, what is refused, and bitstreams."""
 import os
 import pathlib
 import pty
@@ -48,8 +48,8 @@ def drawn(text: pathlib.Path, link: board.Simulated) -> board.Pixels:
 
 
 def holds_what_is_played(opened: Board) -> None:
-    """By hand: the wall shows where x + 2y + 5 is at most its depth, 6, the slope elsewhere, and nothing past depth 15. Of
-    a colour four bits are shown. Squares are 38 lines high."""
+    """By hand: the wall shows where x + 2y + 5 is at most its depth, 6, the slope elsewhere, and nothing past depth
+    15. Of a colour four bits are shown. Squares are 38 lines high."""
     drawn(LISTING, opened(board.Simulated))
     picture = drawn(SCENE, opened(board.Simulated))
     top, side = (480 - 38 * 4) // 2, 38
@@ -198,7 +198,7 @@ def test_film(tmp_path: pathlib.Path) -> None:
 
 
 @needs
-def test_a_wrong_chip_is_told(tmp_path: pathlib.Path, monkeypatch: pytest.MonkeyPatch) -> None:
+def test_a_wrong_chip_is_reported(tmp_path: pathlib.Path, monkeypatch: pytest.MonkeyPatch) -> None:
     wrong = Edited("wrong", "chip/word", "s/enables & taken | ~enables & stored/taken/").written(tmp_path)
     monkeypatch.setattr(board, "SOURCES", [str(wrong) if path.endswith("word.v") else path for path in board.SOURCES])
     link = board.Simulated(board.built(NX, NY), str(tmp_path))

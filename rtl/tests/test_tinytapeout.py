@@ -32,5 +32,5 @@ def test_document_has_the_cells(tmp_path: pathlib.Path) -> None:
     printed = yosys.run(str(tmp_path), yosys.read_of([str(RTL / (NAME + ".v"))] + PARTS) +
                         "hierarchy -top tt_um_pxplanes\nsynth -flatten\nabc -g gates\nopt_clean\nstat\n")
     cells = int(re.findall(r"Number of cells: +(\d+)", printed)[-1])
-    told = int(re.search(r"(\d+) cells", (RTL.parent / "docs" / "RTL.md").read_text().split("TinyTapeout")[-1])[1])
-    assert abs(cells - told) <= cells // 20  # another Yosys counts some others
+    stated = int(re.search(r"(\d+) cells", (RTL.parent / "docs" / "RTL.md").read_text().split("TinyTapeout")[-1])[1])
+    assert abs(cells - stated) <= cells // 20  # another Yosys counts some others

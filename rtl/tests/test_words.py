@@ -9,11 +9,8 @@ from conftest import RTL, run
 from pxrtl import cli, ports, reading, structure
 
 
-def test_readme_has_the_ports() -> None:
-    text = (RTL / "README.md").read_text()
-    rows = [line for line in text.split("## The ports of all modules")[1].split("\n## ")[0].split("\n") if line[:3] == "| `"]
-    assert rows == [ports.row(module) for module in ports.ALL]
-    pixel = text.split("## The ports of a pixel")[1].split("\n## ")[0]
+def test_readme_has_the_ports_of_a_pixel() -> None:
+    pixel = (RTL / "README.md").read_text().split("## The ports of a pixel")[1].split("\n## ")[0]
     assert re.findall(r"^\| `(\w+)` \| (\w+) \| `?(\w+)`? \|", pixel, re.M) == list(map(tuple, ports.ports("pixel")))
 
 

@@ -2,7 +2,7 @@
 
 `rt ci` leaves in each library's folder what the crates above it may cite, its statements, and proves all crates over those. So
 does `rattle build`, by which this proves the library for C, or the program, once more over them, and compiles it. `rt lib` knows no
-such way: it proves every crate below anew."""
+such way: it proves every crate below again."""
 import contextlib
 import hashlib
 import os
@@ -25,12 +25,12 @@ LINE = re.compile(r"(?m)^([a-z]\w*)( staticlib)?:(.*)$")
 PROVED = re.compile(r"(?m)^logic=proved .*\bstatements=trusted\b.*$")
 # The words of such a line with which `rt ci` refuses a crate.
 REFUSED = re.compile(r"\b(foreign|hides|partial|may-abort|may-serve|may-wait|bugs)\b")
-# The lines of what rattle says that tell nothing of what is not proved.
+# The lines of what rattle says that say nothing of what is not proved.
 TOLD_ANYWAY = re.compile(r": proved$|^(statements |logic|empty contracts:|by-macro:|rattle build:)")
 TARGET = "x86_64-unknown-linux-gnu"
 SYSTEM_PARTS = ("libos_c.a", "liblibc_c.a")
 MODULE = "module.bc"
-# What was built last, outside the crates' own folders, which rt ci empties: each file, and beside it what it was built of.
+# What was built last, outside the crates' own folders, which rt ci empties: each file, and next to it what it was built of.
 STORE = os.path.join(ends.TOP, "built")
 KEPT = os.path.join(STORE, MODULE)
 # How a folder begins in which what is built for one processor is kept for another.
@@ -286,8 +286,8 @@ class Proved:
         return self.accepted(crate, found[0])
 
     def once(self, made, make, *beside):
-        """A file, the line of its proof, and whether it was kept of these very crates and this kit; else `make` makes it now, and
-        it is kept with the files beside it that `make` leaves. Of another folder than this repository nothing is kept."""
+        """A file, the line of its proof, and whether it was kept of these very crates and this kit; otherwise `make` makes it now, and
+        it is kept with the files next to it that `make` leaves. Of another folder than this repository nothing is kept."""
         leaf, of = os.path.basename(made), of_crates() if self.top == ends.TOP else None
         found, line = (None, None) if of is None else kept_of(leaf)
         if found == of != None and all(kept_of(each)[0] == of for each in beside):

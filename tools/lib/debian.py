@@ -77,7 +77,7 @@ def tree(place, names):
 
 
 def settle(top):
-    """Gives all files and folders the modes and the time that a source package tells of them: the same bytes each time."""
+    """Gives all files and folders the modes and the time that a source package says of them: the same bytes each time."""
     for place, _, leaves in os.walk(top):
         for path in (place, *(os.path.join(place, leaf) for leaf in leaves)):
             os.chmod(path, 0o755 if os.stat(path).st_mode & 0o100 else 0o644)

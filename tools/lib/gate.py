@@ -8,7 +8,7 @@ import installing
 from pxplanes import program
 import web_page
 
-# What .ci/run passed last, beside what it built: the checksum of its crates, and a line for each file that packages are made of.
+# What .ci/run passed last, next to what it built: the checksum of its crates, and a line for each file that packages are made of.
 PASSED = os.path.join(ends.TOP, "crates", "px_program", "out", "passed")
 HEADERS = ("include/pxplanes.h", "include/pxplanes.hpp", "include/pxplanes_image.h", "include/pxplanes_scene.h")
 ARCHIVE = os.path.join("crates", "px_c", "out", "libpx_c.a")
@@ -101,7 +101,7 @@ def need_packed(files):
 
 
 def note_again(name, files):
-    """Notes a file that was made anew of what the gate passed: where all else is as it was passed."""
+    """Notes a file that was made again of what the gate passed: where everything that remains is as it was passed."""
     files = dict(files)
     if differing(files.items()) == [name]:
         note(noted()[0], sums(files.items()))

@@ -84,7 +84,7 @@ def inside(folder):
 
 
 def sources():
-    """The files that are copied, each as it stands in the checkout."""
+    """The files that are copied, each as it is in the checkout."""
     yield from known(FILES)
     for folder in FOLDERS:
         yield from known(inside(folder))

@@ -264,7 +264,7 @@ def state() -> str:
 
 @contextlib.contextmanager
 def room() -> Iterator[str]:
-    """An empty folder to prove in, beside that of the state."""
+    """An empty folder to prove in, next to that of the state."""
     place = state() + ".new"
     shutil.rmtree(place, ignore_errors=True)
     try:

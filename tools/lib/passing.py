@@ -42,7 +42,7 @@ def key(tried, built):
 
 
 def place(part):
-    """Where the checksum of what passed last of a part stands, beside what was built."""
+    """Where the checksum of what passed last of a part is, next to what was built."""
     return os.path.join(building.STORE, "checked-" + part)
 
 

@@ -2,7 +2,7 @@
 
 A library has its interface, its files of specs/ and proofs/, and a list of the modules that rattle makes. The facade among these says
 for which modules the names stand that a crate above may write: of a function its contract and its theorem, and neither its code nor
-its proof. What is no function's is taken as seen, whether the facade leads there or not: a private type may stand in a public one."""
+its proof. What is no function's is taken as seen, whether the facade leads there or not: a private type may be in a public one."""
 import json
 import os
 import re

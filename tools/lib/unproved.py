@@ -1,9 +1,9 @@
 """The library without proofs, as `rt try` compiles its crates, with checks at run time. It is no tool itself.
 
-`rt try` makes programs alone. So the library's crate is laid out once more as a program, whose `main` makes each call once, beside copies
+`rt try` makes programs alone. So the library's crate is laid out once more as a program, whose `main` makes each call once, next to copies
 of the crates below it. The module that `rt try` hands to clang has these calls then, with the parameters of C, under names of the
 crate: they get those of the header, and the module is compiled again, to an archive as `rt lib` makes it. Nothing of it is proved, and
-what it says of its version tells so."""
+its version says so."""
 import os
 import re
 
@@ -84,7 +84,7 @@ def lay_out(place):
 
 
 def become_program(own):
-    """Makes a program of the crate, with a version that tells what it is."""
+    """Makes a program of the crate, with a version that says what it is."""
     library, names = (os.path.join(own, leaf) for leaf in (os.path.join("src", "lib.rt"), NAMES))
     text = ends.content(names).decode("utf-8")
     said = SAID % installing.version()

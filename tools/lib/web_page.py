@@ -1,4 +1,4 @@
-"""The page as one file: esbuild bundles page/src/ into one script for the page and one for its workers, and both stand
+"""The page as one file: esbuild bundles page/src/ into one script for the page and one for its workers, and both are
 in page/src/index.html with the style, what the page offers, and the library. The last two are packed."""
 import base64
 import hashlib
@@ -73,7 +73,7 @@ def offered() -> list[list[Any]]:
 
 
 def data(value: object) -> str:
-    """JSON that may stand in a page."""
+    """JSON that may be in a page."""
     return json.dumps(value, ensure_ascii=True, separators=(",", ":")).replace("<", "\\u003c")
 
 

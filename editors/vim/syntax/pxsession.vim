@@ -1,4 +1,4 @@
-" Sessions of the debugger of pxplanes (docs/DEBUGGER.md): a scene, and command lines behind its `end`,
+" Sessions of the debugger of pxplanes (docs/DEBUGGER.md): a scene, and command lines after its `end`,
 " with comments as pxplanes trace takes them.
 if exists("b:current_syntax")
   finish

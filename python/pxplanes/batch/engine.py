@@ -80,14 +80,14 @@ class Progress:
     """A line on a terminal: how many pieces are done, how many are left, and how long they take."""
 
     def __init__(self, of: int):
-        self.of, self.done, self.began, self.told = of, 0, time.monotonic(), 0.0
+        self.of, self.done, self.began, self.printed = of, 0, time.monotonic(), 0.0
         self.shown = sys.stderr is not None and sys.stderr.isatty()
 
     def step(self) -> None:
         self.done += 1
         now = time.monotonic()
-        if self.shown and (now - self.told > 0.2 or self.done == self.of):
-            self.told = now
+        if self.shown and (now - self.printed > 0.2 or self.done == self.of):
+            self.printed = now
             seconds = (now - self.began) / self.done * (self.of - self.done)
             print("\r%d of %d done, %d left, %d:%02d to go " % (
                 self.done, self.of, self.of - self.done, seconds // 60, seconds % 60), end="", file=sys.stderr, flush=True)

@@ -30,8 +30,8 @@ class Refused(Exception):
 
 
 def enlarged(text: bytes, wide: int, high: int) -> bytes:
-    """The text of the scene over so many pixels, its picture's size as it was. A plane that rises by A a pixel rises by A times the old
-    width over the new one, in parts of a cell; what no fraction bits say exactly is refused."""
+    """The text of the scene over so many pixels, its picture's size as it was. A plane that rises by A a pixel rises
+    by A times the old width over the new one, in parts of a cell; what no fraction bits say exactly is refused."""
     try:
         scene = scenes.read(text)
     except scenes.Refusal as refusal:
@@ -103,8 +103,8 @@ def header(wide: int, high: int) -> bytes:
 
 
 class Picture:
-    """A file of two images of one size, written row by row wherever a row has its place; and, in a file beside it, the pieces that are in
-    it, a line each behind the sum of what it is made of."""
+    """A file of two images of one size, written row by row wherever a row has its place; and, in a file next to it,
+    the pieces that are in it, a line each after the sum of what it is made of."""
 
     def __init__(self, path: str, wide: int, high: int, total: str):
         self.path, self.wide, self.head = path, wide, header(wide, high)
@@ -148,8 +148,8 @@ class Picture:
 
 
 def drawn(text: bytes, wide: int, high: int, out: str, side: int, built: str, jobs: int, enlarges: bool = True) -> None:
-    """Draws a picture of `wide` by `high` pixels in pieces of `side` by `side` into the file `out`: the scene enlarged, or as far as its
-    planes go. Raises `Refused`."""
+    """Draws a picture of `wide` by `high` pixels in pieces of `side` by `side` into the file `out`: the scene
+    enlarged, or as far as its planes go. Raises `Refused`."""
     pieces = list(pieces_of(wide, high, side))
     lock: Any = open(out + ".done", "a")
     engine.locked(lock, out)

@@ -1,8 +1,8 @@
 """Draws many scenes into a folder, and goes on where it was broken off.
 
-The folder gets NAME.ppm, or NAME.txt of a word that writes text. A picture is there whole or not at all. `many.tsv` keeps what came of
-each scene: one of the same text, command and program that is there already, and compared with the same picture or with none, is not
-drawn again. One run at a time works in the folder."""
+The folder gets NAME.ppm, or NAME.txt of a word that writes text. A picture is there whole or not at all. `many.tsv`
+keeps what came of each scene: one of the same text, command and program that is there already, and compared with the
+same picture or with none, is not drawn again. One run at a time works in the folder."""
 from __future__ import annotations
 
 import collections
@@ -54,8 +54,8 @@ def scenes_of(words: Sequence[str], command: str, built: str, against: Optional[
         if name in scenes:
             raise Trouble("%s and %s would both be written as %s" % (scenes[name].path, path, name))
         text = content_of(path)
-        beside = content_of(os.path.join(against, name + ending_of(command))) if against else None
-        scenes[name] = Scene(name, path, "" if text is None else sum_of(command.encode(), made, text, beside))
+        other = content_of(os.path.join(against, name + ending_of(command))) if against else None
+        scenes[name] = Scene(name, path, "" if text is None else sum_of(command.encode(), made, text, other))
     if not scenes:
         raise Trouble("there is no scene; --help says more")
     return [scenes[name] for name in sorted(scenes)]
@@ -150,7 +150,7 @@ def drop(path: str) -> None:
 
 
 def compared(ours: str, theirs: str) -> Came:
-    """What comes of a picture beside the reference: equal bytes need no comparison, others have a process of their own."""
+    """What comes of a picture against the reference: equal bytes need no comparison, others have a process of their own."""
     if content_of(ours) == content_of(theirs):
         return "drawn", ""
     done = subprocess.run([sys.executable, "-m", "pxplanes", "compare", ours, theirs], capture_output=True, text=True)

@@ -115,7 +115,7 @@ def whole_number(least: int, most: int) -> type[int]:
 
 
 def draw_into(words: list[str]) -> int:
-    """Runs a word of the program, and writes what it draws into the file behind `-o`: as PNG where its name ends so. A refused
+    """Runs a word of the program, and writes what it draws into the file after `-o`: as PNG where its name ends so. A refused
     scene leaves the file as it was."""
     at = words.index("-o")
     if at + 1 == len(words):

@@ -62,7 +62,7 @@ def debug(text: bytes) -> int:
             line = first or (input("(pxplanes) ") if is_terminal else sys.stdin.readline())
             if not line and not is_terminal:
                 return frame.SUCCESS
-            for answer in session.told(line):
+            for answer in session.obey(line):
                 print(answer, flush=True)
             first = ""
     except EOFError:

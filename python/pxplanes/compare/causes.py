@@ -100,7 +100,7 @@ class Found:
     equals: list[str] = field(default_factory=list)
 
     def said(self) -> list[str]:
-        """The cause with its evidence; or that none was found, and which ones the maps cannot tell apart."""
+        """The cause with its evidence; or that none was found, and which ones the maps cannot separate."""
         if self.equals:
             return ["no cause found: these explain all %d pixels equally well: %s" % (self.differ, "; ".join(self.equals))]
         if not self.causes:
@@ -619,7 +619,7 @@ def by_solids(sample: Sample) -> list[str]:
 
 
 def edges(sample: Sample) -> Bools:
-    """Pixels with another face of ours in the row or the column beside them."""
+    """Pixels with another face of ours in the row or the column next to them."""
     out = np.zeros(sample.x.shape, bool)
     for dx, dy in ((1, 0), (-1, 0), (0, 1), (0, -1)):
         x, y = np.clip(sample.x + dx, 0, sample.scene.width - 1), np.clip(sample.y + dy, 0, sample.scene.height - 1)

@@ -14,7 +14,7 @@ from . import explaining, kinds, looks, readings
 
 
 class Explanation(NamedTuple):
-    """`lines` are what pxplanes explain writes: of a refused text each mistake with its line, what was due there and a
+    """`lines` are what pxplanes explain writes: of a refused text each mistake with its line, what was expected there and a
     cure; of an accepted one what looks wrong, and its solids and faces. `mended` is the text that a refused one was
     surely meant to be, otherwise None, and `changes` has the line and a sentence for each change. `mistakes` are those
     of a refused text. It is true if the text is accepted, and `str` of it has the lines."""

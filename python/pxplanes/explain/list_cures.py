@@ -1,4 +1,4 @@
-"""What was due in the first bad line of a listing, or what its limit is: what `explain` adds to a refusal. It is no tool itself.
+"""What was expected in the first bad line of a listing, or what its limit is: what `explain` adds to a refusal. It is no tool itself.
 The forms and limits are those of docs/LISTINGS.md."""
 from __future__ import annotations
 
@@ -30,7 +30,7 @@ def form_of(word: str) -> str:
 
 
 def due(text: bytes, refusal: Any) -> list[str]:
-    """What was due, by the cause and by how far the text had come."""
+    """What was expected, by the cause and by how far the text had come."""
     if refusal.cause in DUE:
         return [DUE[refusal.cause]]
     words = words_of(text.split(b"\n")[refusal.line - 1])
@@ -46,7 +46,7 @@ def due(text: bytes, refusal: Any) -> list[str]:
 
 
 def of(text: bytes, refusal: Any) -> list[str]:
-    """The lines behind a refusal: what was due, or the limit."""
+    """The lines after a refusal: what was expected, or the limit."""
     if hasattr(refusal, "kind"):
         return ["limit: " + LIMITS[refusal.kind]] if refusal.kind in LIMITS else []
     told = due(text, refusal)

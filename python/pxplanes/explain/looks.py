@@ -1,7 +1,7 @@
 """What an accepted scene looks like: where each of its solids is in the picture, and what is likely
-wrong with it. What `explain` tells; docs/PICTURE.md has the meaning that it tells it by.
+wrong with it. What `explain` reports; docs/PICTURE.md has the meaning that it uses.
 
-A hint is a pair of a heading, LIKELY or LOOK, and a sentence. LIKELY is said where hardly anybody means what stands there,
+A hint is a pair of a heading, LIKELY or LOOK, and a sentence. LIKELY is said where hardly anybody means what is written,
 LOOK where a good scene may have it too."""
 from __future__ import annotations
 

@@ -173,7 +173,7 @@ def numerals(words: list[str]) -> str:
 
 
 def keeps(old: str, new: str, names: Any) -> bool:
-    """Whether an edited line has every number and sign of the old one, drops no solid, and takes in none that stands there already."""
+    """Whether an edited line has every number and sign of the old one, drops no solid, and takes in none that is there already."""
     had, has = old.split(), new.split()
     if has[0] == "show":
         before, signs = expression_of(old)
@@ -341,7 +341,7 @@ def version_of(lines: Lines) -> bytes:
 
 
 def stand_in(lines: Lines, refusal: scenes.Refusal, at: int) -> Optional[bytes]:
-    """A line that stands for a refused one, so that what follows can be read; None if what follows cannot be told from it."""
+    """A line that stands for a refused one, so that what follows can be read; None if it does not say what may follow."""
     if at == len(lines) or cause_of(refusal) not in OWN_LINE and not refusal.note.startswith("limit"):
         return None
     before, words = Judge().after(lines[:at]), words_of(lines[at])

@@ -48,7 +48,7 @@ def of_three_bytes(samples: Sequence[int]) -> list[int]:
 
 
 def word_at(data: bytes, at: int) -> tuple[bytes, int]:
-    """The next word of a header, without comments, and the place behind it."""
+    """The next word of a header, without comments, and the place after it."""
     while at < len(data) and (data[at] in BLANK or data[at:at + 1] == b"#"):
         if data[at:at + 1] == b"#":
             stop = data.find(b"\n", at)
@@ -110,7 +110,7 @@ def images(data: bytes, most: int = 2) -> list[Image]:
     at = 0
     while not found or word_at(data, at)[0]:
         if len(found) == most:
-            raise Trouble("there is more behind %s" % ("the image" if most == 1 else "two images"))
+            raise Trouble("there is more after %s" % ("the image" if most == 1 else "two images"))
         image, at = image_at(data, at)
         found.append(image)
     if any((each.width, each.height) != (found[0].width, found[0].height) for each in found):

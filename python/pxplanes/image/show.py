@@ -62,8 +62,8 @@ def pfm(width: int, height: int, numbers: Sequence[float]) -> bytes:
 
 
 def in_terminal(width: int, height: int, colours: Sequence[Colour], columns: int) -> str:
-    """A picture of half blocks for a terminal that is so many columns wide, two pixels in a character. With NO_COLOR set, a character
-    is as dense as its two pixels are light."""
+    """A picture of half blocks for a terminal that is so many columns wide, two pixels in a character. With NO_COLOR
+    set, a character is as dense as its two pixels are light."""
     step = max(1, math.ceil(width / columns))
     lines = []
     for y in range(0, height, 2 * step):

@@ -59,7 +59,7 @@ class Machine:
         """One who asks a session of the program, line by line."""
         session = subprocess.Popen([built, "debug"], stdin=subprocess.PIPE, stdout=subprocess.PIPE)
         assert session.stdin and session.stdout
-        ask, told, answers = session.stdin, session.stdout, sessions.Answers()
+        ask, lines, answers = session.stdin, session.stdout, sessions.Answers()
         ask.write(text if text.endswith(b"\n") else text + b"\n")
 
         def answer(line: bytes) -> list[bytes]:
@@ -68,7 +68,7 @@ class Machine:
                 ask.flush()
             except BrokenPipeError:
                 raise Trouble("the session ended") from None
-            return [each.rstrip(b"\n") for each in answers.taken(line, told.readline)]
+            return [each.rstrip(b"\n") for each in answers.taken(line, lines.readline)]
 
         return answer
 
@@ -87,7 +87,7 @@ class Debugger:
         self.machine = Machine(text)
         self.now, self.before, self.watched = 0, [0], (-1, -1)
 
-    def told(self, line: str) -> list[str]:
+    def obey(self, line: str) -> list[str]:
         """The lines that answer one; `quit` raises `EOFError`."""
         words = line.partition("#")[0].split()
         if not words:
@@ -126,12 +126,12 @@ class Debugger:
             elif word in ("step", "back", "until", "run", "macro"):
                 yield from self.moved(self.target(word, numbers))
             else:
-                told = self.machine.answer(" ".join(words).encode())
-                if told and told[0].startswith(b"?"):
+                reply = self.machine.answer(" ".join(words).encode())
+                if reply and reply[0].startswith(b"?"):
                     raise Mistaken("a listing has no keys" if word == "field" and self.machine.is_listing else
                                    "there is no such place: the array has %d by %d pixels, and level L of the tree 2^L nodes" % (
                                        self.machine.wide, self.machine.high))
-                yield from (line.decode("latin-1") for line in told)
+                yield from (line.decode("latin-1") for line in reply)
 
     def target(self, word: str, numbers: list[int]) -> int:
         """The clock that a move goes to."""

@@ -14,9 +14,9 @@ from pxplanes.errors import NoLibrary, Refused, Trouble
 from pxplanes.machine import micros, operations, passes, sessions, states
 
 NUMBER = re.compile(rb"\d{1,18}\Z")
-# The line of a listing that `list` writes in which its first operation stands.
+# The line of a listing that `list` writes that has its first operation.
 FIRST_LINE = 3
-Told = Optional[list[str]]
+Answer = Optional[list[str]]
 
 
 def first_word(text: bytes) -> bytes:
@@ -92,9 +92,9 @@ class Session:
         name, numbers = words[0].decode("latin-1"), words[1:]
         form = FORMS.get(name)
         if len(line) <= sessions.LONGEST and form and len(numbers) == form[0] and all(map(NUMBER.match, numbers)):
-            told = form[1](self, *map(int, numbers))
-            if told is not None:
-                return [line.encode() for line in told]
+            lines = form[1](self, *map(int, numbers))
+            if lines is not None:
+                return [line.encode() for line in lines]
         return [b"? line %d" % self.count]
 
     def state(self) -> states.State:
@@ -102,53 +102,53 @@ class Session:
             self.seen = states.state(self.listing.text, self.now)
         return self.seen
 
-    def to(self, clock: int) -> Told:
+    def to(self, clock: int) -> Answer:
         self.now = max(0, min(clock, self.listing.clocks))
         return ["at %d" % self.now]
 
-    def step(self, count: int) -> Told:
+    def step(self, count: int) -> Answer:
         return self.to(self.now + count)
 
-    def back(self, count: int) -> Told:
+    def back(self, count: int) -> Answer:
         return self.to(self.now - count)
 
-    def until(self, clock: int) -> Told:
+    def until(self, clock: int) -> Answer:
         return self.to(max(clock, self.now))
 
-    def run(self) -> Told:
+    def run(self) -> Answer:
         return self.to(self.listing.clocks)
 
-    def macro(self, count: int) -> Told:
+    def macro(self, count: int) -> Answer:
         place = self.listing.place_of(self.now)
         if place is None or count == 0:
             return self.to(self.now)
         return self.to(self.listing.ends[min(place[0] + count, len(self.listing.ends)) - 1])
 
-    def at(self) -> Told:
+    def at(self) -> Answer:
         place = self.listing.place_of(self.now)
-        behind = "done" if place is None else "macro %d micro %d" % place
-        return ["at %d of %d %s" % (self.now, self.listing.clocks, behind)]
+        rest = "done" if place is None else "macro %d micro %d" % place
+        return ["at %d of %d %s" % (self.now, self.listing.clocks, rest)]
 
-    def pixel(self, x: int, y: int) -> Told:
+    def pixel(self, x: int, y: int) -> Answer:
         if x >= 1 << self.listing.nx or y >= 1 << self.listing.ny:
             return None
         found = self.state().pixel(x, y)
         registers = found.enable, found.carry, found.latch, found.leaf
         return ["pixel %d %d m %s e %d k %d l %d t %d" % (x, y, found.memory, *registers)]
 
-    def tree(self, level: int, index: int) -> Told:
+    def tree(self, level: int, index: int) -> Answer:
         if not 1 <= level <= self.listing.nx + self.listing.ny or index >= 1 << level:
             return None
         return ["tree %d %d out %d carry %d" % ((level, index) + self.state().node(level, index))]
 
-    def trace(self) -> Told:
+    def trace(self) -> Answer:
         first = max(0, self.now - sessions.KEPT)
         made = states.micros(self.listing.text, first, self.now - first)
-        return ["%d: %s" % told for told in enumerate(map(str, made), first)]
+        return ["%d: %s" % pair for pair in enumerate(map(str, made), first)]
 
 
 # Of each line how many numbers it has, and what answers it.
-FORMS: dict[str, tuple[int, Callable[..., Told]]] = {
+FORMS: dict[str, tuple[int, Callable[..., Answer]]] = {
     "step": (1, Session.step), "macro": (1, Session.macro), "run": (0, Session.run), "until": (1, Session.until),
     "back": (1, Session.back), "at": (0, Session.at), "pixel": (2, Session.pixel), "tree": (2, Session.tree),
     "trace": (0, Session.trace)}
@@ -156,7 +156,7 @@ FORMS: dict[str, tuple[int, Callable[..., Told]]] = {
 
 def held(path: Optional[str], text: bytes, commands: Sequence[bytes]) -> list[list[bytes]]:
     """The answers of a session over a scene, by the program at a path or as built, or over a listing; each a list of
-    lines, and none behind a `quit`."""
+    lines, and none after a `quit`."""
     if not is_listing(text):
         return sessions.held(program.needed(path), text, commands)
     session = Session(text)

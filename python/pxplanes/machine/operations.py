@@ -20,12 +20,12 @@ ROLES = ("start", "open", "candidate", "drop", "clear", "front", "confirm", "beg
 class Operation(NamedTuple):
     """A broadcast operation, and what it is for (docs/PASSES.md, "Steps"). `str` of it is its line in a listing.
 
-    `kind` is the word of that line and `numbers` are those behind it (docs/LISTINGS.md, "Operations"); `clock` is the one at which
-    it begins. Of a scene `pass_` is its step among all steps, from 0 on, and `role` the step's kind; `literal` is the literal that
-    the step is of, from 1 on, among those of all that `products` gives, one after another, and 0 for the start. Where the step is
-    of a face, `solid` is its solid, from 1 on, and `face` its number, 0 for the far limit; where it asks another literal, `other`
-    is which one, from 1 on, of the product's literals that are of other solids. What does not apply is 0, and of a listing `role`
-    is None."""
+    `kind` is the word of that line and `numbers` are those after it (docs/LISTINGS.md, "Operations"); `clock` is the
+    one at which it begins. Of a scene `pass_` is its step among all steps, from 0 on, and `role` the step's kind;
+    `literal` is the literal that the step is of, from 1 on, among those of all that `products` gives, one after
+    another, and 0 for the start. Where the step is of a face, `solid` is its solid, from 1 on, and `face` its
+    number, 0 for the far limit; where it asks another literal, `other` is which one, from 1 on, of the product's
+    literals that are of other solids. What does not apply is 0, and of a listing `role` is None."""
 
     kind: str
     numbers: tuple[int, ...]
@@ -41,7 +41,7 @@ class Operation(NamedTuple):
         return " ".join([self.kind, *map(str, self.numbers)])
 
 
-def told(found: FoundOperation) -> Operation:
+def operation_of(found: FoundOperation) -> Operation:
     """What the library wrote of an operation."""
     return Operation(KINDS[found.kind - 1], tuple(found.numbers[:found.numbers_count]), found.clock, getattr(found, "pass"),
                      found.literal, ROLES[found.role - 1] if found.role else None, found.solid, found.face, found.other)
@@ -61,7 +61,7 @@ def course(text: Text, first: int = 0, count: Optional[int] = None) -> list[Oper
         raise NoOperation(operations)
     room = Buffer("operations", count, ctypes.sizeof(FoundOperation))
     done("course", text, (first,), [room], clocks=CLOCKS * (first + count))
-    return [told(found) for found in (FoundOperation * count).from_buffer(room.room)]
+    return [operation_of(found) for found in (FoundOperation * count).from_buffer(room.room)]
 
 
 def operations_of(text: Text) -> int:

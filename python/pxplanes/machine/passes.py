@@ -107,7 +107,7 @@ def spelled(scene: scenes.Scene, product: Sequence[int]) -> str:
     return " ".join(map("".join, zip(signs, names)))
 
 
-def told(scene: scenes.Scene, products: Products, step: Step) -> tuple[str, list[str]]:
+def described(scene: scenes.Scene, products: Products, step: Step) -> tuple[str, list[str]]:
     """What a pass is for, and what each of its operations does after the first, which enables every pixel."""
     values: dict[str, Any] = {"products": len(products), "fraction": ""}
     own, does = WORDS["steps"][step.role], list[str]()
@@ -144,7 +144,7 @@ def of_scene(scene: scenes.Scene, products: Products, listed: Listed) -> tuple[l
     passes' words."""
     rows: list[Row] = []
     said: list[str] = []
-    passes = (told(scene, products, step) for step in steps(scene, products))
+    passes = (described(scene, products, step) for step in steps(scene, products))
     words: Iterator[str] = iter(())
     for name, numbers in listed:
         if name == "all":

@@ -19,7 +19,7 @@ def words_of(line: bytes) -> list[bytes]:
 
 
 def parted(text: bytes) -> tuple[bytes, list[bytes]]:
-    """The scene of a text, up to the line `end`, and the command lines behind it."""
+    """The scene of a text, up to the line `end`, and the command lines after it."""
     at = 0
     while at < len(text):
         stop = text.find(b"\n", at) + 1 or len(text)
@@ -46,7 +46,7 @@ def is_quit(command: bytes) -> bool:
 
 
 class Answers:
-    """Tells the lines of a session's output apart: those of each command, one after another."""
+    """Separates the lines of a session's output: those of each command, one after another."""
 
     def __init__(self) -> None:
         self.now = 0
@@ -61,7 +61,7 @@ class Answers:
 
 
 def held(built: str, scene: bytes, commands: Sequence[bytes]) -> list[list[bytes]]:
-    """The answers of a session to its commands, each a list of lines; of those behind a `quit` none."""
+    """The answers of a session to its commands, each a list of lines; of those after a `quit` none."""
     text = scene + b"".join(command + b"\n" for command in commands)
     if len(text) > limits.MAX_TEXT_BYTES:
         raise Trouble("this takes more command lines than a text of %d bytes has" % limits.MAX_TEXT_BYTES)

@@ -90,7 +90,7 @@ class State:
             self.clock, self.clocks, self.grid_width, self.grid_height, self.bits)
 
     def __eq__(self, other: object) -> bool:
-        """Whether both grids have one size and all bits are alike, whatever clock of which text either stands at."""
+        """Whether both grids have one size and all bits are alike, whatever clock of which text either is at."""
         if not isinstance(other, State):
             return NotImplemented
         return ((self.grid_width, self.grid_height) == (other.grid_width, other.grid_height)
@@ -178,12 +178,12 @@ def state(text: Text, clock: int) -> State:
     if not 0 <= clock < ENDLESS:
         raise NoClock(clocks_of(text))
 
-    words, _ = filled("state", "Q", text, clock, behind=(ctypes.byref(found),), clocks=clock)
+    words, _ = filled("state", "Q", text, clock, after=(ctypes.byref(found),), clocks=clock)
     return State(found, words.numbers)
 
 
 def pixels(text: Text, x: int, y: int, first: int, count: int) -> list[Pixel]:
-    """What the pixel at column x and row y holds after `first` clocks of a scene or of a listing, and behind each of
+    """What the pixel at column x and row y holds after `first` clocks of a scene or of a listing, and after each of
     the next `count`: one state of the text, and then clock by clock.
 
     Raises as `state` does, `NoClock` where the text has fewer clocks, and `IndexError` where the grid has no such
@@ -201,7 +201,7 @@ def pixels(text: Text, x: int, y: int, first: int, count: int) -> list[Pixel]:
 
 
 def clocked(before: State, micros: Iterable[Micro]) -> State:
-    """The state behind a clock of each of these microinstructions, which may be of one's own. `before` stays as it is;
+    """The state after a clock of each of these microinstructions, which may be your own. `before` stays as it is;
     going back is a state that was kept. What comes next is not known of it: `operation`, `operation_clock` and `next`
     are None.
 

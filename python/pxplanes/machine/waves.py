@@ -1,9 +1,9 @@
 """Waveforms of the broadcasts of a scene or of a listing, and of what pixels hold: as a VCD file, which GTKWave opens, or as a chart.
 
 A VCD file has a clock of 10 ns; the number of the clock, of the operation (`macro`) and of its micro, and the line of the listing
-in which the operation stands; the operation, and what is broadcast, as the tree's operation and the act, with the lines c, a and
+of the operation; the operation, and what is broadcast, as the tree's operation and the act, with the lines c, a and
 b while the tree is fed; of each pixel enable, carry, latch and the bit of its leaf; both keys as numbers, and the bits alive and
-par, which a listing does not have. At time 10 n clock n begins: a value is what stands in that clock, before it is over."""
+par, which a listing does not have. At time 10 n clock n begins: a value is that of the clock, before it is over."""
 from __future__ import annotations
 
 import re
@@ -68,20 +68,20 @@ class Pixel:
 
 
 class State:
-    """What stands before a clock: its place, the pixels and the nodes, by a session's answers."""
+    """What there is before a clock: its place, the pixels and the nodes, by a session's answers."""
 
     def __init__(self, layout: int, window: Window, answers: list[list[bytes]]):
-        place, *told = (lines[0].decode() for lines in answers)
+        place, *reported = (lines[0].decode() for lines in answers)
         moved = re.search(r"macro (\d+) micro (\d+)", place)
         self.macro, self.micro = map(int, moved.groups()) if moved else (None, None)
         self.pixels = []
         for _ in window.pixels:
             count = len(window.words)
-            self.pixels.append(Pixel(layout, window.bits, *told[:count]))
-            told = told[count:]
-        if any(line.startswith("?") for line in told):
+            self.pixels.append(Pixel(layout, window.bits, *reported[:count]))
+            reported = reported[count:]
+        if any(line.startswith("?") for line in reported):
             raise Trouble("the tree has no such node")
-        self.nodes = [int(word) for line in told for word in line.split()[4::2]]
+        self.nodes = [int(word) for line in reported for word in line.split()[4::2]]
 
 
 class Broadcast:
@@ -123,17 +123,17 @@ def looked_at(text: bytes, window: Window) -> tuple[list[State], list[Broadcast]
     layout = 0 if listings.is_listing(text) else (scenes.read(text).need() - 2) // 2
     commands = window.commands()
     answers = iter(listings.held(None, text, commands))
-    told: list[list[list[bytes]]] = []
+    reported: list[list[list[bytes]]] = []
     broadcasts: dict[int, Broadcast] = {}
     for command in commands:
         if command == b"at":
-            told.append([])
+            reported.append([])
         lines = next(answers)
         if command == b"trace":
             broadcasts.update(traced(lines))
         elif not command.startswith((b"until", b"step")):
-            told[-1].append(lines)
-    states = [State(layout, window, each) for each in told]
+            reported[-1].append(lines)
+    states = [State(layout, window, each) for each in reported]
     clocks = range(window.first, window.last)
     return states, [broadcasts[clock] for clock in clocks] + [Broadcast()]
 
@@ -172,7 +172,7 @@ def signals(text: bytes, window: Window) -> list[vcd.Signal]:
 
 
 def values(clock: int, state: State, broadcast: Broadcast, operations: list[tuple[int, str]]) -> list[Any]:
-    """What the signals behind the clock are in a clock, in their order."""
+    """What the signals after the clock are in a clock, in their order."""
     act = None if broadcast.act is None else spelled(broadcast.act)
     line = operation = None
     if state.macro is not None:
@@ -202,8 +202,8 @@ def in_slots(label: str, words: Iterable[Any]) -> str:
 def wave_lines(label: str, bits: Sequence[Optional[int]]) -> list[str]:
     """A bit over the clocks in two lines: high above, low below, dots where it has no value."""
     high, low = " " * LABEL, label.ljust(LABEL)
-    for bit, behind in zip(bits, [*bits[1:], bits[-1]]):
-        turn = "/" if (bit, behind) == (0, 1) else "\\" if (bit, behind) == (1, 0) else None
+    for bit, later in zip(bits, [*bits[1:], bits[-1]]):
+        turn = "/" if (bit, later) == (0, 1) else "\\" if (bit, later) == (1, 0) else None
         high += ("_" if bit == 1 else " ") * (SLOT - 1) + (" " if turn or bit != 1 else "_")
         low += {0: "_", 1: " ", None: "."}[bit] * (SLOT - 1)
         low += turn or {0: "_", 1: " ", None: "."}[bit]

@@ -52,8 +52,8 @@ def greatest(lines: Any, x: float, y: float) -> Any:
     return most, [line[3] for line, value in zip(lines, values) if value == most]
 
 
-def visit(fronts: Any, backs: Any, box: Any, told: Any, is_none: Any) -> None:
-    """Tells of each pixel of a box its place, and what is greatest there of fronts and of backs; of a whole box in
+def visit(fronts: Any, backs: Any, box: Any, report: Any, is_none: Any) -> None:
+    """Reports of each pixel of a box its place, and what is greatest there of fronts and of backs; of a whole box in
     which no cell is the numbers of a front and a back that leave none."""
     (left, right), (top, bottom) = box
     if right - left + bottom - top > SMALL and len(fronts) + len(backs) > FEW:
@@ -63,11 +63,11 @@ def visit(fronts: Any, backs: Any, box: Any, told: Any, is_none: Any) -> None:
             if most_in(a, b, c, half) <= 0:
                 is_none(own[0][3], others[0][3])
             else:
-                visit(own, others, half, told, is_none)
+                visit(own, others, half, report, is_none)
         return
     for y in range(top, bottom + 1):
         for x in range(left, right + 1):
-            told((x, y), greatest(fronts, x, y), greatest(backs, x, y))
+            report((x, y), greatest(fronts, x, y), greatest(backs, x, y))
 
 
 def sided(sides: Any, y: float, columns: Any) -> Any:

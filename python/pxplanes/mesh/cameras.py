@@ -3,7 +3,7 @@ back. `model` draws by it and notes it in the scene as a comment; `export`, `sho
 that, or two distances, and turn depths into distances along the axis.
 
 A depth is K (1/near - 1/Z), with K cells from near to far: in it a plane of the model is linear on
-the screen, so that the machine draws it as it stands (docs/MODELLING.md, "Perspective")."""
+the screen, so that the machine draws it as it is (docs/MODELLING.md, "Perspective")."""
 from __future__ import annotations
 
 import math

@@ -151,7 +151,7 @@ class Before:
             self.most > distances.far)
 
     def why_empty(self) -> str:
-        return "nothing of the model is before the camera, or what is left of it is smaller than a pixel"
+        return "nothing of the model is before the camera, or the rest of it is smaller than a pixel"
 
 
 def portrait(leaves: Sequence[tuple[Any, bool]], turn: Sequence[float], fov: float) -> tuple[
@@ -346,9 +346,9 @@ def nearest(triangles: Triangles, size: Sequence[int]) -> tuple[Array, Array]:
 
 def first_inside(tree: Any, leaves: Sequence[Any], owner: Array, triangles: Triangles, size: Sequence[int]) -> tuple[
     Array, Array, Array]:
-    """The same for an expression of closed meshes: at each pixel the first crossing behind which the expression holds.
+    """The same for an expression of closed meshes: at each pixel the first crossing after which the expression holds.
     A mesh is where its surface winds around a point. The third is the leaf that is at the near plane where the
-    expression holds there, else none."""
+    expression holds there, otherwise none."""
     parts = [(which, y * size[0] + x, triangles.depth(which, x, y)) for which, x, y in triangles.spans()]
     which, at, z = (np.concatenate(part) for part in zip(*parts)) if parts else (np.zeros(0, int),) * 3
     order = np.lexsort((triangles.way[which], z, at))
@@ -362,7 +362,7 @@ def first_inside(tree: Any, leaves: Sequence[Any], owner: Array, triangles: Tria
     for number, own in enumerate(leaves):
         total = np.cumsum(np.where(leaf == number, way, 0))
         last = np.repeat(total[ends], count)
-        # behind the last crossing a closed mesh is over: the winding there is 0
+        # after the last crossing a closed mesh is over: the winding there is 0
         after[id(own)] = total != last
         at_start[id(own)] = np.append(0, total[ends[:-1]])[:len(starts)] != total[ends]
     holds, begins = holding(tree, after), holding(tree, at_start)
@@ -419,27 +419,27 @@ def ends_of(parts: Sequence[Any], size: Sequence[int], bits: Sequence[int]) -> t
 def unlike(leaf: Any, parts: Sequence[Any], view: Any, size: Sequence[int], bits: Sequence[int], rounded: float,
            digit: float) -> tuple[int, Any]:
     """At how many pixels the convex parts of a mesh do not begin or end where its own triangles do, and the first of
-    them. What is beside an edge by less than 0.02 pixels, or by what the digits of its points leave open, is not
+    them. What is next to an edge by less than 0.02 pixels, or by what the digits of its points leave open, is not
     counted."""
     lens, cells = lens_of(view), (1 << bits[0]) - 1
     seen, numbers, _ = in_view(lens, lens.seen(corners_of(leaf)))
     places = lens.placed(seen)
     zoom = lens.focal / lens.near if lens.perspective else lens.focal
-    beside, deep = max(0.02, 2 * digit * zoom), 2 * digit * lens.steep / (lens.near ** 2 if lens.perspective else 1)
+    aside, deep = max(0.02, 2 * digit * zoom), 2 * digit * lens.steep / (lens.near ** 2 if lens.perspective else 1)
     room, ends = 1 + rounded + deep, []
     for way in (1, -1):
         around = []
         for right, down in ((0, 0), (1, 1), (1, -1), (-1, 1), (-1, -1)):
-            moved = (places + np.array((right * beside, down * beside, 0))) * np.array((1, 1, way))
+            moved = (places + np.array((right * aside, down * aside, 0))) * np.array((1, 1, way))
             around.append(way * nearest(Triangles(moved, numbers, size, True), size)[0].reshape(size[1], size[0]))
         ends.append((np.min(around, 0), np.max(around, 0)))
     first, last = ends_of(parts, size, bits)
     (begins, begun), (ended, over) = ends
-    # A scene tells nothing of what begins before all depths or ends behind them, nor of what is thinner than a cell.
+    # A scene says nothing of what begins before all depths or ends after them, nor of what is thinner than a cell.
     wrong = (last < 0) & (np.minimum(ended, cells) - np.maximum(begun, 0) > 1 + room)
     for own, low, high in ((first, begins, begun), (last, ended, over)):
-        is_told = (last >= 0) & (low >= 0) & (high <= cells) & (own > room) & (own < cells - room)
-        wrong |= is_told & ((own < np.ceil(low) - room) | (own > np.ceil(high) + room))
+        is_judged = (last >= 0) & (low >= 0) & (high <= cells) & (own > room) & (own < cells - room)
+        wrong |= is_judged & ((own < np.ceil(low) - room) | (own > np.ceil(high) + room))
     found = np.argwhere(wrong)
     return len(found), tuple(found[0][::-1].tolist()) if len(found) else None
 

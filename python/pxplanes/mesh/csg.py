@@ -37,7 +37,7 @@ class Flat:
 
 
 class Place:
-    """Where a statement stands: its matrix and colour, whether shapes are flat there, how deep it
+    """Where a statement is: its matrix and colour, whether shapes are flat there, how deep it
     is, and whether another node makes a shape of it."""
 
     def __init__(self, matrix: kinds.Matrix = AS_IS, colour: kinds.Colour = None, flat: bool = False, depth: int = 0,
@@ -335,7 +335,7 @@ class Reader:
         most = max((x for flat in flats for x, _ in flat.corners), default=0)
         angle = max(-360.0, min(360.0, found.get("angle", 360)))
         if least < 0:
-            raise self.bad("rotate_extrude of what is left of the axis is not read here", line, Untaken)
+            raise self.bad("rotate_extrude of what is at the left of the axis is not read here", line, Untaken)
         count = primitives.fragments(most, primitives.settings(found))
         count = max(int(count * abs(angle) / 360), 1)
         return solids.each(tree, lambda flat: joined("+", [
@@ -346,7 +346,7 @@ class Reader:
 def resized(wanted: kinds.Vector, auto: Sequence[bool], size: kinds.Vector) -> list[float]:
     """By how much each axis grows, as OpenSCAD's resize has it."""
     wanted, auto = [*wanted, 0, 0], [*auto, False, False]
-    factors = [want / have if want > 0 and have > 0 else None for want, have in zip(wanted, size)]
+    factors = [wish / have if wish > 0 and have > 0 else None for wish, have in zip(wanted, size)]
     free = factors[max(range(3), key=lambda i: wanted[i])] or 1
     return [factor or (free if by_itself else 1) for factor, by_itself in zip(factors, auto)]
 

@@ -120,7 +120,7 @@ class Cloud:
 
 
 class Found:
-    """The planes that are found, each once, with those of like direction close at hand."""
+    """The planes that are found, each once, with those of like direction next to each other."""
 
     def __init__(self) -> None:
         self.planes: list[tuple[int, kinds.Plane]] = []
@@ -161,7 +161,7 @@ def digit_of(points: kinds.Points) -> float:
     return SIX_DIGITS if six else SINGLE
 
 
-def beside(point: kinds.Vector, corners: kinds.Points, normal: kinds.Vector) -> float:
+def distance_aside(point: kinds.Vector, corners: kinds.Points, normal: kinds.Vector) -> float:
     """How far it is, along a facet's plane, from the nearest of its corners to a point."""
     ways = [[a - b for a, b in zip(point, corner)] for corner in corners]
     return math.sqrt(min(max(dot(way, way) - dot(way, normal) ** 2, 0) for way in ways))
@@ -172,7 +172,7 @@ def planes(points: kinds.Points, facets: kinds.Facets, numbers: Optional[Sequenc
     """The half-spaces `normal * p <= far` whose common part is the solid, each once, in the order
     of the facets. `Trouble` where it is flat, open or not convex. Where points are not exact, a facet may be off
     by what their last digits leave open, the more the slimmer it is and the farther a point is from it;
-    one that is too slim to tell its plane is passed over where the others close the solid without it."""
+    one that is too slim to give its plane is passed over where the others close the solid without it."""
     size, wide = extent(points)
     digit = (EXACT if is_exact else digit_of(points)) * size
     closed(facets)
@@ -189,7 +189,7 @@ def planes(points: kinds.Points, facets: kinds.Facets, numbers: Optional[Sequenc
                 raise Trouble("is flat: no point is more than %.2g behind its facet %s" % (max(deepest, 0), number))
         for point in cloud.beyond(normal, far + digit):
             before = dot(normal, point) - far
-            if before > 2 * digit and before > 2 * digit * (1 + beside(point, corners, normal) / high):
+            if before > 2 * digit and before > 2 * digit * (1 + distance_aside(point, corners, normal) / high):
                 raise Trouble("is not convex: a point is %.2g before its facet %s"
                               % (cloud.farthest(normal) - far, number))
         found.add(number, (normal, far))
@@ -202,7 +202,7 @@ def planes(points: kinds.Points, facets: kinds.Facets, numbers: Optional[Sequenc
     by_number = [plane for _, plane in sorted(found.planes)]
     for corners, normal, number in slim:
         if bulge(by_number, corners, normal) > SLIM * wide:
-            raise Trouble("has a facet too slim to tell its plane: facet %s" % number)
+            raise Trouble("has a facet too slim to give its plane: facet %s" % number)
     return by_number
 
 
@@ -449,14 +449,14 @@ def cells(points: kinds.Points, facets: kinds.Facets) -> list[Any]:
     one another, or where there are more parts than a scene has solids."""
     closed(facets)
     if open_edges(facets):
-        raise Trouble("is not convex, and its facets are not turned alike, so that its inside cannot be told")
+        raise Trouble("is not convex, and its facets are not turned alike, so that its inside is unknown")
     turned = facets if volume(points, facets) > 0 else [facet[::-1] for facet in facets]
     size, wide = extent(points)
     digit = digit_of(points) * size
     near = NEAR * digit
     point = crossed(points, turned, near)
     if point:
-        raise Trouble("passes through itself, at %.4g %.4g %.4g, so that its inside cannot be told; "
+        raise Trouble("passes through itself, at %.4g %.4g %.4g, so that its inside is unknown; "
                   "write it as a union of parts that do not" % tuple(part + 0.0 for part in point))
     whole = [([points[at] for at in facet], plane_of([points[at] for at in facet])) for facet in turned]
     polygons: list[Any] = [(polygon, plane[:2]) for polygon, plane in whole

@@ -1,4 +1,4 @@
-"""Reads glTF 2.0: .glb, and .gltf with its buffers embedded or in files beside it. Its metres and its y axis upwards
+"""Reads glTF 2.0: .glb, and .gltf with its buffers embedded or in files next to it. Its metres and its y axis upwards
 become millimetres and a z axis upwards."""
 from __future__ import annotations
 
@@ -88,7 +88,7 @@ class File:
         return self.known[number]
 
     def content(self, uri: str) -> bytes:
-        """What an address has: bytes in itself, or a file beside the model."""
+        """What an address has: bytes in itself, or a file next to the model."""
         if uri.startswith("data:"):
             return base64.b64decode(uri.partition(",")[2])
         if self.folder is None or os.path.basename(uri) != uri:

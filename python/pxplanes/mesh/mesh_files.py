@@ -27,7 +27,7 @@ def floats(words: Any, what: str) -> list[float]:
 
 
 def read_off(data: bytes) -> Any:
-    """The mesh of an OFF file; colours behind points and facets are passed over."""
+    """The mesh of an OFF file; colours after points and facets are passed over."""
     lines = [line.split("#")[0].split() for line in data.decode("latin-1").split("\n")]
     lines = [line for line in lines if line]
     if not lines or not re.fullmatch(r"(ST)?C?N?OFF", lines[0][0]):

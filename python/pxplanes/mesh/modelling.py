@@ -27,7 +27,7 @@ OF_UNITS = ("3mf", "glb", "gltf")
 PROJECTIONS = {"o": False, "ortho": False, "p": True, "perspective": True}
 OF_PERSPECTIVE = ("eye", "at", "fov", "near", "far")
 LEAST_DEPTH_BITS = 12
-BESIDE = 0.001
+ASIDE = 0.001
 LEAST_COLUMNS = 8
 
 
@@ -133,7 +133,7 @@ def box_of(places: Any) -> Any:
     is too far away to be written."""
     if not places or max(abs(part) for place in places for part in place) > limits.MAX_SLOPE:
         return None
-    return [(math.ceil(min(parts) - BESIDE), math.floor(max(parts) + BESIDE)) for parts in zip(*places)]
+    return [(math.ceil(min(parts) - ASIDE), math.floor(max(parts) + ASIDE)) for parts in zip(*places)]
 
 
 def sides_of_box(box: Any) -> list[Any]:
@@ -165,7 +165,7 @@ class Laid:
 
     def met(self, view: Any, choices: Any, columns: Any, is_first: bool) -> Optional[Laid]:
         """The same by the planes alone that bound it, or its first cell, at some pixel of these columns; None where it
-        is beside them."""
+        is next to them."""
         (width, height), (depth, fraction) = choices.size, choices.bits
         box = box_of(view.places(self.solid.points)) or [(0, width - 1), (0, height - 1)]
         box = [(max(low, least), min(high, most)) for (low, high),
@@ -405,7 +405,7 @@ def before_camera(choices: Any, bits: Any, tree: kinds.Tree) -> Any:
 
 
 def in_perspective(choices: Any, tree: kinds.Tree) -> Any:
-    """The view of a perspective camera, and the bits that it wants: so few of depth that no plane is
+    """The view of a perspective camera, and the bits that it needs: so few of depth that no plane is
     too steep which has a face in the picture. They are taken where no others are said."""
     planes = [plane for solid, _ in solids.leaves(tree) for plane in solid.planes]
     bits = wanted_bits(choices.size, min(limits.MAX_FACES, len(solids.leaves(tree)) + len(planes)))
@@ -431,7 +431,7 @@ def tell(shown: Any, view: Any, worst: Any, choices: Any, wanted: Any) -> None:
     if wanted:
         distances = view.camera.distances
         ends.say("pxplanes convert", "near %.4g, far %.4g; a distance is off by at most %.2g, at far; the picture "
-                                     "wants "
+                                     "needs "
                  "--depth %d %d" % (distances.near, distances.far, (off + 1) * distances.far ** 2 / distances.scale,
                                     *wanted))
     for line in view.cut_off():

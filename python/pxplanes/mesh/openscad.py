@@ -39,7 +39,7 @@ def made(source: str, folder: Optional[str], kind: str) -> bytes:
 def csg_of(path: str) -> bytes:
     """The .csg of a .scad file."""
     if not is_there():
-        raise Trouble("%s wants the command openscad, which makes a .csg of it" % path)
+        raise Trouble("%s needs the command openscad, which makes a .csg of it" % path)
     path = os.path.abspath(path)
     return made(path, os.path.dirname(path), "csg")
 

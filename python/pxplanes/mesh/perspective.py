@@ -107,7 +107,7 @@ class Perspective:
     def why_empty(self) -> str:
         if not self.has_common:
             return "what the model intersects has no common part"
-        return "nothing of the model is before the camera, or what is left of it is smaller than a pixel"
+        return "nothing of the model is before the camera, or the rest of it is smaller than a pixel"
 
 
 def is_inside(tree: kinds.Tree, point: kinds.Vector) -> bool:
@@ -152,7 +152,7 @@ def eye_and_turn(numbers: kinds.Vector) -> Any:
         numbers = turns.between(eye, numbers[3:])
     turn, distance = numbers[3:6], numbers[6]
     if distance <= 0:
-        raise Trouble("--camera wants a distance above 0")
+        raise Trouble("--camera needs a distance above 0")
     if is_place:
         eye = [part - distance * own for part, own in zip(eye, turns.rows_of(turn)[1])]
     return eye, turn

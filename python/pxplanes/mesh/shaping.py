@@ -16,7 +16,7 @@ def hull(points: kinds.Points) -> Any:
     try:
         from scipy.spatial import ConvexHull, QhullError
     except ImportError:
-        raise Trouble("wants scipy, which this Python has not (Debian's %s)" % PACKAGE)
+        raise Trouble("needs scipy, which this Python has not (Debian's %s)" % PACKAGE)
     try:
         found = ConvexHull(points)
     except QhullError:

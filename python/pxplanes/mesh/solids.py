@@ -134,7 +134,7 @@ def times(outer: kinds.Matrix, inner: kinds.Matrix) -> list[list[float]]:
 
 def of_mesh(kind: str, line: int, points: kinds.Points, sides: Any, colour: kinds.Colour,
             numbers: Optional[Sequence[int]] = None, is_exact: bool = False) -> Any:
-    """The tree of a mesh: one solid where it is convex, and else the convex parts of it."""
+    """The tree of a mesh: one solid where it is convex, and otherwise the convex parts of it."""
     flat = facets.flat_facets(points, sides)
     if len(flat) > len(sides):
         sides, numbers = flat, None

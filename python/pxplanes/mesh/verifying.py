@@ -16,8 +16,8 @@ from pxplanes.scene import scenes, texts
 
 SIZE, BITS, SIDES, CUTS = (64, 48), (12, 6), 6, 3
 GOLDEN = 180 * (3 - math.sqrt(5))
-BESIDE = 0.05
-AROUND = [(i * BESIDE, j * BESIDE) for i in (0, -1, 1) for j in (0, -1, 1)]
+ASIDE = 0.05
+AROUND = [(i * ASIDE, j * ASIDE) for i in (0, -1, 1) for j in (0, -1, 1)]
 RED, BLUE, GREY, BLACK = (214, 40, 40), (40, 80, 220), (160, 160, 160), (0, 0, 0)
 ALIKE, ROUNDING, MISSING, TOO_MUCH = "alike", "rounding", "missing", "too much"
 
@@ -41,7 +41,7 @@ class Mesh:
         return Crossings([place(point) for point in self.points], self.sides), self.digit * cells
 
     def notes(self) -> list[str]:
-        """What is to be told of the mesh itself."""
+        """What is to be reported of the mesh itself."""
         return ["its facets look inwards, and are taken the other way round"] * self.is_inwards + [
             "it is not closed: %d edges are not passed as often one way as the other" % self.open_edges
         ] * bool(self.open_edges)
@@ -70,7 +70,7 @@ def of_tree(tree: kinds.Tree, mesh: Any, count: int, size: Sequence[int] = SIZE)
 
 
 def of_scene(content: bytes, mesh: Any) -> Iterator[Side]:
-    """The one side of a scene's bytes, whose mesh stands as `export` writes it."""
+    """The one side of a scene's bytes, whose mesh is as `export` writes it."""
     try:
         scene = scenes.read(content)
     except scenes.Refusal as refusal:
@@ -90,7 +90,7 @@ def through(text: str, cut: int, scene: Any) -> str:
 
 
 def is_beside(side: Any, x: float, y: float, cut: int, ours: Any, right: float, down: float, grow: float) -> bool:
-    """Whether the mesh has a depth a little beside a pixel, or what is there goes on to it in a straight line; its
+    """Whether the mesh has a depth a little away from a pixel, or what is there goes on to it in a straight line; its
     spans are longer by `grow` at both ends."""
     far, room = side.scene.far(), side.near + abs(grow)
     other = side.crossings.depth(x + right, y + down, cut, far, grow)
@@ -112,7 +112,7 @@ def word_of(side: Any, x: float, y: float, cut: int, ours: Any) -> tuple[str, in
 
 
 def looked(side: Any, cut: int, depths: Any) -> Seen:
-    """A side through a cut, beside the program's depths of it."""
+    """A side through a cut, with the program's depths of it."""
     found = [word_of(side, at % side.scene.width, at // side.scene.width, cut, ours) for at, ours in enumerate(depths)]
     return Seen(side, cut, depths, [theirs for _, theirs in found], [word for word, _ in found])
 

@@ -71,7 +71,7 @@ class View:
             return "what the model intersects has no common part"
         if self.beyond():
             return "the model is beyond its edges"
-        return "nothing is left of the model, or what is left is smaller than a pixel"
+        return "nothing is left of the model, or the rest is smaller than a pixel"
 
 
 def box_of(rows: Any, points: Any) -> Any:
@@ -124,7 +124,7 @@ def of_camera(numbers: kinds.Vector, size: Sequence[int], far: float, tree: kind
         numbers = turns.between(numbers[:3], numbers[3:])
     place, turn, distance = numbers[:3], numbers[3:6], numbers[6]
     if distance <= 0:
-        raise Trouble("--camera wants a distance above 0")
+        raise Trouble("--camera needs a distance above 0")
     view = View(turns.rows_of(turn), size, far, tree)
     scale = size[1] / (2 * distance * math.tan(math.radians(FIELD / 2)))
     right, _, up = view.turned(place)

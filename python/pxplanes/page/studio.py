@@ -1,5 +1,5 @@
 """What the studio answers to its page: the file that it was started with, and models as scenes. It is no tool itself.
-All else the page answers by itself (page/pxplanes.html)."""
+Everything that remains the page answers by itself (page/pxplanes.html)."""
 import hashlib
 import os
 from typing import Any, Callable, NoReturn
@@ -88,7 +88,7 @@ class Studio:
         return {"studio": True, "name": os.path.basename(self.path), "text": needed_text(text, self.path), "sum": sum_of(text)}
 
     def save(self, asked: Asked, text: bytes) -> Answer:
-        """Writes the file, where it is as it was when the page read it; else tells what it has now."""
+        """Writes the file, where it is as it was when the page read it; otherwise says what it has now."""
         if self.path is None:
             raise Trouble("no scene was named when the studio was started")
         now = read(self.path)

@@ -2,7 +2,7 @@
 itself.
 
 Every request is refused that does not name the very address as its Host, comes from another Origin, or whose path does
-not begin with the token. Behind the token the path is nothing, which is the page, or one of its questions, by name; no
+not begin with the token. After the token the path is nothing, which is the page, or one of its questions, by name; no
 path is looked up in the system."""
 from __future__ import annotations
 
@@ -67,7 +67,7 @@ class Handler(http.server.BaseHTTPRequestHandler):
         self.sent(200, JSON, json.dumps(answer).encode("ascii"))
 
     def admitted(self) -> str | None:
-        """The path behind the token; None where the request is refused. The page itself may be led to from anywhere:
+        """The path after the token; None where the request is refused. The page itself may be led to from anywhere:
         whoever does so has the token."""
         origin, site = self.headers.get("Origin"), self.headers.get("Sec-Fetch-Site", "none")
         is_led = self.command == "GET" and self.headers.get("Sec-Fetch-Mode") == "navigate"

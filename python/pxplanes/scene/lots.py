@@ -1,4 +1,4 @@
-"""Scenes drawn by lot: one seed gives the same scene each time. What `conform` tries besides its suite."""
+"""Random scenes: one seed gives the same scene each time. What `conform` tries in addition to its suite."""
 from __future__ import annotations
 
 import random

@@ -1,5 +1,5 @@
-"""Reads a scene's text as docs/SCENES.md says, and tells all that there is to say of its first bad
-line: the word, what was due there, the limit, the cure. What `explain` and `compare` share."""
+"""Reads a scene's text as docs/SCENES.md says, and reports all that there is to say of its first bad
+line: the word, what was expected there, the limit, the cure. What `explain` and `compare` share."""
 from __future__ import annotations
 
 import difflib

@@ -144,7 +144,7 @@ def run(renderer: str, settings: Settings = Settings(), expected: Sequence[str] 
 
 
 def all_cases(settings: Settings) -> Iterator[Case]:
-    """The scenes of the suite, and, if the program draws ours, random ones, and those of the gallery beside the suite
+    """The scenes of the suite, and, if the program draws ours, random ones, and those of the gallery next to the suite
     of the repository."""
     yield from golden.scenes_of(settings.suite)
     if settings.golden and settings.random:

@@ -1,5 +1,5 @@
-"""A renderer that needs nothing of this repository: it writes depths and faces by floats, as text of two maps' first, or
-with a mistake. Use: renderer.py SCENE OUT [above | depths | text | stops]."""
+"""A renderer that needs nothing of this repository: it writes depths and faces by floats, as text of two maps'
+first, or with a mistake. Use: renderer.py SCENE OUT [above | depths | text | stops]."""
 import math
 import re
 import sys

@@ -1,4 +1,4 @@
-//! The calls of include/pxplanes.h, which says all that is owed and given; a case of the tools holds these structs beside its own.
+//! The calls of include/pxplanes.h, which says all that is owed and given; a case of the tools compares these structs with its own.
 #![no_std]
 
 pub const OK: u32 = 0;

@@ -25,12 +25,12 @@ pub enum Error {
     NoCommand,
     /// There was no memory for the call.
     Memory,
-    /// The clock lies past the last, which is told.
+    /// The clock is past the last, which it names.
     NoClock {
         /// How many clocks there are.
         clocks: u64,
     },
-    /// The operation lies past the last, which is told.
+    /// The operation is past the last, which it names.
     NoOperation {
         /// How many operations there are.
         operations: u64,
@@ -104,7 +104,7 @@ pub(crate) fn ended(status: u32, found: &sys::Found) -> Result<()> {
     })
 }
 
-/// Calls with buffers of no element, and once more with as many as are due, where some are; what was found, and the buffers.
+/// Calls with buffers of no element, and once more with as many as are needed, where some are; what was found, and the buffers.
 pub(crate) fn filled<T: Clone + Default, const N: usize>(
     mut call: impl FnMut(&mut [Vec<T>; N], &mut sys::Found) -> u32,
 ) -> Result<(sys::Found, [Vec<T>; N])> {

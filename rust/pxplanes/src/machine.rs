@@ -3,10 +3,10 @@ use pxplanes_sys as sys;
 
 /// The machine after some clocks of a scene or of a listing: a value, to keep and to clone. Going back is a clone that was kept.
 ///
-/// Two are equal if their grids have one size and all bits are alike, whatever clock of which text either stands at.
+/// Two are equal if their grids have one size and all bits are alike, whatever clock of which text either is at.
 #[derive(Clone, Debug)]
 pub struct State {
-    /// Where the machine stood when it was asked for; clocks made since do not change it.
+    /// Where the machine was when it was asked for; clocks made since do not change it.
     pub moment: sys::Moment,
     words: Vec<u64>,
 }

@@ -16,7 +16,7 @@ long size()
 }
 
 template <typename Call>
-const char *told(Call call)
+const char *outcome(Call call)
 {
     for (int at = 0; at < 100; at++)
         call();
@@ -43,5 +43,5 @@ void by_cpp()
 
 int main()
 {
-    std::cout << "C " << told(by_c) << ", C++ " << told(by_cpp) << '\n';
+    std::cout << "C " << outcome(by_c) << ", C++ " << outcome(by_cpp) << '\n';
 }

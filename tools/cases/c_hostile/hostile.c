@@ -16,7 +16,7 @@ static uint64_t next(uint64_t below)
     return lot % below;
 }
 
-/* A buffer of so many bytes, with as many behind it that nothing may write to. */
+/* A buffer of so many bytes, with as many after it that nothing may write to. */
 struct room { uint8_t *at; size_t size; };
 
 static struct room taken(size_t size)

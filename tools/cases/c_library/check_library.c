@@ -3,13 +3,13 @@
  *
  * Use: check_library FOLDER
  *
- * FOLDER/list names texts, one a line. Beside it lie for each NAME.text, and what the program answered for it:
+ * FOLDER/list names texts, one a line. Next to it are for each NAME.text, and what the program answered for it:
  * NAME.COMMAND, NAME.COMMAND.note and NAME.COMMAND.status, where COMMAND is render, colour, plan, cost and play.
  *
  * Each buffer ends where a page begins that nobody may touch, and is filled before a call. For each text: check,
  * render, window (of the whole picture), colour and products with buffers of no element, one too few, as many as are due, and one more; state,
  * micros and course so too, at the first, a middle and the last clock or operation, and past it; each with each allocation refused in turn
- * (some of the later ones); and all of it in four threads at once. No call may want more bytes at once than its text
+ * (some of the later ones); and all of it in four threads at once. No call may ask for more bytes at once than its text
  * and, where it draws or clocks, its array explain. Linked with --wrap for malloc, realloc and free. Prints a line for each difference, and last how much was compared.
  */
 #include "watched.h"
@@ -40,13 +40,13 @@ static const struct {
 } kinds[ALL] = {{"check", RENDER, 0, 0}, {"render", RENDER, 2, 4}, {"window", RENDER, 2, 4}, {"colour", COLOUR, 1, 1}, {"products", PLAN, 1, 4},
                 {"state", COST, 1, 8}, {"micros", COST, 1, 8}, {"course", COST, 1, sizeof(struct pxplanes_operation)}};
 
-/* What the calls of the machine take beside: a clock, or an operation, and where the state is told. */
+/* What the calls of the machine take in addition: a clock, or an operation, and where the state is written. */
 struct moment {
     uint64_t clock;
     struct pxplanes_moment state;
 };
 
-/* The most bytes that a call may want at once: 128 for each byte of its text and a MiB, and 14 MiB where it opens an array,
+/* The most bytes that a call may ask for at once: 128 for each byte of its text and a MiB, and 14 MiB where it opens an array,
  * which with its four slots has 75 rows of 32 KiB and a tree of 128 KiB, five times, for 512 by 512 pixels. */
 static size_t most_due(enum call call, const struct text *text, uint32_t status)
 {
@@ -112,7 +112,7 @@ static uint32_t called(enum call call, const struct text *text, struct buffer *b
     if (held != 0)
         differs(text->name, "%s keeps %ld blocks of memory", kinds[call].name, held);
     if (most > most_due(call, text, status))
-        differs(text->name, "%s wants %zu bytes at once (status %u)", kinds[call].name, most, (unsigned) status);
+        differs(text->name, "%s asks for %zu bytes at once (status %u)", kinds[call].name, most, (unsigned) status);
     return status;
 }
 
@@ -168,7 +168,7 @@ static void compare_products(const struct text *text, const struct buffer *buffe
     due = due ? due + 1 : end;
     for (size_t i = 0; i < buffer->len; i++) {
         const char *name = "", *sign = first ? "" : " * ";
-        size_t len = 0, behind;
+        size_t len = 0, sign_len;
         if (literals[i] < 0)
             sign = " - ";
         if (literals[i] == 0) {
@@ -176,12 +176,12 @@ static void compare_products(const struct text *text, const struct buffer *buffe
         } else {
             len = named(text, (size_t) labs((long) literals[i]), &name);
         }
-        behind = strlen(sign);
-        if ((size_t) (end - due) < behind + len || memcmp(due, sign, behind) != 0 || memcmp(due + behind, name, len) != 0) {
+        sign_len = strlen(sign);
+        if ((size_t) (end - due) < sign_len + len || memcmp(due, sign, sign_len) != 0 || memcmp(due + sign_len, name, len) != 0) {
             differs(text->name, "number %zu of the products is %d", i, (int) literals[i]);
             return;
         }
-        due += behind + len;
+        due += sign_len + len;
         first = literals[i] == 0;
     }
     if (due != end)
@@ -309,7 +309,7 @@ static int is_no_state(const struct pxplanes_moment *s)
 }
 
 /* One call from a clock on with a buffer of so many elements, which is to have this status; what it wrote. */
-static struct buffer told(enum call call, const struct text *text, struct moment *moment, size_t len, size_t due, uint32_t wanted,
+static struct buffer answer_of(enum call call, const struct text *text, struct moment *moment, size_t len, size_t due, uint32_t wanted,
                           struct pxplanes_found *found, long refuse)
 {
     const struct answer *answer = &text->answer[is_listing(text) ? PLAY : COST];
@@ -322,19 +322,19 @@ static struct buffer told(enum call call, const struct text *text, struct moment
     if (!is_untouched(&buffer, status == PXPLANES_OK ? due * kinds[call].each : 0))
         differs(text->name, "%s touches what it is to leave (status %u)", kinds[call].name, (unsigned) status);
     if (call == STATE && status != PXPLANES_OK && !is_no_state(&moment->state))
-        differs(text->name, "a state is told with status %u", (unsigned) status);
+        differs(text->name, "a state is written with status %u", (unsigned) status);
     compare_refusal(call, text, answer, status, *found);
     return buffer;
 }
 
 /* The same where no more is asked than whether only these of what is found are there. */
 static void tried_at(enum call call, const struct text *text, uint64_t clock, size_t len, size_t due, uint32_t wanted,
-                     struct pxplanes_found wants, long refuse)
+                     struct pxplanes_found expected, long refuse)
 {
     struct moment moment = {.clock = clock};
     struct pxplanes_found found;
-    struct buffer buffer = told(call, text, &moment, len, due, wanted, &found, refuse);
-    if (wanted != PXPLANES_MALFORMED && wanted != PXPLANES_LIMIT && memcmp(&found, &wants, sizeof found))
+    struct buffer buffer = answer_of(call, text, &moment, len, due, wanted, &found, refuse);
+    if (wanted != PXPLANES_MALFORMED && wanted != PXPLANES_LIMIT && memcmp(&found, &expected, sizeof found))
         differs(text->name, "%s finds other numbers with status %u", kinds[call].name, (unsigned) wanted);
     let_go(&buffer);
 }
@@ -345,7 +345,7 @@ static unsigned bit_of(const struct pxplanes_moment *s, const uint64_t *words, s
     return words[(plane * s->grid_height + y) * s->words_per_row + x / 64] >> x % 64 & 1;
 }
 
-/* The last state of a listing, beside the lines that `play` prints of its pixels. */
+/* The last state of a listing, against the lines that `play` prints of its pixels. */
 static void compare_memory(const struct text *text, const struct pxplanes_moment *s, const uint64_t *words)
 {
     const struct bytes *output = &text->answer[PLAY].output;
@@ -367,7 +367,7 @@ static void compare_memory(const struct text *text, const struct pxplanes_moment
         differs(text->name, "the program plays more pixels");
 }
 
-/* A state by itself, and beside the micros of all clocks. */
+/* A state by itself, and against the micros of all clocks. */
 static void compare_state(const struct text *text, const struct moment *moment, const struct buffer *buffer,
                           const struct pxplanes_found *found, const uint64_t *micros)
 {
@@ -391,14 +391,14 @@ static void compare_state(const struct text *text, const struct moment *moment, 
         compare_memory(text, s, words);
 }
 
-/* The state at one clock, moved by the micros up to another, beside the state there. Every other call is refused, and then no word
+/* The state at one clock, moved by the micros up to another, against the state there. Every other call is refused, and then no word
    is written. */
 static void compare_clocks(const struct text *text, uint64_t from, uint64_t to, size_t due, const uint64_t *micros)
 {
     struct pxplanes_found found;
     struct moment moment = {.clock = from}, last = {.clock = to};
-    struct buffer moved = told(STATE, text, &moment, due, due, PXPLANES_OK, &found, 0);
-    struct buffer there = told(STATE, text, &last, due, due, PXPLANES_OK, &found, 0);
+    struct buffer moved = answer_of(STATE, text, &moment, due, due, PXPLANES_OK, &found, 0);
+    struct buffer there = answer_of(STATE, text, &last, due, due, PXPLANES_OK, &found, 0);
     uint64_t *words = (uint64_t *) moved.at, wrong[3] = {micros[from], (uint64_t) PXPLANES_BITS | 8ull << 32, 0};
     uint32_t width = moment.state.grid_width, height = moment.state.grid_height;
     const struct refused {
@@ -440,20 +440,20 @@ static void compare_clocks(const struct text *text, uint64_t from, uint64_t to, 
 /* Each state call of a text that is good: at the first, a middle and the last clock, and past it. */
 static void compare_states(const struct text *text, const struct pxplanes_found *found, const uint64_t *micros)
 {
-    struct pxplanes_found room = {0}, past = {.clocks = found->clocks}, wants = *found;
+    struct pxplanes_found room = {0}, past = {.clocks = found->clocks}, expected = *found;
     struct moment moment = {.clock = 0};
-    struct buffer buffer = told(STATE, text, &moment, 0, 0, PXPLANES_NO_ROOM, &room, 0);
+    struct buffer buffer = answer_of(STATE, text, &moment, 0, 0, PXPLANES_NO_ROOM, &room, 0);
     size_t due = (size_t) room.room;
     let_go(&buffer);
     tried_at(STATE, text, found->clocks, 0, 0, PXPLANES_NO_ROOM, (struct pxplanes_found){.room = due}, 0);
     tried_at(STATE, text, found->clocks / 2, due - 1, 0, PXPLANES_NO_ROOM, (struct pxplanes_found){.room = due}, 0);
-    tried_at(STATE, text, found->clocks / 3, due + 1, due, PXPLANES_OK, wants, 0);
+    tried_at(STATE, text, found->clocks / 3, due + 1, due, PXPLANES_OK, expected, 0);
     tried_at(STATE, text, found->clocks + 1, due, 0, PXPLANES_NO_CLOCK, past, 0);
     tried_at(STATE, text, UINT64_MAX, 0, 0, PXPLANES_NO_CLOCK, past, 0);
     for (uint64_t half = 0; half < 3; half++) {
         moment.clock = half == 2 ? found->clocks : half * (found->clocks / 2);
-        buffer = told(STATE, text, &moment, due, due, PXPLANES_OK, &wants, 0);
-        if (memcmp(&wants, found, sizeof wants))
+        buffer = answer_of(STATE, text, &moment, due, due, PXPLANES_OK, &expected, 0);
+        if (memcmp(&expected, found, sizeof expected))
             differs(text->name, "a state finds other numbers");
         compare_state(text, &moment, &buffer, found, micros);
         let_go(&buffer);
@@ -468,8 +468,8 @@ static void compare_states(const struct text *text, const struct pxplanes_found 
     }
 }
 
-/* An operation by itself, behind the one before it: in a scene a step begins with each "all", a literal with each step "open", and
-   what stands of faces and other literals is of the steps that have them. */
+/* An operation by itself, after the one before it: in a scene a step begins with each "all", a literal with each step "open", and
+   what it says of faces and other literals is of the steps that have them. */
 static int is_operation(const struct pxplanes_operation *o, const struct pxplanes_operation *before, int is_listed, uint64_t clocks)
 {
     static const uint32_t counts[] = {0, 0, 3, 2, 5, 5, 5, 3, 2, 1, 3, 3};
@@ -495,17 +495,17 @@ static int is_operation(const struct pxplanes_operation *o, const struct pxplane
 static void compare_courses(const struct text *text, const struct pxplanes_found *found)
 {
     size_t all = (size_t) found->operations, half = all / 2;
-    struct pxplanes_found wants = *found, past = {.operations = all};
+    struct pxplanes_found expected = *found, past = {.operations = all};
     struct moment start = {.clock = 0}, middle = {.clock = half};
-    tried_at(COURSE, text, 0, 0, 0, PXPLANES_OK, wants, 0);
-    tried_at(COURSE, text, all, 0, 0, PXPLANES_OK, wants, 0);
+    tried_at(COURSE, text, 0, 0, 0, PXPLANES_OK, expected, 0);
+    tried_at(COURSE, text, all, 0, 0, PXPLANES_OK, expected, 0);
     tried_at(COURSE, text, all, 1, 0, PXPLANES_NO_OPERATION, past, 0);
     tried_at(COURSE, text, all + 1, 0, 0, PXPLANES_NO_OPERATION, past, 0);
     tried_at(COURSE, text, UINT64_MAX, 1, 0, PXPLANES_NO_OPERATION, past, 0);
     tried_at(COURSE, text, 0, all + 1, 0, PXPLANES_NO_OPERATION, past, 0);
-    struct buffer whole = told(COURSE, text, &start, all, all, PXPLANES_OK, &wants, 0);
+    struct buffer whole = answer_of(COURSE, text, &start, all, all, PXPLANES_OK, &expected, 0);
     long asks = asked;
-    struct buffer rest = told(COURSE, text, &middle, all - half, all - half, PXPLANES_OK, &wants, 0);
+    struct buffer rest = answer_of(COURSE, text, &middle, all - half, all - half, PXPLANES_OK, &expected, 0);
     const struct pxplanes_operation *course = (const struct pxplanes_operation *) whole.at;
     for (size_t at = 0; at < all; at++)
         if (!is_operation(&course[at], at ? &course[at - 1] : NULL, is_listing(text), found->clocks)) {
@@ -526,7 +526,7 @@ static void compare_machine(const struct text *text)
     struct pxplanes_found none = {0}, found;
     struct moment start = {.clock = 0};
     uint32_t wanted = answer->status ? (uint32_t) answer->status : PXPLANES_OK;
-    struct buffer buffer = told(MICROS, text, &start, 0, 0, wanted, &found, 0);
+    struct buffer buffer = answer_of(MICROS, text, &start, 0, 0, wanted, &found, 0);
     let_go(&buffer);
     if (wanted != PXPLANES_OK) {
         tried_at(STATE, text, UINT64_MAX, 0, 0, wanted, none, 0);
@@ -536,21 +536,21 @@ static void compare_machine(const struct text *text)
     }
     if (!is_listing(text))
         compare_found(MICROS, text, &found);
-    struct pxplanes_found wants = found, past = {.clocks = found.clocks};
+    struct pxplanes_found expected = found, past = {.clocks = found.clocks};
     size_t clocks = (size_t) found.clocks;
-    tried_at(MICROS, text, found.clocks, 0, 0, PXPLANES_OK, wants, 0);
+    tried_at(MICROS, text, found.clocks, 0, 0, PXPLANES_OK, expected, 0);
     tried_at(MICROS, text, found.clocks, 1, 0, PXPLANES_NO_CLOCK, past, 0);
     tried_at(MICROS, text, found.clocks + 1, 0, 0, PXPLANES_NO_CLOCK, past, 0);
     tried_at(MICROS, text, UINT64_MAX, 1, 0, PXPLANES_NO_CLOCK, past, 0);
     tried_at(MICROS, text, 0, clocks + 1, 0, PXPLANES_NO_CLOCK, past, 0);
-    tried_at(MICROS, text, clocks > 0, clocks - (clocks > 0), clocks - (clocks > 0), PXPLANES_OK, wants, 0);
-    buffer = told(MICROS, text, &start, clocks, clocks, PXPLANES_OK, &found, 0);
+    tried_at(MICROS, text, clocks > 0, clocks - (clocks > 0), clocks - (clocks > 0), PXPLANES_OK, expected, 0);
+    buffer = answer_of(MICROS, text, &start, clocks, clocks, PXPLANES_OK, &found, 0);
     long all = asked;
     for (long at = 1; at <= all; at += 1 + at / 4)
         tried_at(MICROS, text, 0, clocks, 0, PXPLANES_MEMORY, none, at);
-    compare_states(text, &wants, (const uint64_t *) buffer.at);
+    compare_states(text, &expected, (const uint64_t *) buffer.at);
     let_go(&buffer);
-    compare_courses(text, &wants);
+    compare_courses(text, &expected);
 }
 
 static struct text *texts;

@@ -33,7 +33,7 @@ static int is_refused(void)
 }
 
 /* Counts the bytes that are held when so many more are wanted, given or not. */
-static void want(size_t size)
+static void note_size(size_t size)
 {
     if (inside && live + size > most)
         most = live + size;
@@ -53,7 +53,7 @@ static void drop(void *old)
 
 void *__wrap_malloc(size_t size)
 {
-    want(size);
+    note_size(size);
     void *got = is_refused() ? NULL : __real_malloc(size);
     held += inside && got != NULL;
     hold(got);
@@ -62,7 +62,7 @@ void *__wrap_malloc(size_t size)
 
 void *__wrap_realloc(void *old, size_t size)
 {
-    want(size);
+    note_size(size);
     if (is_refused())
         return NULL;
     drop(old);

@@ -7,7 +7,7 @@
  * NAME.status.
  *
  * Each is run in a thread with a stack of 256 KiB, into a buffer of as many bytes as the program wrote; one that is short also into
- * one byte less, one more and none, and with each allocation refused in turn (some of the later ones). A run may want no more
+ * one byte less, one more and none, and with each allocation refused in turn (some of the later ones). A run may ask for no more
  * bytes at once than its text, its output and its array explain. Prints a line for each difference, and last how much was compared.
  */
 #include "watched.h"
@@ -23,7 +23,7 @@ struct run {
 
 static size_t of_status[PXPLANES_LIMIT + 1];
 
-/* The most bytes that a run may want at once: of its text as many as are read, 160 each; its output, while it grows; and two
+/* The most bytes that a run may ask for at once: of its text as many as are read, 160 each; its output, while it grows; and two
  * arrays with their slots, which have 75 rows of 32 KiB and a tree of 128 KiB, five times, for 512 by 512 pixels. */
 static size_t most_due(const struct run *run)
 {

@@ -27,7 +27,7 @@ def of_cases(folder):
     for name in cases.names():
         words, text, (status, output, note) = cases.read_case(os.path.join(cases.CASES, name))
         if all(map(is_plain, words)):
-            # what is answered before the limit of a text is not handed over
+            # what is answered before the limit of a text is not given
             yield put(folder, name, b" ".join(words), text, (status, b"" if status else output, note))
 
 

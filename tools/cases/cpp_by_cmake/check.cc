@@ -1,5 +1,5 @@
 // Every call of pxplanes.hpp, on scenes of two or three planes whose pictures are worked out by hand (see stdout), and on a machine
-// that is stepped beside what the library says of its later clocks.
+// that is stepped and compared with what the library says of its later clocks.
 #include <pxplanes.hpp>
 #include <pxplanes_image.h>
 #include <pxplanes_scene.h>
@@ -86,7 +86,7 @@ std::size_t pixels(const pxplanes::state &at, std::size_t plane)
 }
 
 // Whether the bits by their names are those of the words, plane by plane and for the nodes and their carries.
-bool is_told_whole(const pxplanes::state &at)
+bool is_whole(const pxplanes::state &at)
 {
     const std::size_t plane_words = std::size_t{at.moment().grid_height} * at.moment().words_per_row;
     std::size_t from = 0;
@@ -122,8 +122,8 @@ void draw()
     std::cout << "colours of 3 0 and of 3 1:";
     tell(std::vector<std::uint8_t>(colours.rgb.begin() + 9, colours.rgb.begin() + 12));
     tell(std::vector<std::uint8_t>(colours.rgb.begin() + 45, colours.rgb.begin() + 48));
-    const pxplanes::picture behind = pxplanes::render(cut);
-    std::cout << "cut: depth " << behind.depth(0, 0) << " face " << behind.face(0, 0) << ", products "
+    const pxplanes::picture cut_picture = pxplanes::render(cut);
+    std::cout << "cut: depth " << cut_picture.depth(0, 0) << " face " << cut_picture.face(0, 0) << ", products "
               << pxplanes::products(cut).size() << ":";
     tell(pxplanes::products(cut).at(0));
     std::vector<std::int32_t> literals(4, 7);
@@ -203,15 +203,15 @@ void step()
     const pxplanes::state start = at;
     std::cout << "grid " << at.moment().grid_width << " by " << at.moment().grid_height << ", ones at the start "
               << ones(at.words(), 0, at.words().size()) << ", clocks as check says " << (clocks == pxplanes::check(ramp).clocks) << '\n';
-    bool is_like = clocks > 100, is_told = true, has_leaves = false;
+    bool is_like = clocks > 100, are_whole = true, has_leaves = false;
     for (std::uint64_t clock = 0; clock < clocks; clock++) {
         at.advance(pxplanes::micros(ramp, clock, 1));
         const pxplanes::state later(ramp, clock + 1);
         is_like = is_like && at == later && at.moment().clock == clock + 1 && later.moment().clock == clock + 1;
-        is_told = is_told && is_told_whole(at);
+        are_whole = are_whole && is_whole(at);
         has_leaves = has_leaves || pixels(at, pxplanes::leaf) > 0;
     }
-    std::cout << "clock by clock: " << is_like << is_told << has_leaves << '\n';
+    std::cout << "clock by clock: " << is_like << are_whole << has_leaves << '\n';
     pxplanes::state leap = start;
     leap.advance(pxplanes::micros(ramp, 0, 60));
     std::cout << "60 at once: " << (leap == pxplanes::state(ramp, 60)) << ", as the end or the start: "

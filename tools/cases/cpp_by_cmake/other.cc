@@ -1,4 +1,4 @@
-// Another file of the same program, so that the header stands in two of them.
+// Another file of the same program, so that two of them have the header.
 #include <pxplanes.hpp>
 
 std::string other_version();

@@ -1,15 +1,15 @@
 """Does what a cure says: the marked word, or the whole line, becomes what is to be written, here or in
-the first line; or the text is made anew. Prints whether the program then takes the scene."""
+the first line; or the text is made again. Prints whether the program then takes the scene."""
 import re
 import subprocess
 import sys
 
-program, path, told = sys.argv[1:4]
+program, path, said = sys.argv[1:4]
 text = open(path, "rb").read()
-cure = next((line[6:] for line in told.split("\n") if line.startswith(("cure: ", "hint: "))), "")
-number = int(re.search(r"^(?:malformed|limit) line (\d+)", told, re.M).group(1))
-marks = [line for line in told.split("\n") if line.strip() and not line.strip("^ ")]
-shown = told.split("\n")[told.split("\n").index(marks[0]) - 1] if marks else ""
+cure = next((line[6:] for line in said.split("\n") if line.startswith(("cure: ", "hint: "))), "")
+number = int(re.search(r"^(?:malformed|limit) line (\d+)", said, re.M).group(1))
+marks = [line for line in said.split("\n") if line.strip() and not line.strip("^ ")]
+shown = said.split("\n")[said.split("\n").index(marks[0]) - 1] if marks else ""
 word = shown[marks[0].index("^"):len(marks[0])] if marks else ""
 
 

@@ -1,4 +1,4 @@
-"""Opens films in a browser, and compares what they show behind each operation with the debugger's answers, and the end with the picture."""
+"""Opens films in a browser, and compares what they show after each operation with the debugger's answers, and the end with the picture."""
 import os
 import re
 import subprocess
@@ -41,9 +41,9 @@ with Browser() as page:
     for name, numbers in operations:
         clock += micros.clocks_of(name, numbers, nx + ny)
         go(page, clock)
-        told = sessions.held(BUILT, text, [b"until %d" % clock] + [b"pixel %d %d" % place for place in places])[1:]
-        if [int(lines[0].split()[6]) for lines in told] != [int(colour == (255, 255, 255)) for colour in pixels(page, "array")[2]]:
-            print("behind clock %d enable is another one" % clock)
+        answers = sessions.held(BUILT, text, [b"until %d" % clock] + [b"pixel %d %d" % place for place in places])[1:]
+        if [int(lines[0].split()[6]) for lines in answers] != [int(colour == (255, 255, 255)) for colour in pixels(page, "array")[2]]:
+            print("after clock %d enable is another one" % clock)
     print("%d operations" % len(operations))
     view(page, "best colours")
     image = netpbm.images(program.answer(BUILT, ["colour"], text)[1])[0]

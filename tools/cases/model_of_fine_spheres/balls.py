@@ -1,5 +1,5 @@
 """Balls of 100 sides as OpenSCAD's manual has them, as a mesh, and rays through it from an eye: `balls.py mesh` writes the
-mesh; `balls.py ball SCENE MAPS` holds the depths that a scene's maps have beside the rays of the camera that it notes,
+mesh; `balls.py ball SCENE MAPS` compares the depths that a scene's maps have with the rays of the camera that it notes,
 at some pixels; `balls.py bowl SCENE MAPS` those of a cube without the ball."""
 import math
 import random
@@ -96,8 +96,8 @@ def first_of_bowl(eye, way):
     return cube and cube[0]
 
 
-def beside(scene, maps, first, samples):
-    """Holds the depths of a scene's maps beside the rays of the camera that it notes."""
+def compare(scene, maps, first, samples):
+    """Compares the depths of a scene's maps with the rays of the camera that it notes."""
     lines = [line.split() for line in open(scene)]
     camera = lines[0]
     eye, turn = [list(map(float, camera[i:i + 3])) for i in (3, 7)]
@@ -128,11 +128,11 @@ def beside(scene, maps, first, samples):
             counts[1] += 1
         else:
             counts[2] += 1
-    print("%d of %d pixels as the rays have them, %d beside an edge, %d wrong" % (counts[0], samples, *counts[1:]))
+    print("%d of %d pixels as the rays have them, %d near an edge, %d wrong" % (counts[0], samples, *counts[1:]))
 
 
 if __name__ == "__main__":
     if sys.argv[1] == "mesh":
         mesh()
     else:
-        beside(*sys.argv[2:], first_of_bowl if sys.argv[1] == "bowl" else first_of_ball, SAMPLES)
+        compare(*sys.argv[2:], first_of_bowl if sys.argv[1] == "bowl" else first_of_ball, SAMPLES)

@@ -1,4 +1,4 @@
-"""Compares what `pxplanes convert` makes of models as people have them beside rays through the mesh that OpenSCAD makes of each:
+"""Compares what `pxplanes convert` makes of models as people have them with rays through the mesh that OpenSCAD makes of each:
 `right`, `refused` with the reason, or `WRONG`. Each model is a .scad text, here; its meshes are OpenSCAD's.
 
 Use: models.py PART OF [times]    every OFth model from the PARTth on; `times` prints a line for each, with the seconds
@@ -90,7 +90,7 @@ a ball of many facets: sphere(10, $fn = 100);
 """
 AS_MESHES = ("cube", "cone", "drilled", "concave prism", "a dent", "two that touch", "snowman", "box with a lid", "rooms", "star", "colours", "house", "tilted tray")
 SIZE, CELLS, SAMPLES, SECONDS = (64, 48), 4095, 300, 60
-BESIDE = 0.05
+ASIDE = 0.05
 TURN = (55.0, 0.0, 25.0)
 
 
@@ -144,7 +144,7 @@ def judged(model, path, kind, mesh):
     for _ in range(SAMPLES):
         x, y = draw.randrange(SIZE[0]), draw.randrange(SIZE[1])
         shown = rays.depth(scene, x, y)
-        about = [traced.depth(x + i * BESIDE, y + j * BESIDE) for i, j in ((0, 0), (1, 1), (1, -1), (-1, 1), (-1, -1))]
+        about = [traced.depth(x + i * ASIDE, y + j * ASIDE) for i, j in ((0, 0), (1, 1), (1, -1), (-1, 1), (-1, -1))]
         if not any(depth is None and shown == CELLS or depth is not None and abs(shown - depth) <= 4 + off + traced.off for depth in about):
             wrong.append((x, y, shown, about[0]))
     return "right" if not wrong else "WRONG at %d of %d: %s" % (len(wrong), SAMPLES, wrong[0]), taken

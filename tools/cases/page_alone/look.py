@@ -61,7 +61,7 @@ def texts(page):
 
 
 def put(page, text):
-    """Pastes a text in the place of the one that stands, and waits until it is drawn or refused."""
+    """Pastes a text in the place of the one there, and waits until it is drawn or refused."""
     return pages.pasted(page, text)
 
 
@@ -70,9 +70,9 @@ def pick(page, name):
 
 
 def lines_under_pictures(name):
-    """The list that stands below a scene's pictures in docs/GALLERY.md."""
-    behind = open("docs/GALLERY.md").read().split("](../gallery/%s.png)" % name)[1].split("```")[0]
-    return [line[2:] for line in behind.split("\n") if line.startswith("- ")]
+    """The list below a scene's pictures in docs/GALLERY.md."""
+    rest = open("docs/GALLERY.md").read().split("](../gallery/%s.png)" % name)[1].split("```")[0]
+    return [line[2:] for line in rest.split("\n") if line.startswith("- ")]
 
 
 def taught(page):
@@ -203,7 +203,7 @@ def drafts(page):
     kept = texts(page)
     page.until("Object.entries(localStorage).some(([key, value]) => / first$/.test(key) && JSON.parse(value).text.includes('depth 10'))")
     alone(page)
-    print("loaded again:", texts(page) == kept, "| told:", page.run("!document.getElementById('draft').hidden"), "|", names(page))
+    print("loaded again:", texts(page) == kept, "| reported:", page.run("!document.getElementById('draft').hidden"), "|", names(page))
     click(page, "#as-it-was")
     page.until(DRAWN)
     print("as it was:", texts(page) == open(FIRST).read())
@@ -230,8 +230,8 @@ def linked(page, text):
     with open("own.html", "w", encoding="utf-8") as file:
         file.write(content)
     print("a link of %s letters" % ("few" if len(link) < 1500 else len(link)))
-    for what, path, behind in (("the link", pages.PAGE, "#" + link.split("#")[1]), ("the page", "own.html", "")):
-        alone(page, path, behind)
+    for what, path, fragment in (("the link", pages.PAGE, "#" + link.split("#")[1]), ("the page", "own.html", "")):
+        alone(page, path, fragment)
         page.until("document.body.dataset.shown === '1200' && document.body.dataset.inside === '14 16 1200'")
         print("%s: %s, %s, the text is there: %s" % (what, page.run("document.querySelector('main').dataset.tab"), page.run(
             "document.getElementById('view').value"), texts(page) == text.decode().replace("200", "201")))
@@ -285,7 +285,7 @@ def waits(page):
       return [early, paleAtOnce, first !== null && first >= 140, seen(), pale()];
     }""")
     page.run("Worker.prototype.postMessage = post")
-    print("bar and pale before: %s; pale at once: %s; the bar behind 150 ms: %s; both when it is drawn: %s, %s" % tuple(found))
+    print("bar and pale before: %s; pale at once: %s; the bar after 150 ms: %s; both when it is drawn: %s, %s" % tuple(found))
 
 
 def dialog(page):
@@ -300,7 +300,7 @@ def dialog(page):
         page.run("delete document.body.dataset.saved")
         page.press("s", modifiers=2)
         page.until("document.body.dataset.saved === 'first.scene' && kept.at(-1) === 'closed'")
-        print("written as it stands:", page.run("kept.at(-2) === studio.editor.text"), "| asked:", page.run("names.join()"), "|", names(page))
+        print("written as it is:", page.run("kept.at(-2) === studio.editor.text"), "| asked:", page.run("names.join()"), "|", names(page))
     dropped(page, "other.scene", open(FIRST).read())
     page.until(DRAWN)
     choose(page, "- shaft)")
@@ -310,12 +310,12 @@ def dialog(page):
         page.press("s", modifiers=2)
         if what == "full":
             page.until("!document.getElementById('notice').hidden")
-        print("%s: %s, told: %s" % (what, names(page), page.run("document.getElementById('notice').hidden ? '' : document.getElementById('notice').textContent")))
+        print("%s: %s, reported: %s" % (what, names(page), page.run("document.getElementById('notice').hidden ? '' : document.getElementById('notice').textContent")))
     page.run("delete globalThis.showSaveFilePicker")
 
 
 def long_text(page):
-    """The squares of colour beside the numbers of a long text, which they do not touch."""
+    """The squares of colour next to the numbers of a long text, which they do not touch."""
     print("-- a long text")
     fresh(page)
     put(page, open(FIRST).read().replace("pxscene 1\n", "pxscene 1\n" + "#\n" * 1200))
@@ -329,7 +329,7 @@ def long_text(page):
 
 
 def many_keys(page):
-    """Five hundred keys, one behind the other, over a scene that takes a while, and no other picture than that of the last."""
+    """Five hundred keys, one after the other, over a scene that takes a while, and no other picture than that of the last."""
     print("-- many keys")
     page.run("localStorage.clear()")
     alone(page)
@@ -356,14 +356,14 @@ def lacking(page):
         packed = re.search(r'id="%s"[^>]*>\n([A-Za-z0-9+/=]+)' % part, content).group(1)
         with open(part + ".html", "w", encoding="utf-8") as file:
             file.write(content.replace(packed, packed[:60] + ("A" if packed[60] != "A" else "B") + packed[61:]))
-    told = lambda path: page.open("file://" + os.path.abspath(path)) or page.until(
+    opened = lambda path: page.open("file://" + os.path.abspath(path)) or page.until(
         "document.readyState === 'complete' && document.getElementById('needs').textContent.length > 70 && "
         "document.getElementById('needs').checkVisibility() && document.getElementById('needs').textContent")
     for part in parts:
-        print("a byte flipped, %s:" % part, told(part + ".html"))
+        print("a byte flipped, %s:" % part, opened(part + ".html"))
     for what, script in LACKING.items():
         number = page.call("Page.addScriptToEvaluateOnNewDocument", source=script)["identifier"]
-        print("%s:" % what, told(pages.PAGE))
+        print("%s:" % what, opened(pages.PAGE))
         page.call("Page.removeScriptToEvaluateOnNewDocument", identifier=number)
 
 

@@ -21,7 +21,7 @@ def mouse(page, kind, place, down=True):
 
 
 def dragged(page, places, line, due):
-    """Drags through places; behind each the line is what is due, and the picture the program's of the whole text."""
+    """Drags through places; after each the line is the expected one, and the picture the program's of the whole text."""
     mouse(page, "mouseMoved", places[0], False)
     mouse(page, "mousePressed", places[0])
     for place, words in zip(places[1:], due):
@@ -34,9 +34,9 @@ def dragged(page, places, line, due):
     mouse(page, "mouseReleased", places[-1])
 
 
-def cursor(page, words, behind=0):
+def cursor(page, words, offset=0):
     page.run("(() => { const {code} = studio.editor; code.focus(); code.setCursor(code.posFromIndex(code.getValue().indexOf(%r) + %d)) })()"
-             % (words, behind))
+             % (words, offset))
 
 
 def by_grip(page):
@@ -48,8 +48,8 @@ def by_grip(page):
 
 
 def follows(page):
-    """Many moves, one behind the other, over a scene that takes a while: each text is drawn before the next one comes."""
-    alone(page, behind=link("gallery/pawn.scene"))
+    """Many moves, one after the other, over a scene that takes a while: each text is drawn before the next one comes."""
+    alone(page, fragment=link("gallery/pawn.scene"))
     page.run("globalThis.early = globalThis.texts = 0; studio.editor.code.on('beforeChange', () => { texts += 1; early += document.body.dataset.drawn === 'no'; })")
     mouse(page, "mouseMoved", called(page, NUMBER, 6, 2), False)
     x, y = page.until("(%s)()" % GRIP)
@@ -84,9 +84,9 @@ def by_keys(page):
         page.until("(%s)(18) === 'front 0 0 %d'" % (LINE, due), 5)
     page.press("z", 90, modifiers=2)
     print("by keys, and undone:", called(page, LINE, 18))
-    for words, behind in (("depth 9", 2), ("# its upper", 1), ("pxscene 1", 9)):
+    for words, offset in (("depth 9", 2), ("# its upper", 1), ("pxscene 1", 9)):
         before = page.run("studio.editor.text")
-        cursor(page, words, behind)
+        cursor(page, words, offset)
         page.press("ArrowUp", 38, 1)
         print("no number at %r:" % words, page.run("studio.editor.text") == before)
 

@@ -70,8 +70,8 @@ def compared(page, text, clocks, pace, due):
     """Whether each picture that the browser recorded is as the debugger's answers have it."""
     _, name = filmed(page, clocks[0], clocks[-1], pace, "60")
     found = shown(page)
-    for clock, colours, told in zip(clocks, found, held(text, clocks)):
-        if colours != [due(words) for words in told]:
+    for clock, colours, lines in zip(clocks, found, held(text, clocks)):
+        if colours != [due(words) for words in lines]:
             print("at %d: another picture" % clock)
     print("%s by each %s: %d pictures of %d" % (name, pace, len(found), len(clocks)))
 
@@ -80,7 +80,7 @@ with Browser() as page:
     text = ends.content(FIRST)
     scene = scenes.read(text)
     keys, starts = passes.Keys(scene), passes_read.starts(scene, passes.products_of(scene, program.answer(BUILT, ["plan"], text)[1]), 11)
-    alone(page, behind=link(FIRST, "machine", clock=0))
+    alone(page, fragment=link(FIRST, "machine", clock=0))
     page.until("document.body.dataset.shown")
     called(page, TAKEN)
     picture = lambda words: keys.colours[keys.number(words[4], "B", "face")]

@@ -1,4 +1,4 @@
-"""Looks at a pixel's life, at stops and at the numbers along the array's edges on the page, beside a search over all clocks."""
+"""Looks at a pixel's life, at stops and at the numbers along the array's edges on the page, compared with a search over all clocks."""
 import os
 import random
 import sys
@@ -29,7 +29,7 @@ NUMBERS = """() => [["columns", (x, at) => [x, at]], ["rows", (y, at) => [at, y]
 
 
 def histories(text, places, clocks):
-    """Of each place what it holds behind each clock: the words of the debugger's lines."""
+    """Of each place what it holds after each clock: the words of the debugger's lines."""
     commands = [b"pixel %d %d" % place for place in places]
     for _ in range(clocks):
         commands += [b"step 1"] + [b"pixel %d %d" % place for place in places]
@@ -67,9 +67,9 @@ def stops(page, path, place, text):
         for now in [0, clocks] + lot.sample(changes, min(3, len(changes))) + [lot.randrange(clocks) for _ in range(3)]:
             for back in (False, True):
                 due = searched(changes, now, back)
-                told = asked(page, "stop", {**words, "clock": now, "back": back, "x": place[0], "y": place[1]}, text.decode())
-                if told != {"clock": due}:
-                    print("%s, %s, from %d%s: %s in place of %s" % (path, words, now, " back" if back else "", told, due))
+                reply = asked(page, "stop", {**words, "clock": now, "back": back, "x": place[0], "y": place[1]}, text.decode())
+                if reply != {"clock": due}:
+                    print("%s, %s, from %d%s: %s in place of %s" % (path, words, now, " back" if back else "", reply, due))
                 compared, found = compared + 1, found + (due is not None)
     life = asked(page, "life", {"x": place[0], "y": place[1]}, text.decode())
     ended = [0] + [clock for _, _, clock in operations[1:]] + [clocks]
@@ -81,24 +81,24 @@ def stops(page, path, place, text):
 
 def rows(page, path, place, text):
     """What the page tells of a pixel's life, as sentences that the debugger confirms."""
-    alone(page, behind=link(path, "machine", clock=0, pixel=list(place)))
+    alone(page, fragment=link(path, "machine", clock=0, pixel=list(place)))
     page.until("document.body.dataset.life === '%d %d'" % place)
     operations, clocks, _ = operations_of(text)
     history, bits = histories(text, [place], clocks)[0], scenes.read(text).number_bits()
-    told = page.run("[...document.querySelectorAll('#lives .event')].map(each => [...each.querySelectorAll('span')].map(part => part.textContent))")
+    reply = page.run("[...document.querySelectorAll('#lives .event')].map(each => [...each.querySelectorAll('span')].map(part => part.textContent))")
     fallen = [clock for clock in range(1, clocks + 1) if (history[clock - 1][6], history[clock][6]) == ("1", "0")]
     faces = [int(history[start][4][:bits][::-1], 2) for _, _, start in operations] + [int(history[clocks][4][:bits][::-1], 2)]
     won = [face for before, face in zip(faces, faces[1:]) if face != before]
-    print("%s: put out %s times: %s; faces that won: %s, %d" % (path, "some" if fallen else "no", [int(clock) for what, _, clock in told if "wins" not in what] == fallen,
-          [(what.split(" ")[1]) for what, _, _ in told if "wins" in what] == [str(face) for face in won], len(won)))
+    print("%s: put out %s times: %s; faces that won: %s, %d" % (path, "some" if fallen else "no", [int(clock) for what, _, clock in reply if "wins" not in what] == fallen,
+          [(what.split(" ")[1]) for what, _, _ in reply if "wins" in what] == [str(face) for face in won], len(won)))
     page.run("document.querySelector('#lives .event').click()")
-    page.until("document.body.dataset.shown === '%s'" % told[0][2])
-    print("the first, and where it leads:", " | ".join(told[0]), "|", page.run("document.querySelector('.register').textContent"))
+    page.until("document.body.dataset.shown === '%s'" % reply[0][2])
+    print("the first, and where it leads:", " | ".join(reply[0]), "|", page.run("document.querySelector('.register').textContent"))
 
 
 def by_keys(page, text):
     print("-- stops by keys")
-    alone(page, behind=link("docs/scenes/first.scene", "machine", clock=100, pixel=[24, 16]))
+    alone(page, fragment=link("docs/scenes/first.scene", "machine", clock=100, pixel=[24, 16]))
     page.until("document.body.dataset.shown")
     operations, clocks, _ = operations_of(text)
     enable = [words[6] for words in histories(text, [(24, 16)], clocks)[0]]
@@ -129,9 +129,9 @@ def by_keys(page, text):
 
 
 def edges(page, text):
-    """The strips' numbers, and their sums beside the leaves."""
+    """The strips' numbers, and their sums against the leaves."""
     print("-- the numbers along the edges")
-    alone(page, behind=link("docs/scenes/first.scene", "machine", clock=0, pixel=[5, 6]))
+    alone(page, fragment=link("docs/scenes/first.scene", "machine", clock=0, pixel=[5, 6]))
     page.until("document.body.dataset.shown")
     page.press("x")
     operations, clocks, levels = operations_of(text)
@@ -150,7 +150,7 @@ def edges(page, text):
         as_bits = lambda number: [number >> bit & 1 for bit in reversed(range(bits))]
         if [[bit for bit, _ in each] for each in columns] != [as_bits(a * x + c) for x in range(64)] or \
                 [[bit for bit, _ in each] for each in beside] != [as_bits(b * y) for y in range(32)]:
-            print("at %d: other numbers stand along the edges" % clock)
+            print("at %d: other numbers are along the edges" % clock)
         least = max(max(abs(a * x + c) for x in range(64)), max(abs(b * y) for y in range(32)), max(abs(a * x + b * y + c) for x in (0, 63) for y in (0, 31)))
         wanted = 40 if name == "keep-sign" else numbers[4]
         if bits != min(wanted, least.bit_length() + 1):
@@ -162,10 +162,10 @@ def edges(page, text):
         marked += step >= 0
         if step < 0:
             continue
-        told = sessions.held(BUILT, text, [b"until %d" % clock] + [b"pixel %d %d" % place for place in places])[1:]
+        reply = sessions.held(BUILT, text, [b"until %d" % clock] + [b"pixel %d %d" % place for place in places])[1:]
         number = lambda strip: sum(bit << at for at, (bit, _) in enumerate(reversed(strip)))
         sums = [number(columns[x]) + number(beside[y]) >> min(step, bits - 1) & 1 for x, y in places]
-        if sums != [int(lines[0].decode().split()[12]) for lines in told]:
+        if sums != [int(lines[0].decode().split()[12]) for lines in reply]:
             print("at %d: the leaf is not the bit of the sum" % clock)
         leaves += 1
     print("marked at some clocks: %s, and the leaves are the sums' bits: %s" % (marked > 5, leaves > 5))
@@ -196,7 +196,7 @@ def lights(page, text):
     middles = [(one + other) / 2 / clocks for one, other in zip(starts, starts[1:])]
     shown = netpbm.images(program.answer(BUILT, ["render"], text)[1])[1].numbers()
     named = {face.number: (solid, face) for solid in scene.solids for faces in passes_read.faces_of(scene, solid) for face in faces if face.number}
-    alone(page, behind=link("docs/scenes/first.scene", "machine", clock=clocks))
+    alone(page, fragment=link("docs/scenes/first.scene", "machine", clock=clocks))
     page.until("document.body.dataset.shown")
     page.press("t")
     line_of = {number: line for number, _, _, _, _, line in scene.faces()}
@@ -235,7 +235,7 @@ with Browser() as page:
     for path, place in SCENES:
         one, other = stops(page, path, place, ends.content(path))
         compared, found = compared + one, found + other
-    print("%s stops beside a search over all clocks, %s of them with a clock" % ("many" if compared > 300 else compared, "many" if found > 100 else found))
+    print("%s stops compared with a search over all clocks, %s of them with a clock" % ("many" if compared > 300 else compared, "many" if found > 100 else found))
     rows(page, "docs/scenes/triangle.scene", (7, 8), ends.content("docs/scenes/triangle.scene"))
     rows(page, "docs/scenes/first.scene", (24, 16), ends.content("docs/scenes/first.scene"))
     by_keys(page, ends.content("docs/scenes/first.scene"))

@@ -10,17 +10,17 @@ from browser import Browser
 from pages import alone, asked, go, pixels, point, text_of, view
 
 BUILT, FIRST = os.environ["PROGRAM"], "docs/scenes/first.scene"
-TOLD = {"enable": lambda words: int(words[6]), "carry": lambda words: int(words[8]), "latch": lambda words: int(words[10]),
+READ = {"enable": lambda words: int(words[6]), "carry": lambda words: int(words[8]), "latch": lambda words: int(words[10]),
         "leaf": lambda words: int(words[12]), "18": lambda words: int(words[4][18:19])}
 WHITE = (255, 255, 255)
 
 
-def plane_is_the_debuggers(page, text, clock, told):
+def plane_is_the_debuggers(page, text, clock, read):
     """Whether the array is shown at a clock as the debugger answers of each pixel of a coarse grid."""
     width, height, shown = pixels(page, "array")
     places = [(x, y) for y in range(0, height, 3) for x in range(0, width, 5)]
     answers = sessions.held(BUILT, text, [b"until %d" % clock] + [b"pixel %d %d" % each for each in places])[1:]
-    return [told(lines[0].split()) for lines in answers] == [int(shown[y * width + x] == WHITE) for x, y in places]
+    return [read(lines[0].split()) for lines in answers] == [int(shown[y * width + x] == WHITE) for x, y in places]
 
 
 def look(page):
@@ -31,9 +31,9 @@ def look(page):
     clocks = (0, 59, 1200, 3000, 5396)
     for clock in clocks + clocks[::-1]:
         go(page, clock)
-        for name, told in TOLD.items():
+        for name, read in READ.items():
             view(page, name)
-            if not plane_is_the_debuggers(page, text, clock, told):
+            if not plane_is_the_debuggers(page, text, clock, read):
                 print("at %d: %s differs" % (clock, name))
     print("planes at %d clocks are compared, and back" % len(clocks))
     go(page, 5396)

@@ -1,4 +1,4 @@
-"""Asks the page for states at clocks drawn by lot, and the debugger for the same: pixels, nodes, the place, and what was broadcast."""
+"""Asks the page for states at random clocks, and the debugger for the same: pixels, nodes, the place, and what was broadcast."""
 import os
 import random
 import sys
@@ -12,7 +12,7 @@ from browser import Browser
 import run_cases as cases
 BUILT, LOT, PAIRS, OF_A_SCENE, MOST = os.environ["PROGRAM"], 54, 1000, 40, 6000
 # The lines of the debugger to some questions at some clocks, by the states of the page.
-TOLD = """async (text, asked) => {
+REPLIES = """async (text, asked) => {
   const px = globalThis.px ??= await studio.library(), course = await studio.ask("program", {}, text);
   const machine = px.machine(text, course.operations.map(([, , , clock]) => clock)), out = [];
   for (const [clock, x, y, level, index] of asked) {
@@ -42,7 +42,7 @@ def scenes_of_cases():
 
 
 def asked_at(lot, text, clocks):
-    """Questions at clocks drawn by lot: clock, pixel and node."""
+    """Questions at random clocks: clock, pixel and node."""
     scene = scenes.read(text)
     wide, high = program.grid(scene.width, scene.height)
     levels = (wide * high).bit_length() - 1
@@ -66,12 +66,12 @@ with Browser() as page:
         for clock, x, y, level, index in asked:
             commands += [b"back %d" % MOST, b"until %d" % clock, b"at", b"pixel %d %d" % (x, y), b"tree %d %d" % (level, index), b"trace"]
         answers = sessions.held(BUILT, text, commands)
-        told = pages.called(page, TOLD, text.decode("latin-1"), asked)
+        replies = pages.called(page, REPLIES, text.decode("latin-1"), asked)
         for at, question in enumerate(asked):
             due = [[line.decode() for line in each] for each in answers[6 * at + 2:6 * at + 6]]
             due[3] = due[3][-4:]
-            if due != told[4 * at:4 * at + 4]:
-                print("at %s: %r in place of %r" % (question, told[4 * at:4 * at + 4], due))
+            if due != replies[4 * at:4 * at + 4]:
+                print("at %s: %r in place of %r" % (question, replies[4 * at:4 * at + 4], due))
             compared += 1
-    print("%d states beside the debugger's" % compared if compared < PAIRS else "as many as were wanted")
+    print("%d states compared with the debugger's" % compared if compared < PAIRS else "as many as were wanted")
     print("faults of the page:", page.faults())

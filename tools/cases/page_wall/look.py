@@ -1,4 +1,4 @@
-"""Looks at the wall of planes, at the time line, and at how the page opens and plays, in a browser, beside the debugger's answers."""
+"""Looks at the wall of planes, at the time line, and at how the page opens and plays, in a browser, against the debugger's answers."""
 import base64
 import os
 import random
@@ -50,14 +50,14 @@ def held(text, clocks, places):
     return [[answers[at * wide + 2 + each][0].decode().split() for each in range(len(places))] for at in range(len(clocks))]
 
 
-def tile_is_wrong(keys, caption, words, shown, told):
+def tile_is_wrong(keys, caption, words, shown, replies):
     """Whether an image of the wall shows some places otherwise than the debugger tells them."""
     bit = re.match(r"bit (\d+)", words)
     if caption in REGISTERS or bit:
-        due = [int(each[REGISTERS[caption]] if caption in REGISTERS else each[4][int(bit.group(1))]) for each in told]
+        due = [int(each[REGISTERS[caption]] if caption in REGISTERS else each[4][int(bit.group(1))]) for each in replies]
         return due != [int(colour == WHITE) for colour in shown]
     key, what = caption.split(" ")
-    numbers = [keys.number(each[4], key, "depth" if what == "depth" else "face") for each in told]
+    numbers = [keys.number(each[4], key, "depth" if what == "depth" else "face") for each in replies]
     if what == "colours":
         return key == "B" and [keys.colours[number] for number in numbers] != shown
     pairs = [(a, b, one, other) for a, one in zip(numbers, shown) for b, other in zip(numbers, shown)]
@@ -71,8 +71,8 @@ def walls(page, text):
     clocks = [lot.randrange(5397) for _ in range(CLOCKS // 2)]
     clocks = [clock for each in clocks for clock in (each, min(5396, each + 1))]
     places = [(lot.randrange(48), lot.randrange(32)) for _ in range(PLACES - 2)] + [(63, 0), (50, 31)]
-    told, before, framed, wrong = held(text, clocks, places), None, 0, 0
-    for clock, now in zip(clocks, told):
+    replies, before, framed, wrong = held(text, clocks, places), None, 0, 0
+    for clock, now in zip(clocks, replies):
         go(page, clock)
         is_whole, wall = called(page, WALL, places)
         if not is_whole:
@@ -132,7 +132,7 @@ def timeline(page, text):
 
 
 def large(page):
-    print("-- one large, another beside it")
+    print("-- one large, another next to it")
     page.press("w")
     page.until("document.activeElement.className.startsWith('tile')")
     for key, modifiers in (("Home", 0), ("ArrowRight", 0), ("Enter", 0), ("ArrowRight", 0), ("Enter", 8)):
@@ -141,9 +141,9 @@ def large(page):
     print("by keys:", page.run("[view.value, beside.value, [...document.querySelectorAll('.tile[aria-pressed=true] span')].map(each => each.textContent).join(' ')].join(', ')"))
     go(page, 3000)
     one, other = pixels(page, "array"), pixels(page, "array-beside")
-    told = held(open(FIRST, "rb").read(), [3000], [(x, 9) for x in range(64)])[0]
+    replies = held(open(FIRST, "rb").read(), [3000], [(x, 9) for x in range(64)])[0]
     print("both as the debugger has them:", [[int(each[2][9 * 64 + x] == (255, 255, 255)) for x in range(64)] for each in (one, other)] ==
-          [[int(each[at]) for each in told] for at in (8, 10)])
+          [[int(each[at]) for each in replies] for at in (8, 10)])
     page.run("document.activeElement.blur()")
     for _ in range(14):
         page.press("z")
@@ -186,7 +186,7 @@ def sight(page):
     first = pixels(page, "array")[2]
     page.until("seen.length > 5")
     seen = page.run("seen")
-    print("each place it comes by begins a pass:", all(clock in starts for _, clock, _ in seen), "| one behind the other:",
+    print("each place it comes by begins a pass:", all(clock in starts for _, clock, _ in seen), "| one after the other:",
           [clock for _, clock, _ in seen] == sorted(starts)[sorted(starts).index(seen[0][1]):][:len(seen)])
     most = max(sum(1 for _, _, other in seen if 0 <= other - time < 1000) for _, _, time in seen)
     print("more than three in a second:", most > 3)
@@ -222,7 +222,7 @@ def half_empty(page):
 with Browser() as page:
     text = ends.content(FIRST)
     page.call("Emulation.setFocusEmulationEnabled", enabled=True)
-    alone(page, behind=link(FIRST, "machine", clock=0))
+    alone(page, fragment=link(FIRST, "machine", clock=0))
     page.until("document.body.dataset.shown")
     walls(page, text)
     timeline(page, text)

@@ -75,7 +75,7 @@ def is_plain(word):
 
 
 def wrong_run(words, text, wanted):
-    """Of words that can be written with spaces between them; what is answered before the limit of a text is not handed over."""
+    """Of words that can be written with spaces between them; what is answered before the limit of a text is not given."""
     status, output, note = wanted
     got = ran(text, b" ".join(words).decode("latin-1"))
     return None if got == (status, b"" if status else output, note) else "a run with status %d, note %r" % (got[0], got[2])

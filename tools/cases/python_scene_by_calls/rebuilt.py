@@ -19,7 +19,7 @@ def tidied(text):
 
 
 def built(scene):
-    """The same scene by calls: fronts and backs of a solid apart where they stand so, and solids left out where they are due."""
+    """The same scene by calls: fronts and backs of a solid apart where they are so, and solids left out where they must be."""
     solids = []
     for solid in scene.solids:
         faces = sorted([(face.number, kind, (*face.plane, *face.colour)) for kind, some in (("front", solid.fronts), ("back", solid.backs))

@@ -36,17 +36,17 @@ def wrong_session(text):
         if not words or not lines or lines[0].startswith(b"?"):
             continue
         state = pxplanes.state(scene, now)
-        told = asked_of(state, words)
+        reply = asked_of(state, words)
         if words[0] == b"at":
-            told = ("at %d of %d macro %d micro %d" % (now, state.clocks, state.operation, state.operation_clock)
+            reply = ("at %d of %d macro %d micro %d" % (now, state.clocks, state.operation, state.operation_clock)
                     if now < state.clocks else "at %d of %d done" % (now, now))
         if words[0] == b"trace":
             first = now - len(lines)
-            told = "\n".join("%d: %s" % (first + at, micro) for at, micro in enumerate(pxplanes.micros(scene, first, len(lines))))
-        if told is not None:
+            reply = "\n".join("%d: %s" % (first + at, micro) for at, micro in enumerate(pxplanes.micros(scene, first, len(lines))))
+        if reply is not None:
             count += 1
-            if told.encode() != b"\n".join(lines):
-                return "%r at %d: %r in place of %r" % (command, now, told[:90], lines[0][:90]), count
+            if reply.encode() != b"\n".join(lines):
+                return "%r at %d: %r in place of %r" % (command, now, reply[:90], lines[0][:90]), count
     return None, count
 
 

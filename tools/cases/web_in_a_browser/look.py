@@ -1,4 +1,4 @@
-"""Hosts the page, and the ES module with its library beside it, and looks at both in a browser."""
+"""Hosts the page, and the ES module with its library next to it, and looks at both in a browser."""
 import functools
 import http.server
 import os
@@ -16,8 +16,8 @@ const said = [];
 try {
   const px = await load(), text = await (await fetch("first.scene")).text(), {width, depths, faces} = px.render(text);
   said.push(depths[16 * width + 24], faces[16 * width + 24], px.colour(text).rgb.length, px.products(text).join(" | "));
-  const state = px.state(text, 3000), [behind] = px.hasClocks ? [px.clocks(state, px.packed(text, 3000, 7))] : [px.state(text, 3007).words];
-  said.push(String(state.next), px.state(text, 3007).words.every((word, at) => word === behind[at]), px.machine(text).state(3007).clock);
+  const state = px.state(text, 3000), [moved] = px.hasClocks ? [px.clocks(state, px.packed(text, 3000, 7))] : [px.state(text, 3007).words];
+  said.push(String(state.next), px.state(text, 3007).words.every((word, at) => word === moved[at]), px.machine(text).state(3007).clock);
   for (const call of [() => px.render("pxscene 1\\nx\\n"), () => px.check("pxscene 1\\npicture 513 1\\n"), () => px.state(text, 5397), () => px.render("")]) {
     try { call(); } catch (error) {
       said.push([error instanceof px.Refused, error.message, error.status, error.line, error.cause, error.kind, error.number, error.clocks].join(" "));
@@ -50,9 +50,9 @@ threading.Thread(target=server.serve_forever, daemon=True).start()
 address = "http://127.0.0.1:%d/" % server.server_address[1]
 with Browser() as page:
     page.open(address + "says.html")
-    told = page.until("document.body && document.body.dataset.said")
-    print(told.replace('","', '"\n"'))
-    print("a worker says the same:", page.run(WORKER) == told)
+    said = page.until("document.body && document.body.dataset.said")
+    print(said.replace('","', '"\n"'))
+    print("a worker says the same:", page.run(WORKER) == said)
     page.open(address + "pxplanes.html")
     print("the page:", page.until("document.body.dataset.drawn !== 'no' && document.body.dataset.drawn"))
     print("faults:", page.faults())

@@ -1,5 +1,5 @@
 """OpenCASCADE's booleans by gmsh, as its manual has them: volumes of plane surfaces, fused, cut and intersected,
-and the surfaces of what is left meshed with triangles. inputs.py says what it reads and writes.
+and the surfaces of the rest meshed with triangles. inputs.py says what it reads and writes.
 
 Use: python3 gmsh_boolean.py"""
 import gmsh

@@ -1,5 +1,5 @@
-"""Prints what is told as likely wrong of the scenes of the gallery and of the suite, which are all meant as they are; and how many
-they are. The pictures of the suite are asked of the program; those of the gallery stand there, and are not blank."""
+"""Prints what is reported as likely wrong of the scenes of the gallery and of the suite, which are all meant as they are; and how many
+they are. The pictures of the suite are asked of the program; those of the gallery are there, and are not blank."""
 import glob
 import os
 import sys

@@ -29,7 +29,7 @@ FORMS = os.path.join("python", "tests", "data", "formats")
 RAYS = ((0, 0), (1, 2), (2, 4), (3, 8))
 MOST = 4000
 BLANK = b"pxscene 1\npicture 20 12\ndepth 8\nsolid a 9 9 9\nfront 0 0 300\nshow a\nend\n"
-TOLD = """async texts => {
+REPLIES = """async texts => {
   const out = [];
   for (const text of texts) {
     const drawn = await studio.ask("draw", {}, text);
@@ -131,27 +131,27 @@ def texts():
             pass
 
 
-def looked(page, name, text, told, counts):
+def looked(page, name, text, reply, counts):
     raw = text.encode()
     if listings.is_listing(raw):
         return
     status, _, note = program.answer(BUILT, ["cost"], raw)
-    if told.get("trouble"):
-        print("%s: %s" % (name, told["trouble"]))
-    elif status in (3, 4) and "refused" in told:
-        if not told["refused"] or not is_right(told["refused"], raw, note):
-            print("%s: %s in place of %s, columns %s" % (name, told["refused"], note, columns_of(raw, note)))
+    if reply.get("trouble"):
+        print("%s: %s" % (name, reply["trouble"]))
+    elif status in (3, 4) and "refused" in reply:
+        if not reply["refused"] or not is_right(reply["refused"], raw, note):
+            print("%s: %s in place of %s, columns %s" % (name, reply["refused"], note, columns_of(raw, note)))
         counts["refused"] += 1
-    elif status == 0 and "rows" in told:
+    elif status == 0 and "rows" in reply:
         due = due_of(raw)
         if name in FULL:
             due["rays"] = [[solids, None] for solids, _ in due["rays"]]
         for key in due:
-            if told[key] != due[key]:
-                print("%s: %s: %r in place of %r" % (name, key, str(told[key])[:300], str(due[key])[:300]))
+            if reply[key] != due[key]:
+                print("%s: %s: %r in place of %r" % (name, key, str(reply[key])[:300], str(due[key])[:300]))
         counts["accepted"] += 1
     else:
-        print("%s: status %d and %s" % (name, status, str(told)[:200]))
+        print("%s: status %d and %s" % (name, status, str(reply)[:200]))
 
 
 def maps():
@@ -177,10 +177,10 @@ def compared(page, scene, data, tolerance):
     differs = abs(ours[0].numbers.astype(int) - theirs[0].numbers.astype(int)) > tolerance
     if len(theirs) == 2:
         differs |= ours[1].numbers != theirs[1].numbers
-    told = pages.called(page, COMPARED, scene.decode(), base64.b64encode(data).decode(), tolerance)
+    reply = pages.called(page, COMPARED, scene.decode(), base64.b64encode(data).decode(), tolerance)
     due = "%d of %d pixels differ" % (differs.sum(), differs.size)
-    if not told.get("lines") or told["lines"][0] != due:
-        print("compared: %s in place of %s" % (told, due))
+    if not reply.get("lines") or reply["lines"][0] != due:
+        print("compared: %s in place of %s" % (reply, due))
     return True
 
 
@@ -189,8 +189,8 @@ with Browser() as page:
     counts, chosen = {"refused": 0, "accepted": 0}, list(texts())
     for at in range(0, len(chosen), 40):
         part = chosen[at:at + 40]
-        for (name, text), told in zip(part, pages.called(page, TOLD, [text for _, text in part])):
-            looked(page, name, text, told, counts)
+        for (name, text), reply in zip(part, pages.called(page, REPLIES, [text for _, text in part])):
+            looked(page, name, text, reply, counts)
     number = sum(compared(page, *each) for each in maps())
     print("texts: %s; maps: %s" % (", ".join("many %s" % word for word in counts if counts[word] > 50), "many" if number > 9 else number))
     print("faults of the page:", page.faults())

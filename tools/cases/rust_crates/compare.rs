@@ -12,7 +12,7 @@ macro_rules! layout {
     };
 }
 
-/// The sizes of the structs, and where each field stands.
+/// The sizes of the structs, and where each field is.
 fn print_layouts() {
     layout!("pxplanes_found", Found, width height faces line cause kind number operations clocks room);
     layout!("pxplanes_moment", Moment, grid_width grid_height words_per_row bits levels clock clocks operation operation_clock next_micro);
@@ -60,7 +60,7 @@ fn note(error: &Error) -> Vec<u8> {
     .into_bytes()
 }
 
-/// The state behind some clocks is that of the text there, and one behind a bad microinstruction is as it was.
+/// The state after some clocks is that of the text there, and one after a bad microinstruction is as it was.
 fn clocks_agree(text: &[u8]) -> pxplanes::Result<bool> {
     let last = pxplanes::check(text)?.clocks;
     let (first, count) = (last / 3, last.min(40));
@@ -77,7 +77,7 @@ fn clocks_agree(text: &[u8]) -> pxplanes::Result<bool> {
     Ok(state.words() == due.words() && next == micros[0] && bad && past)
 }
 
-/// As many operations as the scene has, which take its clocks, the later half by itself as in all; and none behind the last.
+/// As many operations as the scene has, which take its clocks, the later half by itself as in all; and none after the last.
 fn courses_agree(text: &[u8]) -> pxplanes::Result<bool> {
     let cost = pxplanes::check(text)?;
     let (all, half) = (cost.operations as usize, cost.operations / 2);
@@ -88,7 +88,7 @@ fn courses_agree(text: &[u8]) -> pxplanes::Result<bool> {
         && (last.operation, last.operation_clock) == (cost.operations - 1, 0) && course[0].role == 1 && course[all - 1].role == 11)
 }
 
-/// The key of the picture stands in the memory of the last state: its depth is that of `render`, pixel by pixel.
+/// The key of the picture is in the memory of the last state: its depth is that of `render`, pixel by pixel.
 fn key_agrees(text: &[u8], depth_from: u32, depth_bits: u32) -> pxplanes::Result<bool> {
     let picture = pxplanes::render(text)?;
     let state = State::after(text, pxplanes::check(text)?.clocks)?;
