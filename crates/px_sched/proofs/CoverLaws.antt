@@ -9,9 +9,6 @@ pub and_same : (c a b : Bool) → (c ≡ true → a ≡ b) → (c && a) ≡ (c &
 and_same true a b h = h refl
 and_same false a b h = refl
 
-pub not_negative : (v : ℤ) → not (is_negative v) ≡ le_z (pos 0) v
-not_negative v = grind (arith, ints)
-
 -- a value that is a depth
 pub record IsDepth (v : ℤ) (end : ℕ) : Type 0 where
   pub depth : ℕ

@@ -1,7 +1,7 @@
 -- The step behind a step of a group, by the literal and the others that were found.
 use Rattle.px_num.proofs.Basics.{arith, ◌≡◌, ℕ, ◌<◌, All, not, ◌==◌, List, length, sym, subst, ◌∙◌, append_assoc}
 use Rattle.px_num.proofs.Basics.{nat_tests, common_steps, All-filter, All-get_or}
-use Rattle.px_sched.proofs.Words.{AreKnown, At, from_stage, HasKnownLiterals, Literal, literal_of, literals}
+use Rattle.px_sched.proofs.Words.{AreKnown, At, BeginAt, HasKnownLiterals, Literal, literal_of, literals}
 use Rattle.px_sched.proofs.Words.{literals_from, no_product, Open, others_of, Product, product_at, product_steps}
 use Rattle.px_sched.proofs.Words.{products_from, SceneView}
 use Rattle.px_sched.specs.declared.group.Group.{Group}
@@ -22,11 +22,19 @@ module _ (scene : SceneView) (products : List Product) where
   opening product literal = record { product = product; literal = literal; step = Open }
 
   pub literal_opens : (product literal : ℕ) → literal < length (literals (product_at products product))
-      → literals_from scene products product literal ≡ from_stage scene products (At (opening product literal))
-  literal_opens product literal more = grind (arith, nat_tests, common_steps, opens, append_assoc)
+      → product < length products
+      → BeginAt scene products (literals_from scene products product literal) (At (opening product literal))
+  literal_opens product literal more there = record {
+    left = grind (arith, nat_tests, common_steps, opens, append_assoc);
+    stage = record { product = there; literal = more; step = tt; faces = tt };
+  }
 
   pub product_opens : (product : ℕ) → product < length products → All (HasKnownLiterals scene) products
-      → products_from scene products product ≡ from_stage scene products (At (opening product 0))
+      → BeginAt scene products (products_from scene products product) (At (opening product 0))
   product_opens product there drawn =
-      elements_more (product_steps scene) products no_product product there
-      ∙ literal_opens product 0 (All-get_or (HasKnownLiterals scene) products product no_product there drawn).some
+      let opened = literal_opens product 0 (All-get_or (HasKnownLiterals scene) products product no_product there
+      drawn).some there in
+      record {
+        left = elements_more (product_steps scene) products no_product product there ∙ opened.left;
+        stage = opened.stage;
+      }

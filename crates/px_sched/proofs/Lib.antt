@@ -20,7 +20,6 @@ pub mod RoomLemmas
 pub mod RunLemmas
 pub mod SightLemmas
 pub mod StandingLemmas
-pub mod StepCursorLemmas
 pub mod StepLemmas
 pub mod Words
 pub mod WorthLaws

@@ -36,17 +36,17 @@ pub use Rattle.px_num.specs.declared.linear.Linear.{Linear}
 pub use Rattle.px_prune.specs.Kept.{kept_of, plan_of}
 pub use Rattle.px_prune.specs.PruningLaw.{PlainIsKept, PruningLaw}
 pub use Rattle.px_sched.specs.Groups.{behind_stage, from_stage, IsStage, literal_of, literals_from, no_product}
-pub use Rattle.px_sched.specs.Groups.{others_of, product_at, products_from, stage_operations, step_of}
+pub use Rattle.px_sched.specs.Groups.{BeginAt, others_of, product_at, products_from, step_of}
 pub use Rattle.px_sched.specs.Layouts.{bit_length, deep_part, depth_part, fraction_part, IsLayout, layout_of}
 pub use Rattle.px_sched.specs.Layouts.{layout_with, LayoutView, need_of, number_part}
 pub use Rattle.px_sched.specs.Numbers.{after_step, after_steps, dropped, flipped, is_passing, key, KeyedPixel, Keys}
 pub use Rattle.px_sched.specs.Numbers.{loaded, residue, where_passing, without_fraction}
 pub use Rattle.px_sched.specs.NumbersLaw.{IsKeyOf, IsPixelOf, NumbersShowThePicture}
-pub use Rattle.px_sched.specs.Onward.{AreKnown, from_step, HasKnownLiterals}
-pub use Rattle.px_sched.specs.Passes.{candidate, candidate_faces, confirm, judge, keep_covered, literal, literal_at}
+pub use Rattle.px_sched.specs.Onward.{AreKnown, around_edges, BeginWith, HasKnownLiterals}
+pub use Rattle.px_sched.specs.Passes.{candidate, candidate_faces, confirm, judge, keep_covered, literal, literal_at, load_candidate}
 pub use Rattle.px_sched.specs.Passes.{literal_steps, literals, literals_of, no_literal, no_solid, operations, others}
 pub use Rattle.px_sched.specs.Passes.{passes, product_steps, solid_of, steps_with, where_fraction, where_passed}
-pub use Rattle.px_sched.specs.Steps.{HasFace, IsStep, IsThere, judged_from, passes_with}
+pub use Rattle.px_sched.specs.Steps.{behind_step, HasFace, IsStep, IsThere, judged_from, passes_with}
 pub use Rattle.px_sched.specs.Worths.{bare, confirm_worth, edges_in, first_face_step, judged_worth, own_worth, passing}
 pub use Rattle.px_sched.specs.declared.group.Stage.{Stage}
 pub use Rattle.px_sched.specs.declared.group.Stage.TheVariants.{At, End}
