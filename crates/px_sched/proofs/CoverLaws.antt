@@ -1,7 +1,6 @@
 -- The value of a face that covers a pixel: it is a depth, and the bits of one keep it.
 use Rattle.px_num.proofs.Basics.{common_steps, ◌≡◌, ◌<◌, ◌≤◌, ◌≤ℤ◌, ◌+◌, ◌*◌, ◌%◌, ◌^◌, ℕ, ℤ, pos, Bool, true, false}
-use Rattle.px_num.proofs.Basics.{◌&&◌, not, nat_le, refl, ap, sym, ◌∙◌, arith, is_negative, nat_tests, ints}
-use Rattle.px_num.proofs.Basics.{mod-mul-add}
+use Rattle.px_num.proofs.Basics.{◌&&◌, nat_le, refl, ap, sym, ◌∙◌, arith, nat_tests, ints, mod-mul-add}
 use Rattle.px_sched.proofs.Words.{and_left, and_right, CoveringLaw, covers, enters_at, eqb_holds, face_count}
 use Rattle.px_sched.proofs.Words.{face_plane, is_met, le_z, leaves_at, modulo, SolidView, value_at}
 

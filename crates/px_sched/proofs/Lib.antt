@@ -6,7 +6,6 @@ pub mod DrawnLaws
 pub mod FewLaws
 pub mod FitLemmas
 pub mod FoldLemmas
-pub mod GroupLemmas
 pub mod JoinLemmas
 pub mod LawfulLaws
 pub mod LayoutLaws

@@ -1,8 +1,8 @@
 -- A cursor gives the passes, or the steps, in their order.
 use Rattle.px_num.proofs.Basics.{nat_tests, common_steps, ◌≡◌, ℕ, ◌+◌, ◌-◌, ◌^◌, ◌<◌, ◌≤◌, Bool, List, [], ◌∷◌, ◌++◌}
-use Rattle.px_num.proofs.Basics.{drop, filter, get_or, IfSome, length, slice_get, take, Some, None, ap, sym, ◌∙◌, arith, cond}
-use Rattle.px_num.proofs.Basics.{drop-drop, length-append, unwrap_or, flat_map, drop_more, count_by-le-length}
-use Rattle.px_num.proofs.Basics.{length-filter, slice_get-get_or, slice_get_past, drop_all, get_or_append_left, subst}
+use Rattle.px_num.proofs.Basics.{drop, filter, get_or, IfSome, length, slice_get, take, Some, None, ap, sym, ◌∙◌, arith}
+use Rattle.px_num.proofs.Basics.{cond, length-append, unwrap_or, flat_map, drop_more, count_by-le-length, length-filter}
+use Rattle.px_num.proofs.Basics.{slice_get-get_or, slice_get_past, drop_all, get_or_append_left, subst}
 use Rattle.px_sched.proofs.Words.{behind_stage, from_stage, IsStage, IsStep, layout_of, length-drop, length-take, Macro}
 use Rattle.px_sched.proofs.Words.{operations, passes, plan_of, Product, SceneView, Stage, Step, step_of}
 use Rattle.std.proofs.Math.Seq.{drop-append_seam}

@@ -1,10 +1,15 @@
--- What comes behind a step begins with the next one.
-use Rattle.px_num.proofs.Basics.{◌≡◌, ℕ, ◌+◌, ◌-◌, ◌^◌, ◌<◌, ◌≤◌, refl, true, List, [], ◌∷◌, ◌++◌, drop, get_or, length}
-use Rattle.px_num.proofs.Basics.{map, ap, arith, append_assoc, length-append, flat_map, drop_more, get_or-append_right}
-use Rattle.px_num.proofs.Basics.{get_or-map, get_or_append_left, length-map}
-use Rattle.px_sched.proofs.Words.{Begin, BeginWith, behind_step, deep_part, Depths, end_of, face_number, face_plane}
-use Rattle.px_sched.proofs.Words.{Field, fraction_part, judged_from, LayoutView, level, Linear, Literal, literal_steps}
-use Rattle.px_sched.proofs.Words.{load_candidate, Macro, number_part, Open, plus, SceneView, SolidView, where_fraction}
+-- What comes behind a step, of a literal or of a group, begins with the next one.
+use Rattle.px_num.proofs.Basics.{◌≡◌, ◌+◌, ◌-◌, ◌^◌, ◌<◌, ◌≤◌, ◌==◌, ◌++◌, ◌∙◌, ℕ, true, not, List, [], ◌∷◌, All, drop}
+use Rattle.px_num.proofs.Basics.{get_or, length, map, flat_map, refl, ap, sym, subst, arith, nat_tests, common_steps}
+use Rattle.px_num.proofs.Basics.{append_assoc, length-append, length-map, drop_more, get_or-map, get_or-append_right}
+use Rattle.px_num.proofs.Basics.{get_or_append_left, All-filter, All-get_or}
+use Rattle.px_sched.proofs.Words.{AreKnown, At, Begin, BeginAt, BeginWith, behind_step, deep_part, Depths, end_of}
+use Rattle.px_sched.proofs.Words.{face_number, face_plane, Field, fraction_part, HasKnownLiterals, judged_from}
+use Rattle.px_sched.proofs.Words.{LayoutView, level, Linear, Literal, literal_of, literal_steps, literals}
+use Rattle.px_sched.proofs.Words.{literals_from, load_candidate, Macro, no_product, number_part, Open, others_of, plus}
+use Rattle.px_sched.proofs.Words.{Product, product_at, product_steps, products_from, SceneView, SolidView}
+use Rattle.px_sched.proofs.Words.{where_fraction}
+use Rattle.px_sched.specs.declared.group.Group.{Group}
 use Rattle.px_macro.specs.declared.operation.Macro.TheVariants as m
 
 -- what f gives for the elements of a list from one on
@@ -43,3 +48,35 @@ pub behind_edges : (head tail : List Macro) (es : List Linear) (n at : ℕ) → 
     → get_or (head ++ tail) (at - n) m.All ≡ get_or (head ++ map m.KeepSign es ++ tail) at m.All
 behind_edges head tail es n at size from past =
     grind (arith, get_or-append_right, length-append, length-map)
+
+pub others_known : (scene : SceneView) (products : List Product) (g : Group) (rs : List Literal)
+    → g.product < length products → All (HasKnownLiterals scene) products → rs ≡ others_of products g
+    → AreKnown scene rs
+others_known scene products g rs there drawn e =
+    let known = (All-get_or (HasKnownLiterals scene) products g.product no_product there drawn).known in
+    subst (AreKnown scene) (sym e)
+    (All-filter (λ r. not (r.solid == (literal_of products g).solid)) (λ r. r.solid < length scene.solids)
+    (literals (product_at products g.product)) known)
+
+-- the steps from a literal of a product on begin with the first one of the literal
+module _ (scene : SceneView) (products : List Product) where
+  abbrev opening : (product literal : ℕ) → Group
+  opening product literal = record { product = product; literal = literal; step = Open }
+
+  pub literal_opens : (product literal : ℕ) → literal < length (literals (product_at products product))
+      → product < length products
+      → BeginAt scene products (literals_from scene products product literal) (At (opening product literal))
+  literal_opens product literal more there = record {
+    left = grind (arith, nat_tests, common_steps, opens, append_assoc);
+    stage = record { product = there; literal = more; step = tt; faces = tt };
+  }
+
+  pub product_opens : (product : ℕ) → product < length products → All (HasKnownLiterals scene) products
+      → BeginAt scene products (products_from scene products product) (At (opening product 0))
+  product_opens product there drawn =
+      let opened = literal_opens product 0 (All-get_or (HasKnownLiterals scene) products product no_product there
+      drawn).some there in
+      record {
+        left = elements_more (product_steps scene) products no_product product there ∙ opened.left;
+        stage = opened.stage;
+      }

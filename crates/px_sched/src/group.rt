@@ -1,5 +1,5 @@
 //! The groups of operations, in the order of the passes.
-ghost use Rattle.std.specs.Prelude.{◌≡◌, ◌+◌, ◌<◌, ◌≤◌, All, length};
+ghost use Rattle.std.specs.Prelude.{◌≡◌, ◌+◌, ◌<◌, All, length};
 ghost use Rattle.px_sched.specs.Groups.{
   BeginAt,
   IsGroup,

@@ -1,5 +1,5 @@
 use Rattle.px_num.proofs.Basics.{arith}
-use Rattle.px_sched.proofs.GroupLemmas.{product_opens}
+use Rattle.px_sched.proofs.StepLemmas.{product_opens}
 use Rattle.px_sched.proofs.group.product_from.Goals as goal
 
 pub returns-then-product-products : goal.returns-then-product-products
