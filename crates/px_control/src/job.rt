@@ -3,7 +3,7 @@ ghost use Rattle.std.specs.Prelude.{◌≡◌, [], ◌∷◌, ◌+◌, ◌-◌, 
 ghost use Rattle.px_num.specs.Want.{want};
 ghost use Rattle.px_array.specs.Arrays.{pixel_of};
 ghost use Rattle.px_array.specs.Slots.{HasWorked, IsRunOnce, no_slots};
-ghost use Rattle.px_prune.specs.Kept.{crowd_of};
+ghost use Rattle.px_prune.specs.Kept.{crowd_of, plan_of};
 ghost use Rattle.px_sched.specs.Layouts.{layout_of, need_of};
 ghost use Rattle.px_sched.specs.Passes.{passes};
 ghost use Rattle.px_sched.specs.PassesLaw.{ShowsThePicture};
@@ -168,6 +168,13 @@ impl<'s> Job<'s> {
         ensures { result ≡ length (passes self.now.scene) }
     {
         self.operations
+    }
+
+    /// How many products the passes of the scene draw.
+    pub fn total_products(&self) -> usize
+        ensures { result ≡ length (plan_of self.now.scene) }
+    {
+        self.program.total_products()
     }
 
     /// The layout of the scene's keys in a pixel's memory.

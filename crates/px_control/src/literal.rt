@@ -1,14 +1,14 @@
 //! What a literal adds to the passes of its product.
 ghost use Rattle.std.specs.Prelude.{◌≡◌, ◌+◌, ◌*◌, ◌^◌, ◌<◌, ◌≤◌, length, if◌then◌else◌};
 ghost use Rattle.px_face.specs.Edges.{edge_count};
-ghost use Rattle.px_sched.specs.Passes.{candidate_faces, solid_of};
+ghost use Rattle.px_sched.specs.Passes.{candidate_faces};
 ghost use Rattle.px_sched.specs.Worths.{confirm_worth, judged_worth, own_worth, share_worth};
 ghost use Rattle.px_control.specs.Costs.{AreLow, rated};
 
 use crate::rates::Rates;
 use px_face::face_count;
 use px_model::{Scene, Solid};
-use px_sched::Literal;
+use px_sched::{Literal, solid_at};
 
 /// What a literal adds to its product: its own steps, and those against it of each of the others.
 pub(crate) fn share(scene: &Scene, rates: &Rates, q: Literal, others: u64) -> u64
@@ -88,11 +88,4 @@ fn judge_cost(scene: &Scene, rates: &Rates, r: Literal) -> u64
     let solid = solid_at(scene, r.solid);
     let turn = rates.with_edges(rates.turn, solid);
     rates.begin + rates.close + face_count(solid) as u64 * turn
-}
-
-fn solid_at(scene: &Scene, solid: u8) -> &Solid
-    requires { solid < length scene.now.solids }
-    ensures { result.now ≡ solid_of scene.now solid }
-{
-    &scene.solids()[usize::from(solid)]
 }

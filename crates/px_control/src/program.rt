@@ -289,6 +289,13 @@ impl<'s> Program<'s> {
         self.layout
     }
 
+    /// How many products the passes draw.
+    pub(crate) fn total_products(&self) -> usize
+        ensures { result ≡ length (plan_of self.now) }
+    {
+        self.plan.products.len()
+    }
+
     /// The exponents of the scene's grid.
     pub fn grid(&self) -> (u32, u32)
         ensures { result ≡ (columns_of self.now, rows_of self.now) }

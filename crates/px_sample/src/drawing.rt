@@ -20,7 +20,7 @@ ghost use Rattle.px_commands.specs.Stops.{DoesWork};
 use crate::sample::sample_text;
 use px_array::Array;
 use px_asm::Operating;
-use px_commands::{Stop, drawing_of, four_lines, open_job, scene_in, write_finished};
+use px_commands::{Stop, four_lines, open_job, scene_in, write_finished};
 use px_control::Job;
 use px_frame::{draw_job, stored};
 use px_io::{Failed, Sink};
@@ -90,9 +90,8 @@ fn measure<O: Sink, A: Operating>(
     ensures array { Draws (status_in result) A.BITS scene.now (A.view array.old)
         (A.view array.new) }
 {
-    let drawing = drawing_of(alloc, scene, A::BITS as u32)?;
-    let products = drawing.1.products.len() as u64;
     let mut job = open_job(alloc, scene, array)?;
+    let products = job.total_products() as u64;
     Ok(deliver_measures(&mut job, scene, array, products, out)?)
 }
 

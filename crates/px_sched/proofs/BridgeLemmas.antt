@@ -172,7 +172,7 @@ par_written laws w f i v memory long =
     ) refl
 
 -- a pixel by its memory, and whether it is enabled
-abbrev pixel : List Bool → Bool → PixelBits
+abbrev pub pixel : List Bool → Bool → PixelBits
 pixel memory e = record { memory = memory; enable = e }
 
 -- the pixels at which all of these forms are at least 0 stay enabled

@@ -1,16 +1,12 @@
 -- The value of a face that covers a pixel: it is a depth, and the bits of one keep it.
 use Rattle.px_num.proofs.Basics.{common_steps, ◌≡◌, ◌<◌, ◌≤◌, ◌≤ℤ◌, ◌+◌, ◌*◌, ◌%◌, ◌^◌, ℕ, ℤ, pos, Bool, true, false}
-use Rattle.px_num.proofs.Basics.{◌&&◌, not, nat_le, refl, ap, sym, ◌∙◌, arith, is_negative, nat_tests, ints}
-use Rattle.px_num.proofs.Basics.{mod-mul-add}
+use Rattle.px_num.proofs.Basics.{◌&&◌, nat_le, refl, ap, sym, ◌∙◌, arith, nat_tests, ints, mod-mul-add}
 use Rattle.px_sched.proofs.Words.{and_left, and_right, CoveringLaw, covers, enters_at, eqb_holds, face_count}
 use Rattle.px_sched.proofs.Words.{face_plane, is_met, le_z, leaves_at, modulo, SolidView, value_at}
 
 pub and_same : (c a b : Bool) → (c ≡ true → a ≡ b) → (c && a) ≡ (c && b)
 and_same true a b h = h refl
 and_same false a b h = refl
-
-pub not_negative : (v : ℤ) → not (is_negative v) ≡ le_z (pos 0) v
-not_negative v = grind (arith, ints)
 
 -- a value that is a depth
 pub record IsDepth (v : ℤ) (end : ℕ) : Type 0 where

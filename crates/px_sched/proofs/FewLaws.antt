@@ -27,7 +27,7 @@ length_below (suc n) = omega (arith, length-append (below n) (n ∷ []), length_
 pub few_filtered : (h : ℕ → Bool) (n : ℕ) → length (filter h (below n)) ≤ n
 few_filtered h n = omega (arith, length-filter h (below n), count_by-le-length h (below n), length_below n)
 
-few_solids : (set : SolidSet) (n : ℕ) → n ≡ 256 → length (solids set) ≤ n
+pub few_solids : (set : SolidSet) (n : ℕ) → n ≡ 256 → length (solids set) ≤ n
 unfolding solids
 few_solids set n e = omega (arith, ap (λ k. length (filter (has set) (below k))) e, few_filtered (has set) n)
 

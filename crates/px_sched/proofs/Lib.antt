@@ -6,7 +6,6 @@ pub mod DrawnLaws
 pub mod FewLaws
 pub mod FitLemmas
 pub mod FoldLemmas
-pub mod GroupLemmas
 pub mod JoinLemmas
 pub mod LawfulLaws
 pub mod LayoutLaws
@@ -20,7 +19,6 @@ pub mod RoomLemmas
 pub mod RunLemmas
 pub mod SightLemmas
 pub mod StandingLemmas
-pub mod StepCursorLemmas
 pub mod StepLemmas
 pub mod Words
 pub mod WorthLaws

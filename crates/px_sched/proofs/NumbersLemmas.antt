@@ -2,18 +2,39 @@
 use Rattle.px_num.proofs.Basics.{rules, ◌≡◌, ◌<◌, ◌≤◌, ◌*◌, ◌^◌, ◌&&◌, ℕ, Bool, true, false, List, [], ◌∷◌, length}
 use Rattle.px_num.proofs.Basics.{min, Option, Some, None, refl, ap, sym, ◌∙◌, arith, inl, inr, fold, All, mul-le-mul}
 use Rattle.px_num.proofs.Basics.{mul-le-mul_left, cases_lt, pow_pos}
-use Rattle.px_sched.proofs.Words.{and_left, and_right, cases_order, cell, Cell, CellsLaw, CoveringLaw, Depths}
-use Rattle.px_sched.proofs.Words.{depths_of, far_of, first_cell, forms, has_face, HasLeavesBelow, HasSolidsBelow}
-use Rattle.px_sched.proofs.Words.{is_member_at, is_void, IsKeyOf, IsLawfulScene, IsLawfulSolid, IsNormalForm}
-use Rattle.px_sched.proofs.Words.{IsPixelOf, kept_of, key, KeyedPixel, leaf_cell, least, leaves_below, min_cases}
-use Rattle.px_sched.proofs.Words.{never, NumbersShowThePicture, picture, Product, PruningLaw, scene_cell, SceneView}
-use Rattle.px_sched.proofs.Words.{sight_at, some_shows, sum_of_products, Tree, value_of, ValueParityLaw}
+use Rattle.px_sched.proofs.Words.{after_steps, and_left, and_right, cases_order, cell, Cell, CellsLaw, CoveringLaw}
+use Rattle.px_sched.proofs.Words.{Depths, depths_of, faces_of, far_of, first_cell, forms, has_face, HasLeavesBelow}
+use Rattle.px_sched.proofs.Words.{HasSolidsBelow, is_member_at, is_void, IsLawfulScene, IsLawfulSolid, IsNormalForm}
+use Rattle.px_sched.proofs.Words.{kept_of, key, KeyedPixel, Keys, leaf_cell, least, leaves_below, min_cases, never}
+use Rattle.px_sched.proofs.Words.{picture, Product, PruningLaw, scene_cell, SceneView, Sight, sight_at, some_shows}
+use Rattle.px_sched.proofs.Words.{steps_with, sum_of_products, Tree, value_of, ValueParityLaw}
 use Rattle.px_face.specs.Surfaces.{FirstCellsAreFirst, IsFirst, IsFirstOf, ScenesHaveSurfaces, scene_before}
 use Rattle.px_sched.proofs.RunLemmas.{HasRoom}
 use Rattle.px_sched.proofs.BlockLemmas.{all_found, steps_best}
 use Rattle.px_sched.proofs.MemberLaws.{In, all_in, face_in, in_face}
 use Rattle.px_sched.proofs.ProductLaws.{IsFit, fit}
 use Rattle.px_sched.proofs.JoinLemmas.{best_is_least}
+
+-- the best key is that of a depth and a face number, which have room in it
+pub record IsKeyOf (l : KeyedPixel) (sight : Sight) (best : ℕ) : Type 0 where
+  pub key : best ≡ key l (sight.depth * 2 ^ l.fraction_bits) sight.face
+  pub depth : sight.depth < 2 ^ l.depth_bits
+  pub face : sight.face < 2 ^ l.number_bits
+
+-- a pixel of the picture, with bits enough for each depth and each face number
+pub record IsPixelOf (scene : SceneView) (l : KeyedPixel) : Type 0 where
+  pub depth_bits : l.depth_bits ≡ scene.depth_bits
+  pub fraction_bits : l.fraction_bits ≡ scene.fraction_bits
+  pub number_bits : faces_of scene.solids < 2 ^ l.number_bits
+  pub left : l.x < scene.width
+  pub up : l.y < scene.height
+
+-- whatever the numbers of a pixel of the picture were, the passes leave the key of what it shows
+abbrev pub NumbersShowThePicture : Type 0
+NumbersShowThePicture = (scene : SceneView) → IsLawfulScene scene → All IsLawfulSolid scene.solids →
+    (l : KeyedPixel) → IsPixelOf scene l → (k : Keys) →
+    IsKeyOf l (picture scene l.x l.y)
+    (after_steps scene l k (steps_with scene (kept_of scene (sum_of_products scene.show)))).best
 
 least_in : (ns : List ℕ) → 0 < length ns → In (least ns) ns
 least_in [] h = absurd (omega arith)

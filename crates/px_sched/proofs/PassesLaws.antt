@@ -19,14 +19,13 @@ use Rattle.px_prune.proofs.KeptLaws.{kept_is_shown, none_is_void}
 use Rattle.px_prune.proofs.StayingLemmas.{kept_below}
 use Rattle.px_normal.proofs.SolidsLaws.{solids_laws}
 use Rattle.px_sched.specs.Layouts.{layout_of}
-use Rattle.px_sched.specs.NumbersLaw.{NumbersShowThePicture}
 use Rattle.px_sched.specs.PassesFacts.{PassesAreFew, PassesAreLawful, StepsAreLawful}
 use Rattle.px_sched.specs.PassesLaw.{PassesLaw}
 use Rattle.px_sched.proofs.FewLaws.{few_passes}
 use Rattle.px_sched.proofs.FitLemmas.{scene_passes_fit, step_fits}
 use Rattle.px_sched.proofs.LawfulLaws.{passes_are}
 use Rattle.px_sched.proofs.LayoutLaws.{scene_layout}
-use Rattle.px_sched.proofs.NumbersLemmas.{numbers_show_the_picture}
+use Rattle.px_sched.proofs.NumbersLemmas.{numbers_show_the_picture, NumbersShowThePicture}
 use Rattle.px_sched.proofs.SightLemmas.{passes_law}
 
 pub edges_in_range : EdgesAreInRange

@@ -1,7 +1,8 @@
 -- The passes leave in the memory what they leave in the numbers: the sight of the pixel.
 use Rattle.px_num.proofs.Basics.{◌+◌, refl, ap, ◌∙◌}
 use Rattle.px_sched.proofs.Words.{bit_length, depths_of, end_is_small, end_of, faces_of, kept_of, KeyedPixel}
-use Rattle.px_sched.proofs.Words.{NumbersShowThePicture, picture, steps_with, sum_of_products}
+use Rattle.px_sched.proofs.Words.{picture, steps_with, sum_of_products}
+use Rattle.px_sched.proofs.NumbersLemmas.{NumbersShowThePicture}
 use Rattle.px_sched.specs.PassesLaw.{PassesLaw}
 use Rattle.px_sched.proofs.BridgeLemmas.{FieldLaws, all_steps, b_parts, keys_in}
 use Rattle.px_sched.proofs.LawfulLaws.{passes_are}

@@ -1,102 +1,170 @@
--- A cursor gives the passes in their order.
-use Rattle.px_num.proofs.Basics.{rules, ◌≡◌, ◌≢◌, ℕ, ◌+◌, ◌<◌, ◌≤◌, List, [], ◌∷◌, ◌++◌, drop, get_or, length}
-use Rattle.px_num.proofs.Basics.{slice_get, Option, Some, None, IfNone, refl, ap, sym, ◌∙◌, arith, length-append}
-use Rattle.px_num.proofs.Basics.{nat_tests, common_steps, drop-drop, slice_get-get_or, slice_get_past, drop-cons, zero}
-use Rattle.px_num.proofs.Basics.{suc, flat_map}
-use Rattle.px_sched.proofs.Words.{behind_stage, End, from_stage, get_or-drop, IsStage, layout_of, LayoutView}
-use Rattle.px_sched.proofs.Words.{length-drop, Macro, operations, passes, passes_with, plan_of, Product, SceneView}
-use Rattle.px_sched.proofs.Words.{Stage, stage_operations}
+-- A cursor gives the passes, or the steps, in their order.
+use Rattle.px_num.proofs.Basics.{nat_tests, common_steps, ◌≡◌, ℕ, ◌+◌, ◌-◌, ◌^◌, ◌<◌, ◌≤◌, Bool, List, [], ◌∷◌, ◌++◌}
+use Rattle.px_num.proofs.Basics.{drop, filter, get_or, IfSome, length, slice_get, take, Some, None, ap, sym, ◌∙◌, arith}
+use Rattle.px_num.proofs.Basics.{cond, length-append, unwrap_or, flat_map, drop_more, count_by-le-length, length-filter}
+use Rattle.px_num.proofs.Basics.{slice_get-get_or, slice_get_past, drop_all, get_or_append_left, subst}
+use Rattle.px_sched.proofs.Words.{behind_stage, from_stage, IsStage, IsStep, layout_of, length-drop, length-take, Macro}
+use Rattle.px_sched.proofs.Words.{operations, passes, plan_of, Product, SceneView, Stage, Step, step_of}
+use Rattle.std.proofs.Math.Seq.{drop-append_seam}
+use Rattle.std.proofs.lemmas.List.Filters.{length-filter_more}
 use Rattle.px_sched.specs.declared.cursor.Cursor.{Cursor}
-use Rattle.px_sched.specs.Cursors.{IsWithinStage, Stands, StandsIn}
+use Rattle.px_sched.specs.declared.group.Stage.TheVariants.{Start}
+use Rattle.px_sched.specs.declared.step_cursor.StepCursor.{StepCursor}
+use Rattle.px_sched.specs.Cursors.{Stands}
+use Rattle.px_sched.specs.Passes.{steps}
+use Rattle.px_sched.specs.StepCursors.{HasFewOthers, StandsAtStep, literals_in, opens_literal}
+use Rattle.px_sched.proofs.FewLaws.{few_others}
 use Rattle.px_sched.proofs.LawfulLaws.{passes_are}
 use Rattle.px_macro.specs.declared.operation.Macro.TheVariants as m
 
--- one element further in a list whose rest is known
-here : {X : Type 0} (xs : List X) (k : ℕ) (ls rs : List X) (i : ℕ) (d : X) → i < length ls → drop k xs ≡ drop i ls
-    ++ rs → get_or xs k d ≡ get_or ls i d
-here xs k ls rs i d h e = grind (arith, nat_tests, common_steps, get_or-drop, drop-cons)
+-- a list from one element on
+module _ {X : Type 0} (xs : List X) (k : ℕ) (x : X) (rest : List X) (left : drop k xs ≡ x ∷ rest) where
+  head_below : k < length xs
+  head_below = grind (arith, nat_tests, common_steps, left, length-drop)
 
-further : {X : Type 0} (xs : List X) (k : ℕ) (ls rs : List X) (i : ℕ) (d : X) → i < length ls → drop k xs ≡ drop i ls
-    ++ rs → drop (k + 1) xs ≡ drop (i + 1) ls ++ rs
-further xs k ls rs i d h e = grind (arith, drop-drop 1 k xs, drop-cons ls i d h)
+  split : get_or xs k x ∷ drop (k + 1) xs ≡ x ∷ rest
+  split = sym (drop_more xs k x head_below) ∙ left
 
-more_left : {X : Type 0} (xs : List X) (k : ℕ) (ls rs : List X) (i : ℕ) → i < length ls → drop k xs ≡ drop i ls ++ rs
-    → k < length xs
-more_left xs k ls rs i h e = grind (arith, length-append (drop i ls) rs, length-drop k xs, length-drop i ls)
+  head_is : get_or xs k x ≡ x
+  head_is = ap (λ l. get_or l 0 x) split
 
-past_all : {X : Type 0} (ls : List X) (i : ℕ) → length ls ≤ i → drop i ls ≡ []
-past_all [] zero h = refl
-past_all [] (suc i) h = refl
-past_all (l ∷ ls) zero h = absurd (omega arith)
-past_all (l ∷ ls) (suc i) h = past_all ls i (omega arith)
+  head_found : Some x ≡ slice_get xs k
+  head_found = sym (slice_get-get_or xs k x head_below ∙ ap (λ y. Some y) head_is)
 
-module _ (scene : SceneView) (l : LayoutView) (products : List Product) where
-  pub inside_of : (st : Stage) (at : ℕ) → st ≢ End → IsWithinStage scene l st at
-      → at < length (stage_operations scene l st)
-  inside_of x at more place = grind arith
+  tail_is : drop (k + 1) xs ≡ rest
+  tail_is = ap (drop 1) split
 
-  abbrev whole : List Macro
-  whole = passes_with scene l products
+  filtered_more : (p : X → Bool) → length (filter p (take (k + 1) xs)) ≡ length (filter p (take k xs)) + cond (p x) 1 0
+  filtered_more p = grind (arith, length-filter_more, head_below, cond, head_is)
 
-  module _ (c : Cursor) (stands : StandsIn scene l products c)
-      (inside : c.at < length (stage_operations scene l c.stage)) where
-    abbrev ops : List Macro
-    ops = stage_operations scene l c.stage
+ended : {X : Type 0} (xs : List X) (k : ℕ) → drop k xs ≡ [] → length xs ≤ k
+ended xs k none = omega (arith, ap length none, length-drop k xs)
 
-    abbrev behind : List Macro
-    behind = flat_map (operations scene l) (behind_stage scene products c.stage)
+module _ (scene : SceneView) (products : List Product) where
+  here_from : (st : Stage) (s : Step) → Some s ≡ step_of st → from_stage scene products st ≡ s
+      ∷ behind_stage scene products st
+  here_from x s here = grind (arith, unwrap_or)
 
-    pub below : c.given < length whole
-    below = more_left whole c.given ops behind c.at inside stands.left
+  end_from : (st : Stage) → None ≡ step_of st → from_stage scene products st ≡ []
+  end_from x here = grind arith
 
-    pub given_is : get_or whole c.given m.All ≡ get_or ops c.at m.All
-    given_is = here whole c.given ops behind c.at m.All inside stands.left
+  pub step_known : (st : Stage) (s : Step) → Some s ≡ step_of st → IsStage scene products st → IsStep scene s
+  step_known x s here is = grind (arith, unwrap_or)
 
-    left_more : drop (c.given + 1) whole ≡ drop (c.at + 1) ops ++ behind
-    left_more = further whole c.given ops behind c.at m.All inside stands.left
+  pub others_here : (st : Stage) (s : Step) → Some s ≡ step_of st → IsStage scene products st → HasFewOthers s
+  others_here x s here is = grind (arith, unwrap_or, few_others)
 
-    pub along : (d : Cursor) → d.given ≡ c.given + 1 → d.at ≡ c.at + 1 → d.stage ≡ c.stage → c.at + 1 < length ops
-        → IsWithinStage scene l c.stage (c.at + 1) → StandsIn scene l products d
-    along d given at stage more place = grind (arith, left_more, below)
+module _ (scene : SceneView) where
+  abbrev behind : Stage → List Step
+  behind st = behind_stage scene (plan_of scene) st
 
-  pub ended : (c : Cursor) → StandsIn scene l products c → c.stage ≡ End → c.given ≡ length whole
-  ended c stands stage = grind (arith, nat_tests, common_steps, length-drop)
+  abbrev ops : Step → List Macro
+  ops step = operations scene (layout_of scene) step
 
-  pub none_is : (c : Cursor) → StandsIn scene l products c → c.stage ≡ End → None ≡ slice_get whole c.given
-  none_is c stands stage =
-      sym (ap (slice_get whole) (ended c stands stage) ∙ slice_get_past whole (length whole) (omega arith))
+  -- the steps from a cursor on
+  module _ (c : StepCursor) (s : Step) (stands : StandsAtStep scene c) (here : Some s ≡ step_of c.stage) where
+    left : drop c.given (steps scene) ≡ s ∷ behind c.stage
+    left = stands.left ∙ here_from scene (plan_of scene) c.stage s here
 
-  pub some_is : (c : Cursor) (one : Macro) → StandsIn scene l products c → c.stage ≢ End
-      → one ≡ get_or (stage_operations scene l c.stage) c.at m.All → Some one ≡ slice_get whole c.given
-  some_is c one stands more is =
-      let inside = inside_of c.stage c.at more stands.place in
-      sym (slice_get-get_or whole c.given m.All (below c stands inside) ∙ ap Some (given_is c stands inside ∙ sym is))
+    pub step_found : Some s ≡ slice_get (steps scene) c.given
+    step_found = head_found (steps scene) c.given s (behind c.stage) left
 
-  pub stands_along : (c d : Cursor) (n : ℕ) → ((l : LayoutView) → length (stage_operations scene l c.stage) ≡ n)
-      → c.at + 1 < n → d.given ≡ c.given + 1 → d.at ≡ c.at + 1 → d.stage ≡ c.stage → StandsIn scene l products c
-      → StandsIn scene l products d
-  stands_along c d n count low given at stage stands = grind (arith, along)
+    pub few_steps : c.given < 2 ^ 64 - 1
+    few_steps = omega (arith, head_below (steps scene) c.given s (behind c.stage) left, stands.few)
 
-  pub stands_onward : (c d : Cursor) (next : Stage) (n : ℕ)
-      → ((l : LayoutView) → length (stage_operations scene l c.stage) ≡ n) → c.at < n → n ≤ c.at + 1
-      → behind_stage scene products c.stage ≡ from_stage scene products next → IsStage scene products next
-      → d.given ≡ c.given + 1 → d.at ≡ 0 → d.stage ≡ next → StandsIn scene l products c → StandsIn scene l products d
-  stands_onward c d next n count low past left is given at stage stands =
-      search (rules, arith, left_more, past_all, below)
+    pub few_literals : c.literals < 2 ^ 64 - 1
+    few_literals = grind (arith, few_steps, length-filter, count_by-le-length, length-take)
 
--- the passes of a scene are those over its plan, by its layout
-module _ (scene : SceneView) (l : LayoutView) (products : List Product) (plan : products ≡ plan_of scene)
-    (layout : l ≡ layout_of scene) where
-  pub given_for : (n : ℕ) (o : Option Macro) → o ≡ slice_get (passes_with scene l products) n
-      → o ≡ slice_get (passes scene) n
-  given_for n o given = grind (arith, slice_get, passes_are)
+    pub literals_more : c.literals + cond (opens_literal s) 1 0 ≡ literals_in (take (c.given + 1) (steps scene))
+    literals_more = grind (arith, left, cond, filtered_more)
 
-  pub stands_for : (c : Cursor) → StandsIn scene l products c → Stands scene c
-  stands_for c stands = grind arith
+    pub stands_behind : (d : StepCursor) → d.given ≡ c.given + 1
+        → d.literals ≡ c.literals + cond (opens_literal s) 1 0
+        → behind c.stage ≡ from_stage scene (plan_of scene) d.stage → IsStage scene (plan_of scene) d.stage
+        → StandsAtStep scene d
+    stands_behind d given literals next is = grind (arith, left, tail_is, cond, filtered_more)
 
-  pub end_for : (n : ℕ) (o : Option Macro) → IfNone o (n ≡ length (passes_with scene l products))
-      → IfNone o (n ≡ length (passes scene))
-  end_for n (Some one) all = all
-  end_for n None all =
-      all ∙ ap (λ k. length (passes_with scene k products)) layout
-      ∙ ap (λ ps. length (passes_with scene (layout_of scene) ps)) plan ∙ ap length (sym (passes_are scene))
+  pub none_found : (c : StepCursor) → StandsAtStep scene c → None ≡ step_of c.stage
+      → None ≡ slice_get (steps scene) c.given
+  none_found c stands here =
+      sym (slice_get_past (steps scene) c.given (ended (steps scene) c.given (stands.left
+      ∙ end_from scene (plan_of scene) c.stage here)))
+
+  abbrev ops_from : Stage → List Macro
+  ops_from st = flat_map ops (from_stage scene (plan_of scene) st)
+
+  -- each step has an operation
+  first_place : (st : Stage) → IfSome (step_of st) (λ step. 0 < length (ops step))
+  first_place x = grind arith
+
+  -- the operations from a cursor on
+  module _ (c : Cursor) (s : Step) (stands : Stands scene c) (here : Some s ≡ step_of c.stage) where
+    abbrev rest : List Macro
+    rest = flat_map ops (behind c.stage)
+
+    pub inside : c.at < length (ops s)
+    inside = grind (arith, stands.place)
+
+    from_here : drop c.given (passes scene) ≡ drop c.at (ops s ++ rest)
+    from_here = stands.left ∙ ap (λ steps. drop c.at (flat_map ops steps))
+        (here_from scene (plan_of scene) c.stage s here)
+
+    given_left : drop c.given (passes scene) ≡ get_or (ops s) c.at m.All ∷ drop (c.at + 1) (ops s ++ rest)
+    given_left = from_here ∙ drop_more (ops s ++ rest) c.at m.All (omega (arith, inside, length-append (ops s) rest))
+        ∙ ap (λ o. o ∷ drop (c.at + 1) (ops s ++ rest)) (get_or_append_left (ops s) rest m.All c.at inside)
+
+    below : c.given < length (passes scene)
+    below = head_below (passes scene) c.given _ _ given_left
+
+    pub few_given : c.given < 2 ^ 64 - 1
+    few_given = omega (arith, below, stands.few)
+
+    pub operation_found : (one : Macro) → one ≡ get_or (ops s) c.at m.All → Some one ≡ slice_get (passes scene) c.given
+    operation_found one is = ap (λ o. Some o) is ∙ head_found (passes scene) c.given _ _ given_left
+
+    more_left : drop (c.given + 1) (passes scene) ≡ drop (c.at + 1) (ops s ++ rest)
+    more_left = tail_is (passes scene) c.given _ _ given_left
+
+    pub stands_along : (d : Cursor) → d.given ≡ c.given + 1 → d.at ≡ c.at + 1 → d.stage ≡ c.stage
+        → c.at + 1 < length (ops s) → Stands scene d
+    stands_along d given at stage more =
+        let same : ops_from d.stage ≡ ops s ++ rest =
+        ap ops_from stage ∙ ap (flat_map ops) (here_from scene (plan_of scene) c.stage s here) in
+        record {
+          stage = rw stage stands.stage;
+          place = rw (stage, ← here, at) more;
+          left = rw (given, at, same) more_left;
+          within = omega (arith, given, few_given, below);
+          few = stands.few;
+        }
+
+    pub stands_onward : (d : Cursor) → d.given ≡ c.given + 1 → d.at ≡ 0 → length (ops s) ≡ c.at + 1
+        → behind c.stage ≡ from_stage scene (plan_of scene) d.stage → IsStage scene (plan_of scene) d.stage
+        → Stands scene d
+    stands_onward d given at last next is = record {
+      stage = is;
+      place = subst (λ n. IfSome (step_of d.stage) (λ step. n < length (ops step))) (sym at) (first_place d.stage);
+      left = rw (given, at) (more_left ∙ ap (λ k. drop k (ops s ++ rest)) (sym last) ∙ drop-append_seam (ops s) rest
+          ∙ ap (flat_map ops) next);
+      within = omega (arith, given, few_given, below);
+      few = stands.few;
+    }
+
+  pub all_given : (c : Cursor) → Stands scene c → None ≡ step_of c.stage → c.given ≡ length (passes scene)
+  all_given c stands here =
+      let left = ended (passes scene) c.given (stands.left ∙ ap (λ steps. drop c.at (flat_map ops steps))
+      (end_from scene (plan_of scene) c.stage here) ∙ drop_all c.at [] (omega arith)) in
+      omega (arith, left, stands.within)
+
+  pub none_left : (c : Cursor) → Stands scene c → None ≡ step_of c.stage → None ≡ slice_get (passes scene) c.given
+  none_left c stands here = sym (slice_get_past (passes scene) c.given (omega (arith, all_given c stands here)))
+
+-- each has an operation, so there are no more steps than operations
+some_each : {X Y : Type 0} (f : X → List Y) → ((x : X) → 0 < length (f x)) → (xs : List X)
+    → length xs ≤ length (flat_map f xs)
+some_each f some [] = omega arith
+some_each f some (x ∷ xs) = omega (arith, some x, some_each f some xs, length-append (f x) (flat_map f xs))
+
+pub first_stands : (scene : SceneView) → length (passes scene) < 2 ^ 64
+    → StandsAtStep scene (record { given = 0; literals = 0; stage = Start })
+first_stands scene few = grind (arith, some_each, passes_are)

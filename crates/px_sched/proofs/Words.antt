@@ -14,10 +14,10 @@ pub use Rattle.px_macro.specs.declared.operation.Macro.{Macro}
 pub use Rattle.px_model.proofs.CellLaws.{cell_is_first, cell_is_least, end_is_small}
 pub use Rattle.px_model.specs.Cells.{backs_at, cell_of, Depths, depths_of, end_of, enters_at, faces_at, far_of}
 pub use Rattle.px_model.specs.Cells.{first_cell, fronts_at, greatest_fronts, is_inside, is_inside_at, is_inside_before}
-pub use Rattle.px_model.specs.Cells.{is_member_at, leaf_cell, least, leaves_at, no_cell, picture, scene_cell, sight_at}
-pub use Rattle.px_model.specs.Cells.{solid_cell, value_of}
-pub use Rattle.px_model.specs.Scenes.{AreNumberedFrom, faces_in, faces_of, IsLawfulScene, IsLawfulSolid}
-pub use Rattle.px_model.specs.Scenes.{IsNumberedFrom, IsPlane, SceneView, SolidView}
+pub use Rattle.px_model.specs.Cells.{is_member_at, leaf_cell, least, leaves_at, no_cell, picture, scene_cell, Sight}
+pub use Rattle.px_model.specs.Cells.{sight_at, solid_cell, value_of}
+pub use Rattle.px_model.specs.Scenes.{AreNumberedFrom, faces_in, faces_of, IsLawfulScene, IsLawfulSolid, IsNumberedFrom}
+pub use Rattle.px_model.specs.Scenes.{IsPlane, SceneView, SolidView}
 pub use Rattle.px_model.specs.declared.solid.Face.{Face}
 pub use Rattle.px_normal.specs.Forms.{forms, HasPlain, HasSolidsBelow, sum_of_products}
 pub use Rattle.px_normal.specs.Live.{is_void}
@@ -34,27 +34,27 @@ pub use Rattle.px_num.specs.Bits.{bit_at, modulo}
 pub use Rattle.px_num.specs.Forms.{IsInTreeRange, plus, value_at}
 pub use Rattle.px_num.specs.declared.linear.Linear.{Linear}
 pub use Rattle.px_prune.specs.Kept.{kept_of, plan_of}
-pub use Rattle.px_prune.specs.PruningLaw.{PlainIsKept, PruningLaw}
-pub use Rattle.px_sched.specs.Groups.{behind_stage, from_stage, IsStage, literal_of, literals_from, no_product}
-pub use Rattle.px_sched.specs.Groups.{others_of, product_at, products_from, stage_operations, step_of}
+pub use Rattle.px_prune.specs.PruningLaw.{PruningLaw}
+pub use Rattle.px_sched.specs.Groups.{BeginAt, behind_stage, from_stage, IsStage, literal_of, literals_from, no_product}
+pub use Rattle.px_sched.specs.Groups.{others_of, product_at, products_from, step_of}
 pub use Rattle.px_sched.specs.Layouts.{bit_length, deep_part, depth_part, fraction_part, IsLayout, layout_of}
 pub use Rattle.px_sched.specs.Layouts.{layout_with, LayoutView, need_of, number_part}
 pub use Rattle.px_sched.specs.Numbers.{after_step, after_steps, dropped, flipped, is_passing, key, KeyedPixel, Keys}
 pub use Rattle.px_sched.specs.Numbers.{loaded, residue, where_passing, without_fraction}
-pub use Rattle.px_sched.specs.NumbersLaw.{IsKeyOf, IsPixelOf, NumbersShowThePicture}
-pub use Rattle.px_sched.specs.Onward.{AreKnown, from_step, HasKnownLiterals}
-pub use Rattle.px_sched.specs.Passes.{candidate, candidate_faces, confirm, judge, keep_covered, literal, literal_at}
-pub use Rattle.px_sched.specs.Passes.{literal_steps, literals, literals_of, no_literal, no_solid, operations, others}
-pub use Rattle.px_sched.specs.Passes.{passes, product_steps, solid_of, steps_with, where_fraction, where_passed}
-pub use Rattle.px_sched.specs.Steps.{HasFace, IsStep, IsThere, judged_from, passes_with}
+pub use Rattle.px_sched.specs.Onward.{AreKnown, BeginWith, HasKnownLiterals}
+pub use Rattle.px_sched.specs.Passes.{candidate_faces, confirm, judge, keep_covered, literal, literal_at}
+pub use Rattle.px_sched.specs.Passes.{literal_steps, literals, literals_of, load_candidate, no_literal, no_solid}
+pub use Rattle.px_sched.specs.Passes.{operations, others, passes, product_steps, solid_of, steps_with, where_fraction}
+pub use Rattle.px_sched.specs.Passes.{where_passed}
+pub use Rattle.px_sched.specs.Steps.{behind_step, HasFace, IsStep, IsThere, judged_from, passes_with}
 pub use Rattle.px_sched.specs.Worths.{bare, confirm_worth, edges_in, first_face_step, judged_worth, own_worth, passing}
 pub use Rattle.px_sched.specs.declared.group.Stage.{Stage}
-pub use Rattle.px_sched.specs.declared.group.Stage.TheVariants.{At, End}
+pub use Rattle.px_sched.specs.declared.group.Stage.TheVariants.{At}
 pub use Rattle.px_sched.specs.declared.literal.Literal.{Literal}
 pub use Rattle.px_sched.specs.declared.step.Step.{Step}
 pub use Rattle.px_sched.specs.declared.step.Step.TheVariants.{Begin, Candidate, Clear, Close, Confirm, Drop, Front}
 pub use Rattle.px_sched.specs.declared.step.Step.TheVariants.{Merge, Open, Turn}
 pub use Rattle.px_normal.specs.declared.set.SolidSet.{SolidSet}
 pub use Rattle.std.proofs.lemmas.Bool.{cases_order, cond-false}
-pub use Rattle.std.proofs.lemmas.List.{get_or-drop, length-drop, length-take}
+pub use Rattle.std.proofs.lemmas.List.{length-drop, length-take}
 pub use lib.Signed.{le_z, lt_z}

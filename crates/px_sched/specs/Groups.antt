@@ -1,8 +1,7 @@
 -- The steps of a scene as a start and groups, a group for each step of each literal of each product.
 -- Clauses of public calls stand on it.
-use Rattle.std.specs.Prelude.{ℕ, ◌+◌, ◌<◌, ⊤, List, [], ◌∷◌, ◌++◌, drop, length, get_or, Option, Some, None}
+use Rattle.std.specs.Prelude.{◌≡◌, ℕ, ◌+◌, ◌<◌, ⊤, List, [], ◌∷◌, ◌++◌, drop, length, get_or, Option, Some, None}
 use Rattle.std.specs.List.{flat_map}
-use Rattle.px_macro.specs.declared.operation.Macro.{Macro}
 use Rattle.px_normal.specs.declared.product.Product.{Product}
 use Rattle.px_model.specs.Scenes.{SceneView}
 use Rattle.px_sched.specs.declared.group.Group.{Group}
@@ -11,8 +10,7 @@ use Rattle.px_sched.specs.declared.group.Stage.TheVariants.{At, End, Start}
 use Rattle.px_sched.specs.declared.literal.Literal.{Literal}
 use Rattle.px_sched.specs.declared.step.Step.{Step}
 use Rattle.px_sched.specs.declared.step.Step.TheVariants as step
-use Rattle.px_sched.specs.Layouts.{LayoutView}
-use Rattle.px_sched.specs.Passes.{literal_at, literal_steps, literals, operations, others, product_steps}
+use Rattle.px_sched.specs.Passes.{literal_at, literal_steps, literals, others, product_steps}
 use Rattle.px_sched.specs.Steps.{IsStepOf, IsStep, behind_step}
 
 abbrev pub no_product : Product
@@ -37,11 +35,6 @@ literals_from scene products i j =
     let product = product_at products i in
     flat_map (λ q. literal_steps scene q (others q product)) (drop j (literals product))
     ++ products_from scene products (i + 1)
-
-abbrev pub stage_operations : SceneView → LayoutView → Stage → List Macro
-stage_operations scene l Start = operations scene l step.Start
-stage_operations scene l (At g) = operations scene l g.step
-stage_operations scene l End = []
 
 abbrev pub behind_stage : SceneView → List Product → Stage → List Step
 behind_stage scene products Start = products_from scene products 0
@@ -72,3 +65,8 @@ abbrev pub IsStage : SceneView → List Product → Stage → Type 0
 IsStage scene products Start = ⊤
 IsStage scene products (At g) = IsGroup scene products g
 IsStage scene products End = ⊤
+
+-- these steps begin at a stage
+pub record BeginAt (scene : SceneView) (products : List Product) (steps : List Step) (first : Stage) : Type 0 where
+  pub left : steps ≡ from_stage scene products first
+  pub stage : IsStage scene products first

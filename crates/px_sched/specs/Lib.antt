@@ -6,7 +6,6 @@ pub mod Cursors
 pub mod Groups
 pub mod Layouts
 pub mod Numbers
-pub mod NumbersLaw
 pub mod Onward
 pub mod Passes
 pub mod PassesFacts

@@ -1,19 +1,30 @@
 -- What is left of the steps from one of them on; products whose passes can be made.
 -- Only proofs and private functions stand on it.
-use Rattle.std.specs.Prelude.{◌<◌, All, List, [], ◌∷◌, length, Option, Some, None}
+use Rattle.std.specs.Prelude.{◌≡◌, ◌<◌, ℕ, All, List, [], ◌∷◌, ◌++◌, length, Option, Some, None}
+use Rattle.px_macro.specs.declared.operation.Macro.{Macro}
+use Rattle.px_model.specs.Cells.{depths_of, end_of}
 use Rattle.px_model.specs.Scenes.{SceneView}
 use Rattle.px_normal.specs.declared.product.Product.{Product}
 use Rattle.px_sched.specs.declared.literal.Literal.{Literal}
 use Rattle.px_sched.specs.declared.step.Step.{Step}
-use Rattle.px_sched.specs.Passes.{literals}
-use Rattle.px_sched.specs.Steps.{behind_step}
+use Rattle.px_sched.specs.Passes.{keep_covered, literals, solid_of}
+use Rattle.px_sched.specs.Steps.{IsStep, IsStepOf, behind_step}
 
-abbrev pub from_step : SceneView → (q : Literal) → (rs : List Literal) → Step → List Step
-from_step scene q rs step = step ∷ behind_step scene q rs step
+-- these steps of a literal begin with one, if any: it is a step of the literal, with a face of the scene, and the
+-- others come behind it
+pub record BeginWith (scene : SceneView) (q : Literal) (rs : List Literal) (steps : List Step) (first : Step) : Type 0 where
+  pub left : steps ≡ first ∷ behind_step scene q rs first
+  pub step : IsStepOf scene q rs first
+  pub faces : IsStep scene first
 
-abbrev pub from_step_if_any : SceneView → (q : Literal) → (rs : List Literal) → Option Step → List Step
-from_step_if_any scene q rs None = []
-from_step_if_any scene q rs (Some step) = from_step scene q rs step
+abbrev pub BeginIfAny : SceneView → (q : Literal) → (rs : List Literal) → List Step → Option Step → Type 0
+BeginIfAny scene q rs steps None = steps ≡ []
+BeginIfAny scene q rs steps (Some step) = BeginWith scene q rs steps step
+
+-- operations around those of the edges of a face
+abbrev pub around_edges : SceneView → (solid face : ℕ) → (head tail : List Macro) → List Macro
+around_edges scene solid face head tail =
+    head ++ keep_covered (end_of (depths_of scene)) (solid_of scene solid) face ++ tail
 
 -- each of these literals is of a solid of the scene
 abbrev pub AreKnown : SceneView → List Literal → Type 0

@@ -54,14 +54,17 @@ keep_covered end s face = map m.KeepSign (edges s end face)
 abbrev pub where_fraction : {A : Type 0} → Depths → List A → List A
 where_fraction d xs = if d.fraction_bits == 0 then [] else xs
 
--- a face becomes the candidate where it covers the pixel, at the first cell that is not before it
-abbrev pub candidate : LayoutView → Depths → SolidView → (face : ℕ) → List Macro
-candidate l d s face =
-    m.All ∷ keep_covered (end_of d) s face
-    ++ (m.LoadLinear (plus (face_plane s (end_of d) face) (2 ^ d.fraction_bits - 1)) (deep_part l l.key_t)
+-- a face becomes the candidate, at the first cell that is not before it
+abbrev pub load_candidate : LayoutView → Depths → SolidView → (face : ℕ) → List Macro
+load_candidate l d s face =
+    m.LoadLinear (plus (face_plane s (end_of d) face) (2 ^ d.fraction_bits - 1)) (deep_part l l.key_t)
     ∷ where_fraction d (m.LoadConst (fraction_part l l.key_t) 0 ∷ [])
     ++ m.LoadConst (number_part l l.key_t) (face_number s face)
-    ∷ m.SetBit l.alive true ∷ [])
+    ∷ m.SetBit l.alive true ∷ []
+
+-- where it covers the pixel
+abbrev pub candidate : LayoutView → Depths → SolidView → (face : ℕ) → List Macro
+candidate l d s face = m.All ∷ keep_covered (end_of d) s face ++ load_candidate l d s face
 
 -- an operation is carried out where a face covers the pixel and a form is not above a live candidate
 abbrev pub where_passed : LayoutView → (end : ℕ) → SolidView → (face : ℕ) → Linear → Macro → List Macro

@@ -1,6 +1,5 @@
 //! The steps of a literal's passes. Each is a few operations that begin with "all".
-ghost use Rattle.std.specs.Bool.{OnTrue};
-ghost use Rattle.std.specs.Prelude.{◌≡◌, ◌+◌, ◌-◌, ◌*◌, ◌^◌, ◌<◌, ◌≤◌, [], ◌∷◌, ◌++◌, ◌==◌, if◌then◌else◌, true, false, List, All, IfSome, get_or, length};
+ghost use Rattle.std.specs.Prelude.{◌≡◌, ◌+◌, ◌-◌, ◌*◌, ◌^◌, ◌<◌, ◌≤◌, [], ◌∷◌, ◌++◌, ◌==◌, if◌then◌else◌, true, false, List, IfErr, IfOk, IfSome, get_or, length};
 ghost use Rattle.px_face.specs.Edges.{edge_count};
 ghost use Rattle.px_face.specs.Faces.{face_count, face_plane};
 ghost use Rattle.px_macro.specs.declared.operation.Macro.{Macro};
@@ -11,10 +10,10 @@ ghost use Rattle.px_num.specs.Forms.{IsInHalfRange, plus};
 ghost use Rattle.px_sched.specs.declared.literal.Literal.{Literal};
 ghost use Rattle.px_sched.specs.declared.step.Step.TheVariants as st;
 ghost use Rattle.px_sched.specs.Layouts.{LayoutView};
-ghost use Rattle.px_sched.specs.Passes.{candidate, keep_covered, operations, solid_of, where_passed};
+ghost use Rattle.px_sched.specs.Passes.{candidate, load_candidate, operations, solid_of, where_passed};
 ghost use Rattle.px_sched.specs.StepCursors.{opens_literal};
 ghost use Rattle.px_sched.specs.Steps.{IsStep, IsStepOf, behind_step, candidates_end, candidates_from, confirmed_from, drops_from, fronts_from, first_candidate, judged_from, turns_from};
-ghost use Rattle.px_sched.specs.Onward.{AreKnown, from_step, from_step_if_any};
+ghost use Rattle.px_sched.specs.Onward.{AreKnown, BeginIfAny, BeginWith, around_edges};
 
 use crate::layout::Layout;
 use crate::literal::Literal;
@@ -88,17 +87,15 @@ impl Step {
         ensures { result ≡ get_or (operations scene.now layout.now self) at m.All }
     {
         match self {
-            Step::Start => begun(scene, layout, at),
-            Step::Open => cleared(layout.alive, at),
-            Step::Candidate(solid, face) => {
-                candidate(scene, solid_at(scene, solid), face, layout, at)
-            }
+            Step::Start => behind_all(background(scene, layout), at),
+            Step::Open => behind_all(Macro::SetBit(layout.alive, false), at),
+            Step::Candidate(solid, face) => candidate(scene, solid, face, layout, at),
             Step::Drop(solid, face) => {
                 let plane = plane_at(scene, solid, face);
                 let set = Macro::SetBit(layout.alive, false);
                 where_passed(scene, solid, face, &plane, layout, set, at)
             }
-            Step::Clear | Step::Begin(_) => cleared(layout.par, at),
+            Step::Clear | Step::Begin(_) => behind_all(Macro::SetBit(layout.par, false), at),
             Step::Front(solid, face) => {
                 let form = cell_behind(scene, solid, face);
                 let turn = Macro::Toggle(layout.par);
@@ -118,11 +115,8 @@ impl Step {
     /// The step behind this one where that is of the same solid's next face, which needs no literals to be found.
     pub(crate) fn along(self, scene: &Scene) -> Option<Step>
         requires { IsStep scene.now self }
-        ensures left { IfSome result (λ step. (q : Literal) (rs : List Literal) → IsStepOf scene.now q rs self
-            → behind_step scene.now q rs self ≡ from_step scene.now q rs step) }
-        ensures step { IfSome result (λ step. (q : Literal) (rs : List Literal) → IsStepOf scene.now q rs self
-            → IsStepOf scene.now q rs step) }
-        ensures faces { IfSome result (λ step. IsStep scene.now step) }
+        ensures { IfSome result (λ step. (q : Literal) (rs : List Literal) → IsStepOf scene.now q rs self →
+            BeginWith scene.now q rs (behind_step scene.now q rs self) step) }
     {
         match self {
             Step::Turn(other, solid, face) => {
@@ -142,10 +136,7 @@ impl Step {
         requires faces { IsStep scene.now self }
         requires q { q.solid < length scene.now.solids }
         requires rs { AreKnown scene.now rs.now }
-        ensures left { behind_step scene.now q rs.now self ≡
-            from_step_if_any scene.now q rs.now result }
-        ensures step { IfSome result (λ step. IsStepOf scene.now q rs.now step) }
-        ensures faces { IfSome result (λ step. IsStep scene.now step) }
+        ensures { BeginIfAny scene.now q rs.now (behind_step scene.now q rs.now self) result }
     {
         match self {
             Step::Open => Some(candidate_from(scene, q, rs, first_candidate(scene, q))),
@@ -165,10 +156,7 @@ impl Step {
 /// The candidate faces from one on, and the other literals behind them.
 fn candidate_from(scene: &Scene, q: Literal, rs: &[Literal], face: usize) -> Step
     requires q { q.solid < length scene.now.solids }
-    ensures left { candidates_from scene.now q rs.now face ≡
-        from_step scene.now q rs.now result }
-    ensures step { IsStepOf scene.now q rs.now result }
-    ensures faces { IsStep scene.now result }
+    ensures { BeginWith scene.now q rs.now (candidates_from scene.now q rs.now face) result }
 {
     if face < candidates_end(scene, q) {
         Step::Candidate(q.solid, face)
@@ -180,10 +168,7 @@ fn candidate_from(scene: &Scene, q: Literal, rs: &[Literal], face: usize) -> Ste
 /// The steps that confirm a candidate, where there is a fraction, and the other literals behind them.
 fn confirm_from(scene: &Scene, q: Literal, rs: &[Literal]) -> Step
     requires q { q.solid < length scene.now.solids }
-    ensures left { confirmed_from scene.now q rs.now ≡
-        from_step scene.now q rs.now result }
-    ensures step { IsStepOf scene.now q rs.now result }
-    ensures faces { IsStep scene.now result }
+    ensures { BeginWith scene.now q rs.now (confirmed_from scene.now q rs.now) result }
 {
     if scene.fraction_bits() == 0 {
         judge_from(rs, 0)
@@ -198,10 +183,7 @@ fn confirm_from(scene: &Scene, q: Literal, rs: &[Literal]) -> Step
 /// The backs that drop a plain solid's candidates, from one on, and the other literals behind them.
 fn drop_from(scene: &Scene, q: Literal, rs: &[Literal], face: usize) -> Step
     requires q { q.solid < length scene.now.solids }
-    ensures left { drops_from scene.now q rs.now face ≡
-        from_step scene.now q rs.now result }
-    ensures step { IsStepOf scene.now q rs.now result }
-    ensures faces { IsStep scene.now result }
+    ensures { BeginWith scene.now q rs.now (drops_from scene.now q rs.now face) result }
 {
     if face < face_count(solid_at(scene, q.solid)) {
         Step::Drop(q.solid, face)
@@ -213,10 +195,7 @@ fn drop_from(scene: &Scene, q: Literal, rs: &[Literal], face: usize) -> Step
 /// The fronts that a barred solid's candidates stand behind, from one on, and what is behind them.
 fn front_from(scene: &Scene, q: Literal, rs: &[Literal], face: usize) -> Step
     requires q { q.solid < length scene.now.solids }
-    ensures left { fronts_from scene.now q rs.now face ≡
-        from_step scene.now q rs.now result }
-    ensures step { IsStepOf scene.now q rs.now result }
-    ensures faces { IsStep scene.now result }
+    ensures { BeginWith scene.now q rs.now (fronts_from scene.now q rs.now face) result }
 {
     if face < solid_at(scene, q.solid).fronts().len() + 1 {
         Step::Front(q.solid, face)
@@ -252,10 +231,7 @@ fn candidates_end(scene: &Scene, q: Literal) -> usize
 
 /// The other literals from one on, and the merge behind them.
 fn judge_from(rs: &[Literal], other: usize) -> Step
-    ensures left { (scene : SceneView) (q : Literal) →
-        judged_from scene rs.now other ≡ from_step scene q rs.now result }
-    ensures step { (scene : SceneView) (q : Literal) → IsStepOf scene q rs.now result }
-    ensures faces { (scene : SceneView) → IsStep scene result }
+    ensures { (scene : SceneView) (q : Literal) → BeginWith scene q rs.now (judged_from scene rs.now other) result }
 {
     if other < rs.len() {
         Step::Begin(other)
@@ -268,10 +244,7 @@ fn judge_from(rs: &[Literal], other: usize) -> Step
 fn turn_from(scene: &Scene, rs: &[Literal], other: usize, face: usize) -> Step
     requires other { other < length rs.now }
     requires rs { AreKnown scene.now rs.now }
-    ensures left { (q : Literal) → turns_from scene.now rs.now other face ≡
-        from_step scene.now q rs.now result }
-    ensures step { (q : Literal) → IsStepOf scene.now q rs.now result }
-    ensures faces { IsStep scene.now result }
+    ensures { (q : Literal) → BeginWith scene.now q rs.now (turns_from scene.now rs.now other face) result }
 {
     let r = rs[other];
     if face < face_count(solid_at(scene, r.solid)) {
@@ -281,7 +254,8 @@ fn turn_from(scene: &Scene, rs: &[Literal], other: usize, face: usize) -> Step
     }
 }
 
-fn solid_at(scene: &Scene, solid: u8) -> &Solid
+/// The solid of this index.
+pub fn solid_at(scene: &Scene, solid: u8) -> &Solid
     requires { solid < length scene.now.solids }
     ensures { result.now ≡ solid_of scene.now solid }
 {
@@ -300,28 +274,12 @@ fn candidate_count(scene: &Scene, solid: &Solid) -> usize
     }
 }
 
-/// An operation of a step that clears a bit everywhere.
-fn cleared(bit: u32, at: usize) -> Macro
+/// An operation of a step of two: all pixels, and one more.
+fn behind_all(operation: Macro, at: usize) -> Macro
     requires { at < 2 }
-    ensures { result ≡ get_or (m.All ∷ m.SetBit bit false ∷ []) at m.All }
+    ensures { result ≡ get_or (m.All ∷ operation ∷ []) at m.All }
 {
-    if at == 0 {
-        Macro::All
-    } else {
-        Macro::SetBit(bit, false)
-    }
-}
-
-/// An operation of the step that makes the background the best.
-fn begun(scene: &Scene, layout: &Layout, at: usize) -> Macro
-    requires { at < 2 }
-    ensures { result ≡ get_or (operations scene.now layout.now st.Start) at m.All }
-{
-    if at == 0 {
-        Macro::All
-    } else {
-        background(scene, layout)
-    }
+    if at == 0 { Macro::All } else { operation }
 }
 
 /// An operation of a step that ends the life of a candidate where the parity is so.
@@ -355,46 +313,39 @@ fn merged(layout: &Layout, at: usize) -> Macro
 }
 
 /// An operation of a step that makes a face the candidate where it covers.
-fn candidate(scene: &Scene, solid: &Solid, face: usize, layout: &Layout, at: usize) -> Macro
-    requires face { face < face_count solid.now }
+fn candidate(scene: &Scene, solid: u8, face: usize, layout: &Layout, at: usize) -> Macro
+    requires solid { solid < length scene.now.solids }
+    requires face { face < face_count (solid_of scene.now solid) }
     requires bits { layout.now.fraction_bits ≡ scene.now.fraction_bits }
-    requires at { at < length (candidate layout.now (depths_of scene.now) solid.now face) }
+    requires at { at < length (candidate layout.now (depths_of scene.now) (solid_of scene.now solid) face) }
     ensures { result ≡
-        get_or (candidate layout.now (depths_of scene.now) solid.now face) at m.All }
+        get_or (candidate layout.now (depths_of scene.now) (solid_of scene.now solid) face) at m.All }
 {
-    if is_edge(solid, 1, at) {
-        keep_edge(solid, scene.end(), face, 1, at)
-    } else {
-        candidate_at_ends(scene, solid, face, layout, at)
+    match edge_or_place(scene, solid, face, 1, at) {
+        Ok(edge) => Macro::KeepSign(edge),
+        Err(place) => candidate_at(scene, solid, face, layout, place),
     }
 }
 
-/// An operation of such a step before or after its edges.
-fn candidate_at_ends(scene: &Scene, solid: &Solid, face: usize, layout: &Layout, at: usize) -> Macro
-    requires face { face < face_count solid.now }
+/// One of the operations of such a step but for those of the edges.
+fn candidate_at(scene: &Scene, solid: u8, face: usize, layout: &Layout, place: usize) -> Macro
+    requires solid { solid < length scene.now.solids }
+    requires face { face < face_count (solid_of scene.now solid) }
     requires bits { layout.now.fraction_bits ≡ scene.now.fraction_bits }
-    requires at { at < length (candidate layout.now (depths_of scene.now) solid.now face) }
-    ensures { result ≡
-        get_or (candidate layout.now (depths_of scene.now) solid.now face) at m.All }
+    requires place { place < length (m.All ∷ load_candidate layout.now (depths_of scene.now)
+        (solid_of scene.now solid) face) }
+    ensures { result ≡ get_or (m.All ∷ load_candidate layout.now (depths_of scene.now)
+        (solid_of scene.now solid) face) place m.All }
 {
-    let end = scene.end();
-    let unit = power(scene.fraction_bits()) as u32;
-    let plane = plane_of(solid, end, face).plus(unit - 1);
-    let load = Macro::LoadLinear(plane, layout.t_deep());
-    let number = Macro::LoadConst(layout.t_number(), u64::from(number_of(solid, face)));
+    let load = Macro::LoadLinear(rounded_up(scene, solid, face), layout.t_deep());
+    let face_number = number_of(solid_at(scene, solid), face);
+    let number = Macro::LoadConst(layout.t_number(), u64::from(face_number));
     let set = Macro::SetBit(layout.alive, true);
     if scene.fraction_bits() == 0 {
-        where_covered(solid, end, face, &[Macro::All], &[load, number, set], at)
+        [Macro::All, load, number, set][place]
     } else {
         let clear = Macro::LoadConst(layout.t_fraction(), 0);
-        where_covered(
-            solid,
-            end,
-            face,
-            &[Macro::All],
-            &[load, clear, number, set],
-            at,
-        )
+        [Macro::All, load, clear, number, set][place]
     }
 }
 
@@ -406,6 +357,17 @@ fn plane_at(scene: &Scene, solid: u8, face: usize) -> Linear
     ensures half { IsInHalfRange result }
 {
     plane_of(solid_at(scene, solid), scene.end(), face)
+}
+
+/// Its plane less than a cell further, by which a value becomes that of its cell without the fraction.
+fn rounded_up(scene: &Scene, solid: u8, face: usize) -> Linear
+    requires solid { solid < length scene.now.solids }
+    requires face { face < face_count (solid_of scene.now solid) }
+    ensures { result ≡ plus (face_plane (solid_of scene.now solid) (end_of (depths_of scene.now)) face)
+        (2 ^ scene.now.fraction_bits - 1) }
+{
+    let unit = power(scene.fraction_bits()) as u32;
+    plane_at(scene, solid, face).plus(unit - 1)
 }
 
 /// Its plane a whole cell further.
@@ -436,75 +398,44 @@ fn where_passed(
     ensures { result ≡ get_or (where_passed layout.now (end_of (depths_of scene.now))
         (solid_of scene.now solid) face form.now operation) at m.All }
 {
-    if is_edge(solid_at(scene, solid), 2, at) {
-        keep_edge(solid_at(scene, solid), scene.end(), face, 2, at)
-    } else {
-        passed_at_ends(scene, solid, face, form, layout, operation, at)
+    match edge_or_place(scene, solid, face, 2, at) {
+        Ok(edge) => Macro::KeepSign(edge),
+        Err(place) => [
+            Macro::All,
+            Macro::KeepBit(layout.alive, true),
+            Macro::KeepAtMost(*form, layout.t_deep()),
+            operation,
+        ][place],
     }
 }
 
-/// An operation of such a step before or after its edges.
-fn passed_at_ends(
+/// The edge of an operation among a head of so many operations, one for each edge of a face, and a
+/// tail; or else the operation's place in the head and the tail alone.
+fn edge_or_place(
     scene: &Scene,
     solid: u8,
     face: usize,
-    form: &Linear,
-    layout: &Layout,
-    operation: Macro,
+    before: usize,
     at: usize,
-) -> Macro
+) -> Result<Linear, usize>
     requires solid { solid < length scene.now.solids }
     requires face { face < face_count (solid_of scene.now solid) }
-    requires at { at < length (where_passed layout.now (end_of (depths_of scene.now))
-        (solid_of scene.now solid) face form.now operation) }
-    ensures { result ≡ get_or (where_passed layout.now (end_of (depths_of scene.now))
-        (solid_of scene.now solid) face form.now operation) at m.All }
-{
-    let head = [Macro::All, Macro::KeepBit(layout.alive, true)];
-    let tail = [Macro::KeepAtMost(*form, layout.t_deep()), operation];
-    where_covered(solid_at(scene, solid), scene.end(), face, &head, &tail, at)
-}
-
-/// Whether an operation behind so many is one of the edges.
-fn is_edge(solid: &Solid, before: usize, at: usize) -> bool
-    ensures { OnTrue result ((before ≤ at) × (at - before < edge_count solid.now)) }
-{
-    before <= at && at - before < edge_count(solid)
-}
-
-/// The operation of one of the edges, behind so many others.
-fn keep_edge(solid: &Solid, end: u32, face: usize, before: usize, at: usize) -> Macro
-    requires face { face < face_count solid.now }
-    requires from { before ≤ at }
-    requires to { at - before < edge_count solid.now }
-    ensures { (head tail : List Macro) → length head ≡ before
-        → result ≡ get_or (head ++ keep_covered end solid.now face ++ tail) at m.All }
+    ensures edge { IfOk result (λ edge. (head tail : List Macro) → length head ≡ before → m.KeepSign edge ≡
+        get_or (around_edges scene.now solid face head tail) at m.All) }
+    ensures place { IfErr result (λ place. (head tail : List Macro) → length head ≡ before →
+        get_or (head ++ tail) place m.All ≡ get_or (around_edges scene.now solid face head tail) at m.All) }
+    ensures within { IfErr result (λ place. (head tail : List Macro) → length head ≡ before →
+        at < length (around_edges scene.now solid face head tail) → place < length (head ++ tail)) }
 {
     laws_of_edges();
-    Macro::KeepSign(edge_at(solid, end, face, at - before))
-}
-
-/// One of some operations: a head, those that keep the pixels that a face covers, and a tail.
-fn where_covered(
-    solid: &Solid,
-    end: u32,
-    face: usize,
-    head: &[Macro],
-    tail: &[Macro],
-    at: usize,
-) -> Macro
-    requires face { face < face_count solid.now }
-    requires at { at < length (head.now ++ keep_covered end solid.now face ++ tail.now) }
-    ensures { result ≡ get_or (head.now ++ keep_covered end solid.now face ++ tail.now) at m.All }
-{
-    laws_of_edges();
+    let solid = solid_at(scene, solid);
     let edges = edge_count(solid);
-    if at < head.len() {
-        head[at]
-    } else if at - head.len() < edges {
-        Macro::KeepSign(edge_at(solid, end, face, at - head.len()))
+    if at < before {
+        Err(at)
+    } else if at - before < edges {
+        Ok(edge_at(solid, scene.end(), face, at - before))
     } else {
-        tail[at - head.len() - edges]
+        Err(at - edges)
     }
 }
 

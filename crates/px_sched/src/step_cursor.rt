@@ -1,36 +1,14 @@
 //! A place in the steps of a scene.
-ghost use Rattle.std.specs.Prelude.{
-  ◌≡◌,
-  ◌+◌,
-  ◌-◌,
-  ◌^◌,
-  ◌<◌,
-  All,
-  IfNone,
-  IfSome,
-  OnSome,
-  if◌then◌else◌,
-  length,
-  slice_get,
-  take,
-};
+ghost use Rattle.std.specs.Prelude.{◌≡◌, ◌+◌, ◌^◌, ◌<◌, IfNone, IfSome, OnSome, length, slice_get, take};
 ghost use Rattle.px_prune.specs.Kept.{plan_of};
 ghost use Rattle.px_model.specs.Scenes.{SceneView};
-ghost use Rattle.px_sched.specs.Onward.{HasKnownLiterals};
-ghost use Rattle.px_sched.specs.Passes.{passes, steps, steps_with};
-ghost use Rattle.px_sched.specs.StepCursors.{
-  HasFewOthers,
-  StandsAmong,
-  StandsAtStep,
-  literals_in,
-  opens_literal,
-};
+ghost use Rattle.px_sched.specs.Passes.{passes, steps};
+ghost use Rattle.px_sched.specs.StepCursors.{HasFewOthers, StandsAtStep, literals_in};
 ghost use Rattle.px_sched.specs.Steps.{IsStep};
 
 use crate::group::Stage;
 use crate::step::Step;
 use px_model::{Scene, laws_of_scenes};
-use px_normal::Product;
 use px_prune::Plan;
 
 /// A place in the steps of a scene (docs/PASSES.md, "Steps"). It takes no memory, and finds the next
@@ -74,42 +52,14 @@ impl StepCursor {
         ensures stands { StandsAtStep scene.now self.new }
     {
         laws_of_scenes(scene);
-        self.give(scene, plan.products.as_slice())
-    }
-
-    /// Gives the next step over some products.
-    fn give(&mut self, scene: &Scene, products: &[Product]) -> Option<Step>
-        requires drawn { All (HasKnownLiterals scene.now) products.now }
-        requires stands { StandsAmong scene.now products.now self.old }
-        ensures step { result ≡ slice_get (steps_with scene.now products.now) self.old.given }
-        ensures faces { IfSome result (λ step. IsStep scene.now step) }
-        ensures others { IfSome result HasFewOthers }
-        ensures some { OnSome result (self.new.given ≡ self.old.given + 1) }
-        ensures stays { IfNone result (self.new ≡ self.old) }
-        ensures stands { StandsAmong scene.now products.now self.new }
-    {
         match self.stage.step() {
             Some(step) => {
-                *self = self.behind(step, self.stage.next(scene, products));
+                self.given += 1;
+                self.literals += u64::from(step.opens_literal());
+                self.stage = self.stage.next(scene, plan.products.as_slice());
                 Some(step)
             }
             None => None,
-        }
-    }
-
-    /// One step further, where a stage comes behind it.
-    fn behind(self, step: Step, next: Stage) -> StepCursor
-        requires given { self.given < 2 ^ 64 - 1 }
-        requires literals { self.literals < 2 ^ 64 - 1 }
-        ensures given { result.given ≡ self.given + 1 }
-        ensures literals { result.literals
-            ≡ self.literals + (if opens_literal step then 1 else 0) }
-        ensures stage { result.stage ≡ next }
-    {
-        StepCursor {
-            given: self.given + 1,
-            literals: self.literals + u64::from(step.opens_literal()),
-            stage: next,
         }
     }
 }

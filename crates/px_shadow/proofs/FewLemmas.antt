@@ -1,13 +1,13 @@
 -- How many operations the shadow passes are.
-use Rattle.px_num.proofs.Basics.{◌≡◌, ◌<◌, ◌≤◌, ◌+◌, ◌*◌, ℕ, true, false, List, [], ◌∷◌, length, filter, refl, ap}
-use Rattle.px_num.proofs.Basics.{arith, length-append, All, flat_map, range_with_len, length-map}
-use Rattle.px_num.proofs.Basics.{length-map-range_with_len, length-range_with_len, All-head, All-tail, All-weaker}
-use Rattle.px_shadow.proofs.Words.{background_passes, below, depths_of, end_of, face_count, has, IsBelow}
-use Rattle.px_shadow.proofs.Words.{IsLawfulSolid, LayoutView, light_bit, light_passes, Macro, no_solid, passes_from}
-use Rattle.px_shadow.proofs.Words.{range_all, solid_of, solid_passes, SolidSet, SolidView, stored_turn}
+use Rattle.px_num.proofs.Basics.{◌<◌, ◌≤◌, ◌+◌, ◌*◌, ℕ, true, false, List, [], ◌∷◌, length, refl, arith, length-append}
+use Rattle.px_num.proofs.Basics.{All, flat_map, range_with_len, length-map, length-map-range_with_len}
+use Rattle.px_num.proofs.Basics.{length-range_with_len, All-head, All-tail, All-weaker}
+use Rattle.px_shadow.proofs.Words.{background_passes, depths_of, end_of, face_count, IsBelow, IsLawfulSolid, LayoutView}
+use Rattle.px_shadow.proofs.Words.{light_bit, light_passes, Macro, no_solid, passes_from, range_all, solid_of}
+use Rattle.px_shadow.proofs.Words.{solid_passes, SolidSet, SolidView, stored_turn}
 use Rattle.px_normal.specs.Sets.{solids}
 use Rattle.px_model.specs.Scenes.{SceneView}
-use Rattle.px_sched.proofs.FewLaws.{few_filtered}
+use Rattle.px_sched.proofs.FewLaws.{few_solids}
 use Rattle.px_sched.proofs.LayoutLaws.{scene_layout}
 use Rattle.px_shadow.specs.Passing.{ShadowPassesAreFew}
 use Rattle.px_face.proofs.EdgeLemmas.{edges_count}
@@ -24,10 +24,6 @@ flat_few f most (x ∷ xs) each =
       All-head (λ x. length (f x) ≤ most) x xs each,
       flat_few f most xs (All-tail (λ x. length (f x) ≤ most) x xs each),
     )
-
-solids_few : (set : SolidSet) (n : ℕ) → n ≡ 256 → length (solids set) ≤ 256
-unfolding solids
-solids_few set n e = omega (arith, ap (λ k. length (filter (has set) (below k))) e, few_filtered (has set) n)
 
 module _ (scene : SceneView) (each : All IsLawfulSolid scene.solids) (l : LayoutView)
     (number : l.number_bits ≤ 12) where
@@ -59,7 +55,7 @@ module _ (scene : SceneView) (each : All IsLawfulSolid scene.solids) (l : Layout
       (All-weaker (λ q. q < length scene.solids) (λ q. length (f q) ≤ 6605)
       (λ q low. solid_few light (solid_of scene q) (each q no_solid low)) (solids set)
       (all_known (length scene.solids) set known)) in
-      omega (arith, length-append all (background_passes l light), few, background_few light, solids_few set 256 refl)
+      omega (arith, length-append all (background_passes l light), few, background_few light, few_solids set 256 refl)
 
   pub lights_few : (light : ℕ) (sets : List SolidSet) → All (IsBelow (length scene.solids)) sets →
       length (passes_from scene l light sets) ≤ 1690896 * length sets

@@ -1,11 +1,13 @@
 -- The shadow passes are lawful in as many memory bits as they need, and few.
 use Rattle.px_num.proofs.Basics.{◌<◌, ◌≤◌, ◌+◌, ◌^◌, ℕ, false, true, List, [], ◌∷◌, ◌++◌, length, map, arith, All}
-use Rattle.px_num.proofs.Basics.{flat_map, range_with_len, All-append, All-cons, All-head, All-map, All-nil, All-tail}
+use Rattle.px_num.proofs.Basics.{flat_map, range_with_len, All-append, All-cons, All-head, All-map, All-nil, All-push}
+use Rattle.px_num.proofs.Basics.{All-tail}
 use Rattle.px_shadow.proofs.Words.{background_passes, deep_part, depths_of, edges, end_is_within, end_of, face_count}
 use Rattle.px_shadow.proofs.Words.{face_plane, IsBelow, IsField, IsLawful, IsLawfulScene, IsLawfulSolid, IsLayout}
 use Rattle.px_shadow.proofs.Words.{keep_covered, layout_of, layout_with, LayoutView, light_bit, light_passes, Macro}
 use Rattle.px_shadow.proofs.Words.{need_of, need_with, no_solid, number_part, passes_from, range_all, solid_of}
 use Rattle.px_shadow.proofs.Words.{solid_passes, solids, SolidSet, SolidView, stored_turn}
+use Rattle.std.proofs.lemmas.List.Elements.{All-from_recursion}
 use Rattle.px_model.specs.Scenes.{SceneView}
 use Rattle.px_model.proofs.PlaneLaws.{plane_range}
 use Rattle.px_face.proofs.EdgeLemmas.{edges_range}
@@ -43,61 +45,48 @@ module _ (scene : SceneView) (lawful : IsLawfulScene scene) (each : All IsLawful
   room : HasRoom l bits
   room = room_of l bits layout enough
 
-  cons : (m : Macro) (ms : List Macro) → Fits m → All Fits ms → All Fits (m ∷ ms)
-  cons m ms fits rest = All-cons Fits m ms fits rest
-
-  one : (m : Macro) → Fits m → All Fits (m ∷ [])
-  one m fits = All-cons Fits m [] fits (All-nil Fits)
-
   turn_fits : (s : SolidView) → IsLawfulSolid s → (face : ℕ) → face < face_count s → All Fits (stored_turn l end s face)
   turn_fits s h face there =
-      let test = m.KeepAtMost (face_plane s end face) (deep_part l l.key_b) in
-      let toggle = m.Toggle l.par in
       let signs = keep_covered end s face in
-      let limits = plane_of_range s h end small face there in
-      cons m.All (signs ++ (test ∷ toggle ∷ [])) tt
-      (All-append Fits signs (test ∷ toggle ∷ []) (All-map Fits m.KeepSign (edges s end face)
-      (edges_range s h end small face there))
-      (cons test (toggle ∷ []) (plane_range _ limits, room.deep) (one toggle room.par)))
+      let tail : List Macro = m.KeepAtMost (face_plane s end face) (deep_part l l.key_b) ∷ m.Toggle l.par ∷ [] in
+      All-cons Fits m.All (signs ++ tail) tt
+      (All-append Fits signs tail (All-map Fits m.KeepSign (edges s end face) (edges_range s h end small face there))
+      (All-from_recursion Fits tail
+      ((plane_range _ (plane_of_range s h end small face there), room.deep), (room.par, tt))))
 
   module _ (light : ℕ) (there : light_bit l light < bits) where
     solid_fits : (s : SolidView) → IsLawfulSolid s → All Fits (solid_passes l end light s)
     solid_fits s h =
         let faces = flat_map (stored_turn l end s) (range_with_len 0 (face_count s)) in
-        let last = m.All ∷ m.KeepBit l.par true ∷ m.SetBit (light_bit l light) false ∷ [] in
-        cons m.All (m.SetBit l.par false ∷ (faces ++ last)) tt
-        (cons (m.SetBit l.par false) (faces ++ last) room.par
+        let head : List Macro = m.All ∷ m.SetBit l.par false ∷ [] in
+        let last : List Macro = m.All ∷ m.KeepBit l.par true ∷ m.SetBit (light_bit l light) false ∷ [] in
+        All-append Fits head (faces ++ last) (All-from_recursion Fits head (tt, (room.par, tt)))
         (All-append Fits faces last
         (all_flat Fits (λ face. face < face_count s) (stored_turn l end s) (turn_fits s h)
         (range_with_len 0 (face_count s))
         (range_all (λ face. face < face_count s) 0 (face_count s) (λ i low high. omega arith)))
-        (cons m.All (m.KeepBit l.par true ∷ m.SetBit (light_bit l light) false ∷ []) tt
-        (cons (m.KeepBit l.par true) (m.SetBit (light_bit l light) false ∷ []) room.par
-        (one (m.SetBit (light_bit l light) false) there)))))
+        (All-from_recursion Fits last (tt, (room.par, (there, tt)))))
 
     background_fits : All Fits (background_passes l light)
     background_fits =
         let test : ℕ → Macro = λ t. m.KeepBit ((number_part l l.key_b).at + t) false in
         let tests = map test (range_with_len 0 l.number_bits) in
         let last = m.SetBit (light_bit l light) false in
-        cons m.All (tests ++ (last ∷ [])) tt
-        (All-append Fits tests (last ∷ [])
-        (All-map Fits test (range_with_len 0 l.number_bits) (range_all (λ t. Fits (test t)) 0 l.number_bits
-        (λ i low high. omega (arith, room.number))))
-        (one last there))
+        All-cons Fits m.All (tests ++ (last ∷ [])) tt
+        (All-push Fits tests last (All-map Fits test (range_with_len 0 l.number_bits)
+        (range_all (λ t. Fits (test t)) 0 l.number_bits (λ i low high. omega (arith, room.number)))) there)
 
     light_fits : (set : SolidSet) → IsBelow (length scene.solids) set → All Fits (light_passes scene l light set)
     light_fits set known =
-        let on = m.SetBit (light_bit l light) true in
+        let head : List Macro = m.All ∷ m.SetBit (light_bit l light) true ∷ [] in
         let f : ℕ → List Macro = λ q. solid_passes l end light (solid_of scene q) in
         let all = flat_map f (solids set) in
-        cons m.All (on ∷ (all ++ background_passes l light)) tt
-        (cons on (all ++ background_passes l light) there
+        All-append Fits head (all ++ background_passes l light) (All-from_recursion Fits head (tt, (there, tt)))
         (All-append Fits all (background_passes l light)
         (all_flat Fits (λ q. q < length scene.solids) f (λ q low. solid_fits (solid_of scene q) (each q no_solid low))
         (solids set)
         (all_known (length scene.solids) set known))
-        background_fits))
+        background_fits)
 
   pub lights_fit : (light : ℕ) (sets : List SolidSet) → light_bit l light + length sets ≤ bits
       → All (IsBelow (length scene.solids)) sets → All Fits (passes_from scene l light sets)

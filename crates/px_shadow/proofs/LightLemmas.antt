@@ -9,7 +9,7 @@ use Rattle.px_shadow.proofs.Words.{number_from_bits, number_in, number_part, pas
 use Rattle.px_shadow.proofs.Words.{solid_of, solid_passes, solids, SolidSet}
 use Rattle.px_num.proofs.BitLaws.{pow_above}
 use Rattle.px_model.specs.Scenes.{SceneView}
-use Rattle.px_shadow.proofs.TurnLemmas.{pixel}
+use Rattle.px_sched.proofs.BridgeLemmas.{pixel}
 use Rattle.px_shadow.proofs.SolidLemmas.{GoesOut, Keeps, keeps_all, keeps_bit, keeps_both, keeps_if, number_kept}
 use Rattle.px_shadow.proofs.SolidLemmas.{out_bit, solid_goes_out}
 use Rattle.px_macro.proofs.MacroLemmas.{meanings_join}

@@ -1,29 +1,17 @@
 -- What the faces of a solid leave in the memory of a pixel: the parity bit says whether the stored cell is inside.
-use Rattle.px_num.proofs.Basics.{◌≡◌, ◌<◌, ◌≤◌, ◌+◌, ◌^◌, ◌∙◌, ℕ, Bool, true, false, ◌&&◌, not, nat_le, List, [], ◌∷◌}
-use Rattle.px_num.proofs.Basics.{length, map, slice_set, if◌then◌else◌, refl, ap, sym, arith, get_or-set_same, zero}
-use Rattle.px_num.proofs.Basics.{suc, is_negative, flat_map, fold, range_with_len}
-use Rattle.px_shadow.proofs.Words.{after_macros, and_both, and_true, covers, deep_part, face_count, face_plane}
-use Rattle.px_shadow.proofs.Words.{hold_at, is_inside_at, LayoutView, Linear, modulo, number_in}
-use Rattle.px_shadow.proofs.Words.{PixelBits, set-set, SolidView, stored_turn, turned_from_false}
+use Rattle.px_num.proofs.Basics.{◌≡◌, ◌<◌, ◌≤◌, ◌+◌, ◌^◌, ◌∙◌, ℕ, Bool, true, false, ◌&&◌, not, nat_le, List, length}
+use Rattle.px_num.proofs.Basics.{slice_set, if◌then◌else◌, refl, ap, arith, get_or-set_same, zero, suc, flat_map, fold}
+use Rattle.px_num.proofs.Basics.{range_with_len}
+use Rattle.px_shadow.proofs.Words.{after_macros, covers, deep_part, face_count, face_plane, is_inside_at, LayoutView}
+use Rattle.px_shadow.proofs.Words.{modulo, number_in, set-set, SolidView, stored_turn, turned_from_false}
 use Rattle.px_num.specs.Forms.{value_at}
 use Rattle.px_face.specs.Covering.{is_passed_at}
 use Rattle.px_face.proofs.CoveringLemmas.{covered_once}
 use Rattle.px_face.proofs.ParityLemmas.{odd_inside_at}
 use Rattle.px_macro.proofs.MacroLemmas.{meanings_join}
 use Rattle.px_face.proofs.ParityLaws.{turned_is_odd, turned_where}
-use Rattle.px_sched.proofs.CoverLaws.{and_same, not_negative, at_most_is, covering_value}
-use Rattle.px_macro.specs.declared.operation.Macro.TheVariants as m
-
--- a pixel, as operations see it
-abbrev pub pixel : List Bool → Bool → PixelBits
-pixel memory enable = record { memory = memory; enable = enable }
-
--- the pixels at which all of these forms are at least 0 stay enabled
-kept : (forms : List Linear) (x y : ℕ) (memory : List Bool) (e : Bool)
-    → after_macros (map m.KeepSign forms) x y (pixel memory e) ≡ pixel memory (e && hold_at forms x y)
-kept [] x y memory e = ap (pixel memory) (sym (and_true e))
-kept (f ∷ fs) x y memory e =
-    grind (arith, and_both, not_negative, kept fs x y memory (e && not (is_negative (value_at f x y))))
+use Rattle.px_sched.proofs.BridgeLemmas.{pixel, signed}
+use Rattle.px_sched.proofs.CoverLaws.{and_same, at_most_is, covering_value}
 
 module _ (s : SolidView) (end x y : ℕ) where
   module _ (l : LayoutView) (memory : List Bool) (room : l.par < length memory)
@@ -57,7 +45,7 @@ module _ (s : SolidView) (end x y : ℕ) where
         ap (λ n. c && nat_le (modulo v (deep_part l l.key_b).len) n) (apart odd)
         ∙ and_same c _ _ (λ h. at_most_is v end (deep_part l l.key_b).len stored big
         (covering_value covered_once end s x y i there h)) in
-        grind (arith, kept, turned_memory, get_or-set_same, meanings_join)
+        grind (arith, signed, turned_memory, get_or-set_same, meanings_join)
 
     some_turned : (a n : ℕ) → a + n ≤ face_count s → (odd e : Bool) →
         (after_macros (flat_map (stored_turn l end s) (range_with_len a n)) x y (pixel (with_parity odd) e)).memory

@@ -5,7 +5,7 @@ pub use Rattle.px_array.specs.Clocks.{after_clocks, all_clocked}
 pub use Rattle.px_array.specs.Slots.{ArrayView, HasRun}
 pub use Rattle.px_asm.specs.Micros.{all_micros, cycles, micro_at, micros}
 pub use Rattle.px_control.specs.GridLaw.{IsSizedArray}
-pub use Rattle.px_face.specs.Edges.{covers, edges, hold_at}
+pub use Rattle.px_face.specs.Edges.{covers, edges}
 pub use Rattle.px_face.specs.Faces.{face_count, face_plane}
 pub use Rattle.px_frame.proofs.RowLaws.{same_image}
 pub use Rattle.px_io.specs.Reports.{ConsumesAtMost, IsFrontOf, SinkState}
@@ -31,7 +31,7 @@ pub use Rattle.px_scene.specs.Text.{worded}
 pub use Rattle.px_sched.specs.Layouts.{deep_part, IsLayout, layout_of, layout_with, LayoutView, need_of, number_part}
 pub use Rattle.px_sched.specs.Passes.{keep_covered, no_solid, solid_of}
 pub use Rattle.px_normal.proofs.SolidsLaws.{solids_laws}
-pub use Rattle.px_normal.specs.Sets.{below, empty, has, IsBelow, one, sets_joined, solids}
+pub use Rattle.px_normal.specs.Sets.{empty, IsBelow, one, sets_joined, solids}
 pub use Rattle.px_normal.specs.declared.set.SolidSet.{SolidSet}
 pub use Rattle.px_shadow.specs.Carrying.{CanCarryOut, carried_out, CarriesOut, IsRestOf}
 pub use Rattle.px_shadow.specs.LightLines.{as_light, is_solid_name, light_fault_behind, light_in, light_of}
@@ -41,9 +41,8 @@ pub use Rattle.px_shadow.specs.Saying.{are_some, AreRead, pieces_of, said_behind
 pub use Rattle.px_shadow.specs.ShadowLaws.{MaskLaw, ShadedGridLaw, ShadedLaw, ShadowLaw}
 pub use Rattle.px_shadow.specs.ShadowPasses.{background_passes, light_bit, light_passes, need_with, passes_from}
 pub use Rattle.px_shadow.specs.ShadowPasses.{shadow_passes, solid_passes, stored_turn}
-pub use Rattle.px_shadow.specs.Shadows.{light_refusal, light_refused, lights_in, lights_refusal}
-pub use Rattle.px_shadow.specs.Shadows.{line_behind, lit_by_lines, lit_drawable, parts_lit, PerformsShadow, Shades}
-pub use Rattle.px_shadow.specs.Shadows.{ShadesBy}
+pub use Rattle.px_shadow.specs.Shadows.{lights_in, lights_refusal, line_behind, lit_by_lines, lit_drawable, parts_lit}
+pub use Rattle.px_shadow.specs.Shadows.{PerformsShadow, Shades}
 pub use Rattle.px_shadow.specs.Stored.{stored_masks, StoresTheLights}
 pub use Rattle.px_shadow.specs.declared.light.LightFault.{LightFault}
 pub use Rattle.px_shadow.specs.declared.passes.TheConstants.{MAX_LIGHTS}

@@ -8,7 +8,6 @@ ghost use Rattle.px_prune.specs.Kept.{plan_of};
 ghost use Rattle.px_sched.specs.Layouts.{layout_of};
 ghost use Rattle.px_control.specs.GridLaw.{CoversThePicture};
 ghost use Rattle.px_control.specs.Program.{IsAt, total};
-ghost use Rattle.px_sched.specs.Passes.{solid_of};
 ghost use Rattle.px_shadow.specs.declared.passes.TheConstants.{MAX_LIGHTS};
 ghost use Rattle.px_shadow.specs.Carrying.{CanCarryOut, CarriesOut};
 ghost use Rattle.px_shadow.specs.Shaded.{IsShaded, shadow_program};
@@ -30,7 +29,7 @@ use px_face::{edge_at, edge_count, face_count, laws_of_edges, plane_of};
 use px_macro::Macro;
 use px_model::{Scene, Solid, laws_of_scenes};
 use px_normal::{MAX_PRODUCTS, SolidSet};
-use px_sched::Layout;
+use px_sched::{Layout, solid_at};
 
 /// A scene is lit by at most so many lights.
 pub const MAX_LIGHTS: usize = 8;
@@ -184,11 +183,4 @@ fn light_bit(layout: &Layout, light: u32) -> u32
     ensures { result ≡ light_bit layout.now light }
 {
     layout.par + light
-}
-
-fn solid_at(scene: &Scene, solid: u8) -> &Solid
-    requires { solid < length scene.now.solids }
-    ensures { result.now ≡ solid_of scene.now solid }
-{
-    &scene.solids()[usize::from(solid)]
 }

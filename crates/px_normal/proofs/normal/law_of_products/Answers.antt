@@ -4,9 +4,6 @@ use Rattle.px_normal.proofs.LiveLemmas.{live_places, live_sides}
 use Rattle.px_normal.proofs.ShorterLemmas.{all_shorter, never_crowded}
 use Rattle.px_normal.proofs.normal.law_of_products.Goals as goal
 
-pub returns-clause-law : goal.returns-clause-law
-returns-clause-law c = c.laws_of_normal_forms.ensures.law _ c.nodes.ensures.lawful.solids
-
 pub returns-clause-live : goal.returns-clause-live
 returns-clause-live c = record { sides = live_sides _; places = live_places _ }
 

@@ -1,6 +1,6 @@
 use Rattle.px_num.proofs.Basics.{arith}
-use Rattle.px_sched.proofs.GroupLemmas.{literal_opens}
+use Rattle.px_sched.proofs.StepLemmas.{literal_opens}
 use Rattle.px_sched.proofs.group.literal_from.Goals as goal
 
-pub returns-then-literal-len-clause-left : goal.returns-then-literal-len-clause-left
-returns-then-literal-len-clause-left c = grind (arith, literal_opens)
+pub returns-then-literal-len : goal.returns-then-literal-len
+returns-then-literal-len c = grind (arith, literal_opens)

@@ -1,16 +1,44 @@
-use Rattle.px_num.proofs.Basics.{arith, rules}
+use Rattle.px_num.proofs.Basics.{◌+◌, ◌<◌, arith, length, refl, sym, ◌∙◌}
+use Rattle.px_sched.proofs.Words.{layout_of, operations}
 use Rattle.px_sched.proofs.DrawnLaws.{kept_drawn}
-use Rattle.px_sched.proofs.StandingLemmas.{end_for, given_for, stands_for}
+use Rattle.px_sched.proofs.StandingLemmas.{few_given, inside, none_left, operation_found, stands_along, stands_onward}
 use Rattle.px_sched.proofs.cursor.Cursor.next_macro.Goals as goal
 
-pub give-requires-clause-drawn : goal.give-requires-clause-drawn
-give-requires-clause-drawn c = grind (arith, kept_drawn)
+pub overflow_add-self-in-Some : goal.overflow_add-self-in-Some
+overflow_add-self-in-Some c = grind (arith, few_given)
 
-pub returns-clause-operation : goal.returns-clause-operation
-returns-clause-operation c = search (rules, given_for, c.as_slice.ensures.value, c.requires.products)
+pub next-self-requires-clause-drawn : goal.next-self-requires-clause-drawn
+next-self-requires-clause-drawn c = grind (arith, kept_drawn)
 
-pub returns-clause-stands : goal.returns-clause-stands
-returns-clause-stands c = search (rules, stands_for, c.as_slice.ensures.value, c.requires.products)
+pub returns-then-self-count-clause-operation : goal.returns-then-self-count-clause-operation
+returns-then-self-count-clause-operation c =
+    operation_found c.args.scene.now c.args.self.now c.in-Some.step c.requires.stands
+    (sym c.in-Some.is ∙ c.step.ensures) _ (rw c.requires.layout at c.operation-operation.ensures)
 
-pub returns-clause-end : goal.returns-clause-end
-returns-clause-end c = search (rules, end_for, c.as_slice.ensures.value, c.requires.products)
+pub returns-else-self-count-clause-operation : goal.returns-else-self-count-clause-operation
+returns-else-self-count-clause-operation c =
+    operation_found c.args.scene.now c.args.self.now c.in-Some.step c.requires.stands
+    (sym c.in-Some.is ∙ c.step.ensures) _ (rw c.requires.layout at c.operation-operation.ensures)
+
+pub returns-then-self-count-clause-stands : goal.returns-then-self-count-clause-stands
+returns-then-self-count-clause-stands c =
+    let next = rw (c.as_slice.ensures.value, c.requires.products) at c.next-self.ensures in
+    stands_onward c.args.scene.now c.args.self.now c.in-Some.step c.requires.stands
+    (sym c.in-Some.is ∙ c.step.ensures) _ refl refl
+    (c.count-count.ensures.count (layout_of c.args.scene.now) ∙ sym c.if-self-count.true) next.left next.stage
+
+pub returns-else-self-count-clause-stands : goal.returns-else-self-count-clause-stands
+returns-else-self-count-clause-stands c =
+    let scene = c.args.scene.now in
+    let here = sym c.in-Some.is ∙ c.step.ensures in
+    let more : c.args.self.now.at + 1 < length (operations scene (layout_of scene) c.in-Some.step) =
+    omega (
+      arith,
+      inside scene c.args.self.now c.in-Some.step c.requires.stands here,
+      c.count-count.ensures.count (layout_of scene),
+      c.if-self-count.false,
+    ) in
+    stands_along scene c.args.self.now c.in-Some.step c.requires.stands here _ refl refl refl more
+
+pub returns-in-None-clause-operation : goal.returns-in-None-clause-operation
+returns-in-None-clause-operation c = grind (arith, none_left)

@@ -1,4 +1,4 @@
-use Rattle.px_sched.proofs.StepCursorLemmas.{first_stands}
+use Rattle.px_sched.proofs.StandingLemmas.{first_stands}
 use Rattle.px_sched.proofs.step_cursor.StepCursor.start.Goals as goal
 
 pub returns-clause-stands : goal.returns-clause-stands
