@@ -7,7 +7,7 @@ use Rattle.px_num.proofs.TruthLaws.{lt_false, lt_true}
 use Rattle.px_num.specs.Bits.{bit_at, nat_bit}
 use Rattle.std.proofs.lemmas.List.{get_or-set_other}
 use Rattle.px_array.proofs.ClockLaws.{length-after_act}
-use Rattle.px_array.specs.Arrays.{HasGrid, State, no_pixel, pixel_at}
+use Rattle.px_array.specs.Arrays.{HasGrid, State, no_pixel, pixel_at, pixel_of}
 use Rattle.px_array.specs.Clocks.{acted}
 use Rattle.px_pixel.specs.Acts.{after_act}
 use Rattle.px_pixel.specs.Pixels.{PixelState, zero_pixel}
@@ -92,14 +92,20 @@ module _ (shape : Shape) (s : State) (is : IsShape shape) (grid : HasGrid shape.
         | inr past ↦ rw (lt_false x (2 ^ shape.nx) past) (length-replicate shape.bits false)
       ]
 
+      inside : x < 2 ^ s.tree.nx → x * 2 ^ s.tree.ny + y < 2 ^ (s.tree.nx + s.tree.ny)
+      inside column =
+          let low : y < 2 ^ s.tree.ny = rw grid.rows row in
+          omega (arith, pow-add 2 s.tree.nx s.tree.ny, plane_end x (2 ^ s.tree.nx) (2 ^ s.tree.ny) column, low)
+
       here : acted_at (nat_bit shape.full i) act leaf (pixel_here shape s.pixels x y)
           ≡ pixel_here shape (acted act s.tree s.pixels) x y
-      here = rw (is.full c i word bit, leaves y c i row word bit, grid.columns, grid.rows)
-          (elim (cases_lt x (2 ^ shape.nx)) [
+      here = rw (is.full c i word bit, leaves y c i row word bit, ← grid.columns, ← grid.rows)
+          (elim (cases_lt x (2 ^ s.tree.nx)) [
             | inl column ↦
-                rw (lt_true x (2 ^ shape.nx) column)
-                (acted_inside act (leaf_bit s.tree x y) (pixel_at s place)
-                ∙ sym (get_or-tabulate (2 ^ (shape.nx + shape.ny))
-                (λ place. after_act act (leaf_output s.tree place) (pixel_at s place)) place no_pixel (below column)))
-            | inr past ↦ rw (lt_false x (2 ^ shape.nx) past) (acted_outside shape.bits act)
+                rw (lt_true x (2 ^ s.tree.nx) column)
+                (acted_inside act (leaf_bit s.tree x y) (pixel_of s x y)
+                ∙ sym (get_or-tabulate (2 ^ (s.tree.nx + s.tree.ny))
+                (λ place. after_act act (leaf_output s.tree place) (pixel_at s place)) (x * 2 ^ s.tree.ny + y) no_pixel
+                (inside column)))
+            | inr past ↦ rw (lt_false x (2 ^ s.tree.nx) past) (acted_outside shape.bits act)
           ])

@@ -7,6 +7,7 @@ pub mod OperationLemmas
 pub mod PackingLemmas
 pub mod PlaneLemmas
 pub mod PutLemmas
+pub mod RegisterLemmas
 pub mod SceneLemmas
 pub mod TextLemmas
 pub mod TurningLemmas

@@ -1,6 +1,7 @@
 -- Planes by columns, and by 64 words at once.
 use Rattle.px_num.proofs.Basics.{◌≡◌, ◌≢◌, ℕ, zero, suc, ◌+◌, ◌*◌, ◌/◌, ◌%◌, ◌^◌, ◌<◌, ◌≤◌, List, get_or, refl, sym, ap}
 use Rattle.px_num.proofs.Basics.{◌∙◌, arith, inl, inr, cases_eq, div-lt_iff_lt-mul, pow-add}
+use Rattle.px_num.proofs.Basics.{get_or-set_other, get_or-set_same, length, set, subst}
 use Rattle.px_num.proofs.BitLaws.{pow_above}
 use Rattle.px_num.specs.Bits.{nat_bit}
 use Rattle.std.proofs.Math.Nat.{div-add-mod}
@@ -40,7 +41,7 @@ same_place each y c v d one two same = elim (cases_eq y v) [
 
 -- the block that has a word of a row, and the rows that a block has
 pub block_is : (each y c b : ℕ) → y / 64 ≡ b / each → c ≡ b % each → y / 64 * each + c ≡ b
-block_is each y c b row column = rw (row, column) (div-add-mod b each)
+block_is each y c b row column = rw (row, column) (omega (arith, div-add-mod b each))
 
 pub some_words : (nx : ℕ) → 0 < row_words nx
 some_words nx = omega (arith, pow_above nx)
@@ -48,3 +49,12 @@ some_words nx = omega (arith, pow_above nx)
 pub block_row : (nx ny b : ℕ) → b < row_words ny * row_words nx → 64 * (b / row_words nx) < 2 ^ ny
 block_row nx ny b below =
     let row : b / row_words nx < row_words ny = (div-lt_iff_lt-mul (some_words nx)).1 below in omega arith
+
+-- a word more of a list of words
+pub more_words : (Is : (k word : ℕ) → Type 0) (words : List ℕ) (k word : ℕ) → k < length words
+    → ((i : ℕ) → i < k → Is i (get_or words i 0)) → Is k word
+    → (i : ℕ) → i < k + 1 → Is i (get_or (set words k word) i 0)
+more_words Is words k word within before is i low = elim (cases_eq i k) [
+  | inl same ↦ rw same (subst (Is k) (sym (get_or-set_same words k word 0 within)) is)
+  | inr other ↦ subst (Is i) (sym (get_or-set_other words k i word 0 other)) (before i (omega (arith, low, other)))
+]

@@ -13,8 +13,8 @@ full_law nx c i low within = elim (cases_lt 64 (2 ^ nx)) [
       lt_true i (2 ^ nx) (omega arith)
       ∙ sym (lt_true (64 * c + i) (2 ^ nx) (omega (arith, whole_words nx large)))
   | inr small ↦
-      let none : c ≡ 0 = omega (arith, pow_above nx) in
-      rw none refl
+      let place : 64 * c + i ≡ i = omega (arith, pow_above nx) in
+      rw place refl
 ]
 
 pub few_words : (nx ny : ℕ) → ny ≤ 9 → row_words nx ≤ 8 → plane_words nx ny ≤ 2 ^ 12

@@ -75,4 +75,3 @@ fn line_word(shape: &Shape, w: usize, lines: Lines) -> u64
         ones_below(power(shape.nx + 1), w),
     )
 }
-

@@ -3,7 +3,7 @@ ghost use Rattle.std.specs.Prelude.{◌≡◌, ◌≤◌, ◌<◌, ◌+◌, ◌*
 ghost use Rattle.px_num.specs.Bits.{nat_bit};
 ghost use Rattle.px_array.specs.Clocks.{after_tree_op};
 ghost use Rattle.px_plane_tree.specs.Lent.{IsLatch};
-ghost use Rattle.px_tree.specs.Nodes.{TreeState, after_feed};
+ghost use Rattle.px_tree.specs.Nodes.{TreeState, after_feed, cleared};
 ghost use Rattle.px_state.specs.Cells.{HoldsLeaves, HoldsNodes, IsShape, IsShapeOf, leaves_at, nodes_at};
 
 use crate::feeding::fed_word;
@@ -59,7 +59,8 @@ pub(crate) fn write_leaves(words: &mut [u64], shape: &Shape)
 fn clear_nodes(words: &mut [u64], shape: &Shape)
     requires shape { IsShape shape.now }
     requires room { nodes_at shape.now + 2 * shape.now.nodes ≤ length words.old }
-    ensures cleared { (k : ℕ) → k < 2 * shape.now.nodes → get_or words.new (nodes_at shape.now + k) 0 ≡ 0 }
+    ensures nodes { (tree : TreeState) → IsShapeOf shape.now tree
+        → HoldsNodes shape.now (cleared tree.nx tree.ny) words.new }
     ensures others { (j : ℕ) → (j < nodes_at shape.now) ⊎ (nodes_at shape.now + 2 * shape.now.nodes ≤ j)
         → get_or words.new j 0 ≡ get_or words.old j 0 }
     ensures length { length words.new ≡ length words.old }

@@ -75,9 +75,9 @@ fn write_grid<const N: usize>(words: &mut [u64], grid: &PlaneGrid<N>)
     let (enable, carry, latch) = grid.register_rows();
     let (outputs, carries) = grid.nodes();
     write_memory(words, &shape, grid);
-    write_plane(words, N * shape.plane, &shape, enable, 0);
-    write_plane(words, (N + 1) * shape.plane, &shape, carry, 0);
-    write_plane(words, (N + 2) * shape.plane, &shape, latch, 0);
+    write_plane(words, shape.bits * shape.plane, &shape, enable, 0);
+    write_plane(words, (shape.bits + 1) * shape.plane, &shape, carry, 0);
+    write_plane(words, (shape.bits + 2) * shape.plane, &shape, latch, 0);
     write_nodes(words, &shape, outputs, carries);
     write_leaves(words, &shape);
 }
@@ -87,10 +87,10 @@ fn write_memory<const N: usize>(words: &mut [u64], shape: &Shape, grid: &PlaneGr
     requires shape { IsShape shape.now }
     requires bits { shape.now.bits ≡ N }
     requires size { IsShapeOf shape.now grid.now.state.tree }
-    requires room { N * shape.now.plane ≤ length words.old }
-    ensures memory { (b : ℕ) → b < N → HasPlane shape.now (b * shape.now.plane)
+    requires room { shape.now.bits * shape.now.plane ≤ length words.old }
+    ensures memory { (b : ℕ) → b < shape.now.bits → HasPlane shape.now (b * shape.now.plane)
         (λ x y. bit_at (pixel_here shape.now grid.now.state.pixels x y).memory b) words.new }
-    ensures behind { (k : ℕ) → N * shape.now.plane ≤ k → get_or words.new k 0 ≡ get_or words.old k 0 }
+    ensures behind { (k : ℕ) → shape.now.bits * shape.now.plane ≤ k → get_or words.new k 0 ≡ get_or words.old k 0 }
     ensures length { length words.new ≡ length words.old }
 {
     for at in 0..shape.bits {

@@ -15,14 +15,14 @@ returns-clause-acted c = λ i p bit long is.
     let k = c.args.k in
     let a = c.args.act.now in
     let at = memory_place a in
-    let put = rw c.place_of.ensures at c.put_cells.ensures in
+    let put = rw c.place_of-at.ensures at c.put_cells.ensures in
     let cell = (rw (
       c.start.ensures.start,
       c.start-2.ensures.start,
       c.start-3.ensures.start,
       c.start-4.ensures.start,
       c.start-5.ensures.start,
-      c.place_of.ensures,
+      c.place_of-at.ensures,
     ) at (c.acted.ensures i p bit)) (rw long c.requires.place) (record {
       memory = is.memory at c.requires.place;
       enable = is.enable;
@@ -57,6 +57,6 @@ returns-clause-behind c = λ j past.
     let low : (b : ℕ) → b < shape.bits + 3 → b * shape.plane + c.args.k < leaves_at shape =
     λ b below. omega (arith, c.requires.within, plane_end b (shape.bits + 3) shape.plane below) in
     c.put_cells.ensures.others j
-    (omega (arith, past, low c.place_of.result (omega (arith, c.place_of.ensures, c.requires.place))))
+    (omega (arith, past, low c.place_of-at.result (omega (arith, c.place_of-at.ensures, c.requires.place))))
     (omega (arith, past, low shape.bits (omega arith))) (omega (arith, past, low (shape.bits + 1) (omega arith)))
     (omega (arith, past, low (shape.bits + 2) (omega arith)))
