@@ -1,6 +1,6 @@
 -- What an act leaves of a pixel whose bits stand in words.
-use Rattle.px_num.proofs.Basics.{◌≡◌, ◌≢◌, ℕ, ◌+◌, ◌*◌, ◌^◌, ◌<◌, ◌≤◌, nat_lt, Bool, true, false, if◌then◌else◌, List}
-use Rattle.px_num.proofs.Basics.{length, get_or, slice_index_or, slice_set, refl, sym, ap, subst, ◌∙◌, arith, inl, inr}
+use Rattle.px_num.proofs.Basics.{◌≡◌, ◌≢◌, ℕ, ◌+◌, ◌*◌, ◌^◌, ◌<◌, Bool, true, false, if◌then◌else◌, List}
+use Rattle.px_num.proofs.Basics.{length, get_or, slice_set, refl, sym, ap, subst, ◌∙◌, arith, inl, inr}
 use Rattle.px_num.proofs.Basics.{cases_lt, length-replicate, pow-add}
 use Rattle.px_num.proofs.ListLaws.{get_or-tabulate}
 use Rattle.px_num.proofs.TruthLaws.{lt_false, lt_true}
@@ -10,7 +10,7 @@ use Rattle.px_array.proofs.ClockLaws.{length-after_act}
 use Rattle.px_array.specs.Arrays.{HasGrid, State, no_pixel, pixel_at, pixel_of}
 use Rattle.px_array.specs.Clocks.{acted}
 use Rattle.px_pixel.specs.Acts.{after_act}
-use Rattle.px_pixel.specs.Pixels.{PixelState, zero_pixel}
+use Rattle.px_pixel.specs.Pixels.{PixelState}
 use Rattle.px_pixel.specs.declared.act.Act.{Act}
 use Rattle.px_pixel.specs.declared.act.Act.TheVariants as act
 use Rattle.px_planes.proofs.GridLemmas.{acted_inside, acted_outside}
@@ -19,7 +19,7 @@ use Rattle.px_tree.specs.Nodes.{leaf_bit, leaf_output}
 use Rattle.px_state.proofs.ShapeLemmas.{plane_end}
 use Rattle.px_state.specs.Cells.{HoldsLeaves, HoldsPixels, IsActed, IsShape, leaves_at, pixel_here}
 use Rattle.px_state.specs.Packing.{memory_place}
-use Rattle.px_state.specs.Words.{IsPixel, padded_leaf, row_words, word_bit}
+use Rattle.px_state.specs.Words.{IsPixel, row_words, word_bit}
 use Rattle.px_state.specs.declared.shape.Shape.{Shape}
 
 stored_other : (e v : Bool) (memory : List Bool) (at b : ℕ) → b ≢ at

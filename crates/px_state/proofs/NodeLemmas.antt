@@ -1,15 +1,13 @@
 -- The nodes of a tree whose latches stand in words.
-use Rattle.px_num.proofs.Basics.{◌≡◌, ℕ, ◌+◌, ◌-◌, ◌*◌, ◌/◌, ◌%◌, ◌^◌, ◌<◌, ◌≤◌, ◌==◌, ◌&&◌, eqb, nat_lt, nat_le, Bool}
-use Rattle.px_num.proofs.Basics.{true, false, cond, List, length, get_or, refl, sym, ap, ◌∙◌, arith, inl, inr, cases_eq}
+use Rattle.px_num.proofs.Basics.{◌≡◌, ℕ, ◌+◌, ◌*◌, ◌/◌, ◌%◌, ◌^◌, ◌<◌, ◌≤◌, ◌==◌, ◌&&◌, eqb, nat_lt, nat_le, Bool}
+use Rattle.px_num.proofs.Basics.{true, false, cond, List, get_or, refl, sym, ap, ◌∙◌, arith, inl, inr, cases_eq}
 use Rattle.px_num.proofs.Basics.{cases_lt, get_or-replicate, pow-add}
-use Rattle.px_num.proofs.BitLaws.{pow_above}
 use Rattle.px_num.proofs.ListLaws.{get_or-tabulate}
 use Rattle.px_num.proofs.TruthLaws.{and_true, le_false, le_true, lt_false, lt_true, power_grows}
 use Rattle.px_num.specs.Bits.{majority, nat_bit, xor}
 use Rattle.px_plane_tree.specs.Lent.{IsLatch}
 use Rattle.px_rows.proofs.BitLaws.{bit_of_zero}
-use Rattle.px_rows.specs.Rows.{row_bit}
-use Rattle.px_tree.specs.Nodes.{TreeState, after_feed, at_place, cleared, leaf_bit, next_at, next_node, zero_node}
+use Rattle.px_tree.specs.Nodes.{TreeState, after_feed, at_place, cleared, next_at, next_node, zero_node}
 use Rattle.px_tree.specs.declared.lines.Lines.{Lines}
 use Rattle.px_tree.specs.declared.node.Node.{Node}
 use Rattle.px_state.proofs.ShapeLemmas.{plane_end}

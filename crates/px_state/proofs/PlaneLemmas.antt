@@ -1,5 +1,5 @@
 -- Planes by columns, and by 64 words at once.
-use Rattle.px_num.proofs.Basics.{◌≡◌, ◌≢◌, ℕ, zero, suc, ◌+◌, ◌*◌, ◌/◌, ◌%◌, ◌^◌, ◌<◌, ◌≤◌, List, get_or, refl, sym, ap}
+use Rattle.px_num.proofs.Basics.{◌≡◌, ℕ, zero, suc, ◌+◌, ◌*◌, ◌/◌, ◌%◌, ◌^◌, ◌<◌, List, get_or, refl, sym, ap}
 use Rattle.px_num.proofs.Basics.{◌∙◌, arith, inl, inr, cases_eq, div-lt_iff_lt-mul, pow-add}
 use Rattle.px_num.proofs.Basics.{get_or-set_other, get_or-set_same, length, set, subst}
 use Rattle.px_num.proofs.BitLaws.{pow_above}

@@ -1,4 +1,4 @@
-use Rattle.px_num.proofs.Basics.{◌≡◌, ℕ, ◌+◌, ◌*◌, ◌<◌, ap, get_or, refl, sym, ◌∙◌, arith, inl, inr, cases_eq}
+use Rattle.px_num.proofs.Basics.{◌+◌, ◌<◌, ap, sym, ◌∙◌, arith, inl, inr, cases_eq}
 use Rattle.px_num.specs.Bits.{nat_bit}
 use Rattle.px_state.proofs.ActingLemmas.{same_pixel}
 use Rattle.px_state.specs.Cells.{leaves_at}

@@ -1,4 +1,4 @@
-use Rattle.px_num.proofs.Basics.{◌≢◌, ℕ, ◌+◌, ◌*◌, ◌<◌, ap, get_or, sym, ◌∙◌, arith, inl, inr, cases_eq}
+use Rattle.px_num.proofs.Basics.{ℕ, ◌+◌, ◌*◌, ◌<◌, ap, sym, ◌∙◌, arith, inl, inr, cases_eq}
 use Rattle.px_num.specs.Bits.{nat_bit}
 use Rattle.px_state.proofs.ActingLemmas.{other_bits}
 use Rattle.px_state.proofs.ShapeLemmas.{apart, beside, plane_end}

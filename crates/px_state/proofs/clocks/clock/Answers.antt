@@ -1,10 +1,9 @@
-use Rattle.px_num.proofs.Basics.{◌+◌, ◌*◌, ap, inl, ◌∙◌, arith}
+use Rattle.px_num.proofs.Basics.{ap, inl, ◌∙◌, arith}
 use Rattle.px_num.specs.Bits.{nat_bit}
 use Rattle.px_array.proofs.ClockLaws.{grid_after_clock}
 use Rattle.px_array.specs.Clocks.{after_clock}
 use Rattle.px_state.proofs.ActingLemmas.{acted_pixels, kept_pixels}
-use Rattle.px_state.proofs.ClockedLemmas.{parts_of, room_is, whole_of}
-use Rattle.px_state.proofs.ShapeLemmas.{plane_end}
+use Rattle.px_state.proofs.ClockedLemmas.{parts_of, whole_of}
 use Rattle.px_state.specs.Cells.{HoldsLeaves, HoldsNodes, IsShapeOf}
 use Rattle.px_state.proofs.clocks.clock.Goals as goal
 

@@ -1,4 +1,4 @@
-use Rattle.px_num.proofs.Basics.{◌*◌, arith}
+use Rattle.px_num.proofs.Basics.{arith}
 use Rattle.px_state.proofs.NodeLemmas.{cleared_nodes}
 use Rattle.px_state.proofs.nodes.clear_nodes.Goals as goal
 

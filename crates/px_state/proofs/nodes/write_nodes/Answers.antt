@@ -1,5 +1,4 @@
-use Rattle.px_num.proofs.Basics.{◌≡◌, ℕ, ◌+◌, ◌*◌, ◌^◌, ◌<◌, ◌≤◌, ap, ◌∙◌, arith, inl, inr, get_or}
-use Rattle.px_num.specs.Bits.{nat_bit}
+use Rattle.px_num.proofs.Basics.{◌+◌, ◌<◌, ◌∙◌, arith, inl, inr}
 use Rattle.px_state.proofs.NodeLemmas.{latch_word, masked, one_more_word}
 use Rattle.px_state.specs.Cells.{nodes_at}
 use Rattle.px_state.proofs.nodes.write_nodes.Goals as goal

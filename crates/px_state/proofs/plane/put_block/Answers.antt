@@ -1,5 +1,5 @@
-use Rattle.px_num.proofs.Basics.{◌≡◌, ◌≢◌, ℕ, ◌+◌, ◌*◌, ◌/◌, ◌%◌, ◌^◌, ◌<◌, ap, ◌∙◌, arith, inl, inr, cases_lt, mod-lt}
-use Rattle.px_num.proofs.Basics.{get_or, get_or-set_other, get_or-set_same, get_or_default, length, length-set, subst, sym}
+use Rattle.px_num.proofs.Basics.{◌≡◌, ◌≢◌, ◌+◌, ◌*◌, ◌/◌, ◌%◌, ◌^◌, ◌<◌, ◌∙◌, arith, inl, inr, cases_lt, mod-lt}
+use Rattle.px_num.proofs.Basics.{get_or-set_other, get_or-set_same, length, length-set}
 use Rattle.px_state.proofs.PlaneLemmas.{some_words}
 use Rattle.px_state.proofs.ShapeLemmas.{plane_end}
 use Rattle.px_state.specs.Words.{row_words}

@@ -1,4 +1,4 @@
-use Rattle.px_num.proofs.Basics.{◌≡◌, ℕ, ◌+◌, ◌*◌, ◌/◌, ◌%◌, ◌^◌, ◌<◌, ap, sym, ◌∙◌, arith, inl, inr, cases_lt, mod-lt}
+use Rattle.px_num.proofs.Basics.{◌≡◌, ◌+◌, ◌*◌, ◌/◌, ◌%◌, ◌^◌, ◌<◌, ap, sym, ◌∙◌, arith, inl, inr, cases_lt, mod-lt}
 use Rattle.px_num.proofs.Basics.{div-mul-add, mod-mul-add}
 use Rattle.px_num.specs.Bits.{nat_bit}
 use Rattle.px_state.proofs.PlaneLemmas.{block_is, block_row, same_place, some_words}

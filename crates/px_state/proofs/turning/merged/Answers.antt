@@ -1,4 +1,4 @@
-use Rattle.px_num.proofs.Basics.{◌≡◌, ℕ, suc, zero, ◌+◌, ◌*◌, ◌/◌, ◌<◌, get_or, ap, refl, ◌∙◌, arith, inl, inr, cases_lt}
+use Rattle.px_num.proofs.Basics.{◌≡◌, get_or, ap, refl, ◌∙◌, arith, inl, inr, cases_lt}
 use Rattle.px_num.proofs.Basics.{get_or_default}
 use Rattle.px_num.specs.Bits.{nat_bit}
 use Rattle.px_rows.proofs.BitLaws.{odd_bits}

@@ -1,4 +1,4 @@
-use Rattle.px_num.proofs.Basics.{◌≡◌, ℕ, ◌+◌, ◌*◌, ◌^◌, ◌<◌, ◌≤◌, ap, sym, subst, refl, ◌∙◌, arith, inl, inr, get_or, length}
+use Rattle.px_num.proofs.Basics.{◌≡◌, ◌+◌, ◌*◌, ◌^◌, ◌<◌, ap, sym, subst, refl, ◌∙◌, arith, inl, inr, length}
 use Rattle.px_num.specs.Bits.{nat_bit}
 use Rattle.px_pixel.specs.Pixels.{PixelState}
 use Rattle.px_state.proofs.ClockedLemmas.{room_is, same_behind, whole_of}

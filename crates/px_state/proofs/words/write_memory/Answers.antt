@@ -1,4 +1,4 @@
-use Rattle.px_num.proofs.Basics.{◌≡◌, ℕ, ◌+◌, ◌*◌, ◌^◌, ◌<◌, false, ap, ◌∙◌, arith, inl, inr, cases_eq, length}
+use Rattle.px_num.proofs.Basics.{◌≡◌, ◌+◌, ◌*◌, ◌^◌, ◌<◌, false, ap, ◌∙◌, arith, inl, inr, cases_eq, length}
 use Rattle.std.proofs.lemmas.List.{get_or-replicate}
 use Rattle.px_num.specs.Bits.{bit_at, nat_bit}
 use Rattle.px_pixel.specs.Pixels.{PixelState, zero_pixel}
