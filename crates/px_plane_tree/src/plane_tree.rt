@@ -3,7 +3,7 @@ ghost use Rattle.std.specs.Prelude.{◌≡◌, ◌<◌, ◌≤◌, ◌+◌, ◌*
 ghost use Rattle.std.specs.Prelude.{false};
 ghost use Rattle.px_tree.specs.Nodes.{IsGrid, cleared};
 ghost use Rattle.px_rows.specs.Rows.{EachBit};
-ghost use Rattle.px_plane_tree.specs.Lent.{output_bit};
+ghost use Rattle.px_plane_tree.specs.Lent.{IsLatch, output_bit};
 ghost use Rattle.px_plane_tree.specs.Trees.{heights as heights_of};
 
 use crate::heads::Heads;
@@ -115,6 +115,14 @@ impl PlaneTree {
             let at = power(level - 6);
             part(&self.outputs, at, 2 * at)
         }
+    }
+
+    /// The words of the outputs of all nodes, and those of their carries.
+    pub fn nodes(&self) -> (&[u64], &[u64])
+        ensures outputs { IsLatch self.now (λ n. n.output) result.0.now }
+        ensures carries { IsLatch self.now (λ n. n.carry) result.1.now }
+    {
+        (&self.outputs, &self.carries)
     }
 }
 

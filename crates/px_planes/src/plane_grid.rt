@@ -5,6 +5,8 @@ ghost use Rattle.px_array.specs.Clocks.{acted};
 ghost use Rattle.px_num.specs.Bits.{nat_bit};
 ghost use Rattle.px_pixel.specs.Acts.{HasPlace};
 ghost use Rattle.px_pixel.specs.Pixels.{zero_pixel};
+ghost use Rattle.px_plane_tree.specs.Lent.{IsLatch};
+ghost use Rattle.px_planes.specs.Lent.{IsRegister};
 ghost use Rattle.px_planes.specs.Operations.{IsCrowd};
 ghost use Rattle.px_planes.specs.Pixels.{HasPixels, pixels_in};
 ghost use Rattle.px_tree.specs.Nodes.{IsGrid};
@@ -152,6 +154,30 @@ impl<const N: usize> Grid for PlaneGrid<N> {
 
     fn clocks(&self) -> u64 {
         self.clocks
+    }
+}
+
+impl<const N: usize> PlaneGrid<N> {
+    /// The words of enable, of carry and of the latch, each pixel at its place.
+    pub fn register_rows(&self) -> (&[u64], &[u64], &[u64])
+        ensures enable { IsRegister self.now.state (λ p. p.enable) result.0.now }
+        ensures carry { IsRegister self.now.state (λ p. p.carry) result.1.now }
+        ensures latch { IsRegister self.now.state (λ p. p.latch) result.2.now }
+    {
+        let planes = &self.planes;
+        (
+            planes.enable.words(),
+            planes.carry.words(),
+            planes.latch.words(),
+        )
+    }
+
+    /// The words of the outputs of all nodes, and those of their carries, each node at its place.
+    pub fn nodes(&self) -> (&[u64], &[u64])
+        ensures outputs { IsLatch self.now.state.tree (λ n. n.output) result.0.now }
+        ensures carries { IsLatch self.now.state.tree (λ n. n.carry) result.1.now }
+    {
+        self.tree.nodes()
     }
 }
 

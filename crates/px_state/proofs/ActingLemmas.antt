@@ -1,18 +1,26 @@
 -- What an act leaves of a pixel whose bits stand in words.
-use Rattle.px_num.proofs.Basics.{◌≡◌, ◌≢◌, ℕ, ◌+◌, ◌*◌, ◌<◌, ◌≤◌, Bool, true, false, List, length, get_or, set}
-use Rattle.px_num.proofs.Basics.{refl, sym, ap, ◌∙◌, arith, inl, inr, length-set, mul-le-mul_right, cases_eq, cases_lt}
-use Rattle.px_num.proofs.Basics.{if◌then◌else◌, slice_set}
-use Rattle.std.proofs.lemmas.List.{get_or-set_other, get_or-set_same}
-use Rattle.px_num.proofs.ListLaws.{get_or-tabulate, is_tabulate, length-tabulate}
+use Rattle.px_num.proofs.Basics.{◌≡◌, ◌≢◌, ℕ, ◌+◌, ◌*◌, ◌^◌, ◌<◌, Bool, true, false, if◌then◌else◌, List}
+use Rattle.px_num.proofs.Basics.{length, get_or, slice_set, refl, sym, ap, subst, ◌∙◌, arith, inl, inr}
+use Rattle.px_num.proofs.Basics.{cases_lt, length-replicate, pow-add}
+use Rattle.px_num.proofs.ListLaws.{get_or-tabulate}
+use Rattle.px_num.proofs.TruthLaws.{lt_false, lt_true}
 use Rattle.px_num.specs.Bits.{bit_at, nat_bit}
-use Rattle.px_num.specs.Lists.{tabulate}
-use Rattle.px_array.proofs.ClockLaws.{length-stored}
+use Rattle.std.proofs.lemmas.List.{get_or-set_other}
+use Rattle.px_array.proofs.ClockLaws.{length-after_act}
+use Rattle.px_array.specs.Arrays.{HasGrid, State, no_pixel, pixel_at, pixel_of}
+use Rattle.px_array.specs.Clocks.{acted}
+use Rattle.px_pixel.specs.Acts.{after_act}
 use Rattle.px_pixel.specs.Pixels.{PixelState}
 use Rattle.px_pixel.specs.declared.act.Act.{Act}
 use Rattle.px_pixel.specs.declared.act.Act.TheVariants as act
+use Rattle.px_planes.proofs.GridLemmas.{acted_inside, acted_outside}
 use Rattle.px_planes.specs.Pixels.{acted_at}
-use Rattle.px_state.specs.Cells.{pixel_in_words, word_bit}
+use Rattle.px_tree.specs.Nodes.{leaf_bit, leaf_output}
+use Rattle.px_state.proofs.ShapeLemmas.{plane_end}
+use Rattle.px_state.specs.Cells.{HoldsLeaves, HoldsPixels, IsActed, IsShape, leaves_at, pixel_here}
 use Rattle.px_state.specs.Packing.{memory_place}
+use Rattle.px_state.specs.Words.{IsPixel, row_words, word_bit}
+use Rattle.px_state.specs.declared.shape.Shape.{Shape}
 
 stored_other : (e v : Bool) (memory : List Bool) (at b : ℕ) → b ≢ at
     → bit_at (if e then slice_set memory at v else memory) b ≡ bit_at memory b
@@ -22,166 +30,82 @@ stored_other false v memory at b other = refl
 -- an act leaves all other bits, and their number
 pub other_bits : (inside : Bool) (a : Act) (t : Bool) (p : PixelState) (b : ℕ) → b ≢ memory_place a
     → bit_at (acted_at inside a t p).memory b ≡ bit_at p.memory b
-other_bits inside act.Nop t p b other = refl
-other_bits inside act.EnableAll t p b other = refl
-other_bits inside (act.EnableCarry v) t p b other = refl
-other_bits inside (act.EnableTree v) t p b other = refl
-other_bits inside (act.EnableBit at v) t p b other = refl
-other_bits inside (act.SetCarry v) t p b other = refl
-other_bits inside (act.Fetch at) t p b other = refl
 other_bits inside (act.StoreTree at) t p b other = stored_other p.enable _ p.memory at b other
 other_bits inside (act.StoreLatch at) t p b other = stored_other p.enable _ p.memory at b other
 other_bits inside (act.StoreConst at v) t p b other = stored_other p.enable _ p.memory at b other
 other_bits inside (act.Toggle at) t p b other = stored_other p.enable _ p.memory at b other
-other_bits inside (act.CarryTree at) t p b other = refl
-other_bits inside (act.CarryLatch at) t p b other = refl
 other_bits inside (act.AddTree at) t p b other = stored_other p.enable _ p.memory at b other
+other_bits inside a t p b other = refl
 
 pub length-acted : (inside : Bool) (a : Act) (t : Bool) (p : PixelState) → length (acted_at inside a t p).memory
     ≡ length p.memory
-length-acted inside act.Nop t p = refl
 length-acted inside act.EnableAll t p = refl
-length-acted inside (act.EnableCarry v) t p = refl
-length-acted inside (act.EnableTree v) t p = refl
-length-acted inside (act.EnableBit at v) t p = refl
 length-acted inside (act.SetCarry v) t p = refl
-length-acted inside (act.Fetch at) t p = refl
-length-acted inside (act.StoreTree at) t p = length-stored p.enable _ p.memory at
-length-acted inside (act.StoreLatch at) t p = length-stored p.enable _ p.memory at
-length-acted inside (act.StoreConst at v) t p = length-stored p.enable _ p.memory at
-length-acted inside (act.Toggle at) t p = length-stored p.enable _ p.memory at
-length-acted inside (act.CarryTree at) t p = refl
-length-acted inside (act.CarryLatch at) t p = refl
-length-acted inside (act.AddTree at) t p = length-stored p.enable _ p.memory at
+length-acted inside a t p = length-after_act a t p
 
--- word k of one plane stands before each of the next
-pub plane_end : (b n plane : ℕ) → b < n → b * plane + plane ≤ n * plane
-plane_end b n plane below =
-    let more : (b + 1) * plane ≤ n * plane = mul-le-mul_right plane (omega arith) in omega (arith, more)
+-- a pixel stays where its words do
+pub same_pixel : (bits plane k i : ℕ) (old new : List ℕ) (p : PixelState)
+    → ((b : ℕ) → b < bits + 3 → get_or new (b * plane + k) 0 ≡ get_or old (b * plane + k) 0)
+    → IsPixel bits plane old k i p → IsPixel bits plane new k i p
+same_pixel bits plane k i old new p same is = record {
+  memory = λ b below. ap (λ w. nat_bit w i) (same b (omega arith)) ∙ is.memory b below;
+  enable = ap (λ w. nat_bit w i) (same bits (omega arith)) ∙ is.enable;
+  carry = ap (λ w. nat_bit w i) (same (bits + 1) (omega arith)) ∙ is.carry;
+  latch = ap (λ w. nat_bit w i) (same (bits + 2) (omega arith)) ∙ is.latch;
+}
 
-pub apart : (b at plane j k : ℕ) → j < plane → k < plane → b ≢ at → b * plane + j ≢ at * plane + k
-apart b at plane j k one two other = elim (cases_lt b at) [
-  | inl low ↦ omega (arith, plane_end b at plane low)
-  | inr high ↦ omega (arith, plane_end at b plane (omega (arith, other)))
-]
+pub kept_pixels : (shape : Shape) (pixels : List PixelState) (old new : List ℕ) → IsShape shape
+    → ((j : ℕ) → j < leaves_at shape → get_or new j 0 ≡ get_or old j 0) → HoldsPixels shape pixels old
+    → HoldsPixels shape pixels new
+kept_pixels shape pixels old new is same held y c i row word bit =
+    let k = y * row_words shape.nx + c in
+    let within : k < shape.plane = omega (arith, is.plane, plane_end y (2 ^ shape.ny) (row_words shape.nx) row) in
+    same_pixel shape.bits shape.plane k i old new _
+    (λ b below. same _ (omega (arith, within, plane_end b (shape.bits + 3) shape.plane below))) (held y c i row word bit)
 
-pub beside : (b at plane j k : ℕ) → j < plane → k < plane → j ≢ k → b * plane + j ≢ at * plane + k
-beside b at plane j k one two other = elim (cases_eq b at) [
-  | inl same ↦ rw same (omega (arith, other))
-  | inr differ ↦ apart b at plane j k one two differ
-]
+-- once each word has done the act, the words hold the pixels that have done it
+module _ (shape : Shape) (s : State) (is : IsShape shape) (grid : HasGrid shape.bits shape.nx shape.ny s) (act : Act)
+    (old new : List ℕ) (pixels : HoldsPixels shape s.pixels old) (leaves : HoldsLeaves shape s.tree old)
+    (done : (k : ℕ) → k < shape.plane → IsActed shape act k old new) where
+  pub acted_pixels : HoldsPixels shape (acted act s.tree s.pixels) new
+  acted_pixels y c i row word bit =
+      let k = y * row_words shape.nx + c in
+      let within : k < shape.plane = omega (arith, is.plane, plane_end y (2 ^ shape.ny) (row_words shape.nx) row) in
+      subst (IsPixel shape.bits shape.plane new k i) here
+      (done k within i (pixel_here shape s.pixels x y) bit long (pixels y c i row word bit))
+    where
+      x : ℕ
+      x = 64 * c + i
 
-module _ (bits plane at k : ℕ) (words : List ℕ) (memory enable carry latch : ℕ) (place : at < bits) (within : k < plane)
-    (room : (bits + 4) * plane ≤ length words) where
-  -- the words once those of one word of each plane are written
-  abbrev pub with_words : List ℕ
-  with_words =
-      set (set (set (set words (at * plane + k) memory) (bits * plane + k) enable) ((bits + 1) * plane + k) carry)
-      ((bits + 2) * plane + k) latch
+      place : ℕ
+      place = x * 2 ^ shape.ny + y
 
-  inside : (b : ℕ) → b < bits + 4 → b * plane + k < length words
-  inside b below = omega (arith, plane_end b (bits + 4) plane below, room)
+      leaf : Bool
+      leaf = word_bit old (leaves_at shape + (y * row_words shape.nx + c)) i
 
-  kept_word : (b j : ℕ) → b * plane + j ≢ at * plane + k → b * plane + j ≢ bits * plane + k
-      → b * plane + j ≢ (bits + 1) * plane + k → b * plane + j ≢ (bits + 2) * plane + k
-      → get_or with_words (b * plane + j) 0 ≡ get_or words (b * plane + j) 0
-  kept_word b j m e c l =
-      get_or-set_other _ ((bits + 2) * plane + k) (b * plane + j) latch 0 l
-      ∙ (get_or-set_other _ ((bits + 1) * plane + k) (b * plane + j) carry 0 c
-      ∙ (get_or-set_other _ (bits * plane + k) (b * plane + j) enable 0 e
-      ∙ get_or-set_other words (at * plane + k) (b * plane + j) memory 0 m))
+      below : x < 2 ^ shape.nx → place < 2 ^ (shape.nx + shape.ny)
+      below column = omega (arith, pow-add 2 shape.nx shape.ny, plane_end x (2 ^ shape.nx) (2 ^ shape.ny) column)
 
-  abbrev first : List ℕ
-  first = set words (at * plane + k) memory
+      long : length (pixel_here shape s.pixels x y).memory ≡ shape.bits
+      long = elim (cases_lt x (2 ^ shape.nx)) [
+        | inl column ↦ rw (lt_true x (2 ^ shape.nx) column) (grid.memory place (below column))
+        | inr past ↦ rw (lt_false x (2 ^ shape.nx) past) (length-replicate shape.bits false)
+      ]
 
-  abbrev second : List ℕ
-  second = set first (bits * plane + k) enable
+      inside : x < 2 ^ s.tree.nx → x * 2 ^ s.tree.ny + y < 2 ^ (s.tree.nx + s.tree.ny)
+      inside column =
+          let low : y < 2 ^ s.tree.ny = rw grid.rows row in
+          omega (arith, pow-add 2 s.tree.nx s.tree.ny, plane_end x (2 ^ s.tree.nx) (2 ^ s.tree.ny) column, low)
 
-  abbrev third : List ℕ
-  third = set second ((bits + 1) * plane + k) carry
-
-  latch_word : get_or with_words ((bits + 2) * plane + k) 0 ≡ latch
-  latch_word = get_or-set_same third ((bits + 2) * plane + k) latch 0 (omega (
-    arith,
-    inside (bits + 2) (omega arith),
-    length-set second ((bits + 1) * plane + k) carry,
-    length-set first (bits * plane + k) enable,
-    length-set words (at * plane + k) memory,
-  ))
-
-  carry_word : get_or with_words ((bits + 1) * plane + k) 0 ≡ carry
-  carry_word =
-      get_or-set_other third ((bits + 2) * plane + k) ((bits + 1) * plane + k) latch 0
-      (apart (bits + 1) (bits + 2) plane k k within within (omega arith))
-      ∙ get_or-set_same second ((bits + 1) * plane + k) carry 0 (omega (
-        arith,
-        inside (bits + 1) (omega arith),
-        length-set first (bits * plane + k) enable,
-        length-set words (at * plane + k) memory,
-      ))
-
-  enable_word : get_or with_words (bits * plane + k) 0 ≡ enable
-  enable_word =
-      get_or-set_other third ((bits + 2) * plane + k) (bits * plane + k) latch 0
-      (apart bits (bits + 2) plane k k within within (omega arith))
-      ∙ (get_or-set_other second ((bits + 1) * plane + k) (bits * plane + k) carry 0
-      (apart bits (bits + 1) plane k k within within (omega arith))
-      ∙ get_or-set_same first (bits * plane + k) enable 0 (omega (
-        arith,
-        inside bits (omega arith),
-        length-set words (at * plane + k) memory,
-      )))
-
-  memory_word : get_or with_words (at * plane + k) 0 ≡ memory
-  memory_word =
-      get_or-set_other third ((bits + 2) * plane + k) (at * plane + k) latch 0
-      (apart at (bits + 2) plane k k within within (omega arith))
-      ∙ (get_or-set_other second ((bits + 1) * plane + k) (at * plane + k) carry 0
-      (apart at (bits + 1) plane k k within within (omega arith))
-      ∙ (get_or-set_other first (bits * plane + k) (at * plane + k) enable 0
-      (apart at bits plane k k within within (omega arith))
-      ∙ get_or-set_same words (at * plane + k) memory 0 (inside at (omega arith))))
-
-  other_word : (b : ℕ) → b < bits → b ≢ at → get_or with_words (b * plane + k) 0 ≡ get_or words (b * plane + k) 0
-  other_word b below other =
-      kept_word b k (apart b at plane k k within within other) (apart b bits plane k k within within (omega arith))
-      (apart b (bits + 1) plane k k within within (omega arith))
-      (apart b (bits + 2) plane k k within within (omega arith))
-
-  beside_word : (b j : ℕ) → j < plane → j ≢ k → get_or with_words (b * plane + j) 0 ≡ get_or words (b * plane + j) 0
-  beside_word b j in_plane other =
-      kept_word b j (beside b at plane j k in_plane within other) (beside b bits plane j k in_plane within other)
-      (beside b (bits + 1) plane j k in_plane within other) (beside b (bits + 2) plane j k in_plane within other)
-
-  -- the pixel that is written
-  pub written_pixel : (i : ℕ) (p : PixelState) → nat_bit memory i ≡ bit_at p.memory at → nat_bit enable i ≡ p.enable
-      → nat_bit carry i ≡ p.carry → nat_bit latch i ≡ p.latch → length p.memory ≡ bits
-      → ((b : ℕ) → b < bits → b ≢ at → bit_at p.memory b ≡ word_bit words (b * plane + k) i)
-      → pixel_in_words bits plane with_words k i ≡ p
-  written_pixel i p m e c l long rest =
-      let bit_is : (b : ℕ) → b < bits → bit_at p.memory b ≡ word_bit with_words (b * plane + k) i =
-      λ b below. elim (cases_eq b at) [
-        | inl same ↦ rw same (sym (ap (λ w. nat_bit w i) memory_word ∙ m))
-        | inr other ↦ rest b below other ∙ sym (ap (λ w. nat_bit w i) (other_word b below other))
-      ] in
-      let bits_are : p.memory ≡ tabulate bits (λ b. word_bit with_words (b * plane + k) i) =
-      is_tabulate p.memory bits (λ b. word_bit with_words (b * plane + k) i) false long bit_is in
-      rw (
-        sym bits_are,
-        ap (λ w. nat_bit w i) enable_word ∙ e,
-        ap (λ w. nat_bit w i) carry_word ∙ c,
-        ap (λ w. nat_bit w i) latch_word ∙ l,
-      ) refl
-
-  -- and all others
-  pub other_pixel : (j i : ℕ) → j < plane → j ≢ k → pixel_in_words bits plane with_words j i
-      ≡ pixel_in_words bits plane words j i
-  other_pixel j i in_plane other =
-      let word : (b : ℕ) → word_bit with_words (b * plane + j) i ≡ word_bit words (b * plane + j) i =
-      λ b. ap (λ w. nat_bit w i) (beside_word b j in_plane other) in
-      let bits_are : tabulate bits (λ b. word_bit with_words (b * plane + j) i)
-      ≡ tabulate bits (λ b. word_bit words (b * plane + j) i) =
-      is_tabulate (tabulate bits (λ b. word_bit with_words (b * plane + j) i)) bits
-      (λ b. word_bit words (b * plane + j) i)
-      false (length-tabulate bits _) (λ b below. get_or-tabulate bits _ b false below ∙ word b) in
-      rw (bits_are, word bits, word (bits + 1), word (bits + 2)) refl
+      here : acted_at (nat_bit shape.full i) act leaf (pixel_here shape s.pixels x y)
+          ≡ pixel_here shape (acted act s.tree s.pixels) x y
+      here = rw (is.full c i word bit, leaves y c i row word bit, ← grid.columns, ← grid.rows)
+          (elim (cases_lt x (2 ^ s.tree.nx)) [
+            | inl column ↦
+                rw (lt_true x (2 ^ s.tree.nx) column)
+                (acted_inside act (leaf_bit s.tree x y) (pixel_of s x y)
+                ∙ sym (get_or-tabulate (2 ^ (s.tree.nx + s.tree.ny))
+                (λ place. after_act act (leaf_output s.tree place) (pixel_at s place)) (x * 2 ^ s.tree.ny + y) no_pixel
+                (inside column)))
+            | inr past ↦ rw (lt_false x (2 ^ s.tree.nx) past) (acted_outside shape.bits act)
+          ])

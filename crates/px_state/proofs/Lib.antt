@@ -1,13 +1,13 @@
 pub mod ShapeLemmas
 pub mod ClockedLemmas
-pub mod ColumnLemmas
-pub mod FeedingLemmas
+pub mod NodeLemmas
 pub mod ActingLemmas
 pub mod CourseLemmas
 pub mod OperationLemmas
 pub mod PackingLemmas
-pub mod PlaceLemmas
+pub mod PlaneLemmas
 pub mod PutLemmas
+pub mod RegisterLemmas
 pub mod SceneLemmas
 pub mod TextLemmas
 pub mod TurningLemmas

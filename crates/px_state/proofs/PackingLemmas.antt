@@ -14,19 +14,7 @@ use Rattle.px_state.specs.Packing.{tree_number, tree_with, packed_value}
 
 pub act_back : (a : Act) → act_with (act_number a) (packed_value a) (memory_place a) ≡ a
 act_back act.Nop = refl
-act_back act.EnableAll = refl
-act_back (act.EnableCarry v) = refl
-act_back (act.EnableTree v) = refl
-act_back (act.EnableBit at v) = refl
-act_back (act.SetCarry v) = refl
-act_back (act.Fetch at) = refl
-act_back (act.StoreTree at) = refl
-act_back (act.StoreLatch at) = refl
-act_back (act.StoreConst at v) = refl
-act_back (act.Toggle at) = refl
-act_back (act.CarryTree at) = refl
-act_back (act.CarryLatch at) = refl
-act_back (act.AddTree at) = refl
+act_back a = refl
 
 pub tree_back : (op : TreeOp) → tree_with (tree_number op) (lines_number op) ≡ op
 tree_back tree.Hold = refl
@@ -47,19 +35,7 @@ bit_back false = refl
 
 act_below : (a : Act) → act_number a < 256
 act_below act.Nop = omega arith
-act_below act.EnableAll = omega arith
-act_below (act.EnableCarry v) = omega arith
-act_below (act.EnableTree v) = omega arith
-act_below (act.EnableBit at v) = omega arith
-act_below (act.SetCarry v) = omega arith
-act_below (act.Fetch at) = omega arith
-act_below (act.StoreTree at) = omega arith
-act_below (act.StoreLatch at) = omega arith
-act_below (act.StoreConst at v) = omega arith
-act_below (act.Toggle at) = omega arith
-act_below (act.CarryTree at) = omega arith
-act_below (act.CarryLatch at) = omega arith
-act_below (act.AddTree at) = omega arith
+act_below a = omega arith
 
 bit_below : (v : Bool) → packed_bit v < 2
 bit_below true = omega arith
@@ -76,32 +52,16 @@ place_within bits act.Nop some h = some
 place_within bits act.EnableAll some h = some
 place_within bits (act.EnableCarry v) some h = some
 place_within bits (act.EnableTree v) some h = some
-place_within bits (act.EnableBit at v) some h = h
 place_within bits (act.SetCarry v) some h = some
-place_within bits (act.Fetch at) some h = h
-place_within bits (act.StoreTree at) some h = h
-place_within bits (act.StoreLatch at) some h = h
-place_within bits (act.StoreConst at v) some h = h
-place_within bits (act.Toggle at) some h = h
-place_within bits (act.CarryTree at) some h = h
-place_within bits (act.CarryLatch at) some h = h
-place_within bits (act.AddTree at) some h = h
+place_within bits a some h = h
 
 pub has_place : (bits : ℕ) (a : Act) → memory_place a < bits → HasPlace bits a
 has_place bits act.Nop h = tt
 has_place bits act.EnableAll h = tt
 has_place bits (act.EnableCarry v) h = tt
 has_place bits (act.EnableTree v) h = tt
-has_place bits (act.EnableBit at v) h = h
 has_place bits (act.SetCarry v) h = tt
-has_place bits (act.Fetch at) h = h
-has_place bits (act.StoreTree at) h = h
-has_place bits (act.StoreLatch at) h = h
-has_place bits (act.StoreConst at v) h = h
-has_place bits (act.Toggle at) h = h
-has_place bits (act.CarryTree at) h = h
-has_place bits (act.CarryLatch at) h = h
-has_place bits (act.AddTree at) h = h
+has_place bits a h = h
 
 -- each field in its bits
 pub fields_in : (at number value op lines : ℕ) → at < 2 ^ 32 → number < 256 → value < 2 → op < 3

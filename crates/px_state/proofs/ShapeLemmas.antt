@@ -1,38 +1,38 @@
 -- The words of a grid.
-use Rattle.px_num.proofs.Basics.{◌≡◌, ℕ, ◌+◌, ◌*◌, ◌%◌, ◌^◌, ◌<◌, ◌≤◌, nat_lt, refl, sym, ◌∙◌, arith, inl, inr, mod-lt}
-use Rattle.px_num.proofs.Basics.{mul-le-mul_right, cases_lt, pow-add}
+use Rattle.px_num.proofs.Basics.{◌≡◌, ◌≢◌, ℕ, ◌+◌, ◌*◌, ◌^◌, ◌<◌, ◌≤◌, nat_lt, refl, sym, ◌∙◌, arith, inl, inr}
+use Rattle.px_num.proofs.Basics.{mul-le-mul_right, cases_eq, cases_lt}
 use Rattle.px_num.proofs.BitLaws.{pow_above}
 use Rattle.px_num.proofs.TruthLaws.{lt_true, power_grows}
 use Rattle.px_planes.proofs.GridLemmas.{whole_words}
-use Rattle.px_state.specs.Words.{row_words}
-use Rattle.px_state.specs.declared.shape.Shape.{Shape}
-use Rattle.px_state.proofs.ActingLemmas.{plane_end}
+use Rattle.px_state.specs.Words.{plane_words, row_words}
 
 -- each word of a row has the same pixels: 64, or all of the row
-pub full_law : (nx k i : ℕ) → i < 64 → nat_lt i (2 ^ nx) ≡ nat_lt (64 * (k % row_words nx) + i) (2 ^ nx)
-full_law nx k i within = elim (cases_lt 64 (2 ^ nx)) [
+pub full_law : (nx c i : ℕ) → c < row_words nx → i < 64 → nat_lt i (2 ^ nx) ≡ nat_lt (64 * c + i) (2 ^ nx)
+full_law nx c i low within = elim (cases_lt 64 (2 ^ nx)) [
   | inl large ↦
-      let some : 0 < row_words nx = omega arith in
-      let below = mod-lt k some in
       lt_true i (2 ^ nx) (omega arith)
-      ∙ sym (lt_true (64 * (k % row_words nx) + i) (2 ^ nx) (omega (arith, below, whole_words nx large)))
+      ∙ sym (lt_true (64 * c + i) (2 ^ nx) (omega (arith, whole_words nx large)))
   | inr small ↦
-      let one : row_words nx ≡ 1 = omega (arith, pow_above nx) in
-      let none : k % row_words nx ≡ 0 = rw one (omega arith) in
-      let place : 64 * (k % row_words nx) + i ≡ i = omega (arith, none) in
+      let place : 64 * c + i ≡ i = omega (arith, pow_above nx) in
       rw place refl
 ]
 
-pub few_words : (nx ny : ℕ) → ny ≤ 9 → row_words nx ≤ 8 → 2 ^ ny * row_words nx ≤ 2 ^ 12
+pub few_words : (nx ny : ℕ) → ny ≤ 9 → row_words nx ≤ 8 → plane_words nx ny ≤ 2 ^ 12
 few_words nx ny small few = omega (arith, few, mul-le-mul_right (row_words nx) (power_grows ny 9 small))
 
--- a leaf is one of the nodes
-pub leaf_within : (shape : Shape) (x y : ℕ) → x < 2 ^ shape.nx → y < 2 ^ shape.ny
-    → 2 ^ (shape.nx + shape.ny) + (x * 2 ^ shape.ny + y) < 2 ^ (shape.nx + shape.ny + 1)
-leaf_within shape x y column row =
-    omega (
-      arith,
-      pow-add 2 shape.nx shape.ny,
-      pow-add 2 (shape.nx + shape.ny) 1,
-      plane_end x (2 ^ shape.nx) (2 ^ shape.ny) column,
-    )
+-- what stands in one of n rows, each of so many words, stands before the next row, and apart from what stands elsewhere
+pub plane_end : (b n plane : ℕ) → b < n → b * plane + plane ≤ n * plane
+plane_end b n plane below =
+    let more : (b + 1) * plane ≤ n * plane = mul-le-mul_right plane (omega arith) in omega (arith, more)
+
+pub apart : (b at plane j k : ℕ) → j < plane → k < plane → b ≢ at → b * plane + j ≢ at * plane + k
+apart b at plane j k one two other = elim (cases_lt b at) [
+  | inl low ↦ omega (arith, plane_end b at plane low)
+  | inr high ↦ omega (arith, plane_end at b plane (omega (arith, other)))
+]
+
+pub beside : (b at plane j k : ℕ) → j < plane → k < plane → j ≢ k → b * plane + j ≢ at * plane + k
+beside b at plane j k one two other = elim (cases_eq b at) [
+  | inl same ↦ rw same (omega (arith, other))
+  | inr differ ↦ apart b at plane j k one two differ
+]

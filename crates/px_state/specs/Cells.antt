@@ -1,31 +1,38 @@
--- The pixels and nodes whose bits stand in words. Only proofs and private functions stand on it.
-use Rattle.std.specs.Prelude.{◌≡◌, ℕ, ◌+◌, ◌*◌, ◌/◌, ◌%◌, ◌^◌, ◌<◌, ◌≤◌, ◌==◌, ◌&&◌, Bool, false, List, get_or}
-use Rattle.std.specs.Prelude.{nat_lt, if◌then◌else◌}
+-- The parts of a state whose bits stand in words. Only proofs and private functions stand on it.
+use Rattle.std.specs.Prelude.{◌≡◌, ℕ, ◌+◌, ◌*◌, ◌^◌, ◌<◌, ◌≤◌, ◌&&◌, Bool, List, get_or, length, nat_lt, slice_index_or}
+use Rattle.std.specs.Prelude.{if◌then◌else◌}
 use Rattle.px_num.specs.Bits.{bit_at, nat_bit}
-use Rattle.px_num.specs.Lists.{tabulate}
-use Rattle.px_array.specs.Arrays.{State, pixel_of}
+use Rattle.px_array.specs.Arrays.{no_pixel}
 use Rattle.px_pixel.specs.Pixels.{PixelState, zero_pixel}
-use Rattle.px_tree.specs.Nodes.{IsGrid, TreeState, leaf_bit, next_node, zero_node}
-use Rattle.px_tree.specs.declared.lines.Lines.{Lines}
-use Rattle.px_tree.specs.declared.node.Node.{Node}
-use Rattle.px_state.specs.Words.{node_bit, node_words, row_words}
+use Rattle.px_pixel.specs.declared.act.Act.{Act}
+use Rattle.px_planes.specs.Pixels.{acted_at}
+use Rattle.px_rows.specs.Rows.{row_bit}
+use Rattle.px_tree.specs.Nodes.{IsGrid, TreeState}
+use Rattle.px_state.specs.Words.{IsNodeWord, IsPixel, node_words, padded_leaf, plane_words, row_words, word_bit}
 use Rattle.px_state.specs.declared.shape.Shape.{Shape}
 use Rattle.px_state.specs.declared.acting.Cells.{Cells}
-
--- bit i of word k
-abbrev pub word_bit : List ℕ → (k i : ℕ) → Bool
-word_bit words k i = nat_bit (get_or words k 0) i
 
 -- a shape is that of a grid, and `full` has 1 in each word of a plane where a pixel stands
 pub record IsShape (shape : Shape) : Type 0 where
   pub bits : shape.bits ≤ 256
   pub grid : IsGrid shape.nx shape.ny
-  pub plane : shape.plane ≡ 2 ^ shape.ny * row_words shape.nx
+  pub plane : shape.plane ≡ plane_words shape.nx shape.ny
   pub few_words : shape.plane ≤ 2 ^ 12
   pub nodes : shape.nodes ≡ node_words shape.nx shape.ny
   pub few_nodes : shape.nodes ≤ 2 ^ 13
-  pub full : (k i : ℕ) → k < shape.plane → i < 64 → nat_bit shape.full i ≡ nat_lt (64 * (k % row_words shape.nx) + i)
-      (2 ^ shape.nx)
+  pub full : (c i : ℕ) → c < row_words shape.nx → i < 64 → nat_bit shape.full i ≡ nat_lt (64 * c + i) (2 ^ shape.nx)
+
+-- a shape has the columns and rows of a tree
+pub record IsShapeOf (shape : Shape) (tree : TreeState) : Type 0 where
+  pub columns : tree.nx ≡ shape.nx
+  pub rows : tree.ny ≡ shape.ny
+
+-- where the words of the leaves and of the nodes begin
+abbrev pub leaves_at : Shape → ℕ
+leaves_at shape = (shape.bits + 3) * shape.plane
+
+abbrev pub nodes_at : Shape → ℕ
+nodes_at shape = (shape.bits + 4) * shape.plane
 
 -- a memory bit and the registers of a pixel, at bit i of the cells
 pub record IsCell (at i : ℕ) (cells : Cells) (p : PixelState) : Type 0 where
@@ -34,66 +41,36 @@ pub record IsCell (at i : ℕ) (cells : Cells) (p : PixelState) : Type 0 where
   pub carry : nat_bit cells.carry i ≡ p.carry
   pub latch : nat_bit cells.latch i ≡ p.latch
 
--- the pixel at bit i of word k of each plane
-abbrev pub pixel_in_words : (bits plane : ℕ) → List ℕ → (k i : ℕ) → PixelState
-pixel_in_words bits plane words k i = record {
-  memory = tabulate bits (λ at. word_bit words (at * plane + k) i);
-  enable = word_bit words (bits * plane + k) i;
-  carry = word_bit words ((bits + 1) * plane + k) i;
-  latch = word_bit words ((bits + 2) * plane + k) i;
-}
+-- an act was done by the pixels of word k of each plane
+abbrev pub IsActed : Shape → Act → (k : ℕ) → (old new : List ℕ) → Type 0
+IsActed shape act k old new = (i : ℕ) (p : PixelState) → i < 64 → length p.memory ≡ shape.bits
+    → IsPixel shape.bits shape.plane old k i p
+    → IsPixel shape.bits shape.plane new k i
+    (acted_at (nat_bit shape.full i) act (word_bit old (leaves_at shape + k) i) p)
 
--- what its leaf gives it
-abbrev pub leaf_in : (bits plane : ℕ) → List ℕ → (k i : ℕ) → Bool
-leaf_in bits plane words k i = word_bit words ((bits + 3) * plane + k) i
+-- the bit that a row has for column x of row y, where column 0 is the row's column `from`; past the last column 0
+abbrev pub placed : Shape → List ℕ → (from x y : ℕ) → Bool
+placed shape row from x y = nat_lt x (2 ^ shape.nx) && row_bit row ((from + x) * 2 ^ shape.ny + y)
 
--- where the words of the nodes begin
-abbrev pub nodes_at : Shape → ℕ
-nodes_at shape = (shape.bits + 4) * shape.plane
+-- the plane that begins at word `first` has these bits
+abbrev pub HasPlane : Shape → (first : ℕ) → (bit : (x y : ℕ) → Bool) → List ℕ → Type 0
+HasPlane shape first bit words = (y c i : ℕ) → y < 2 ^ shape.ny → c < row_words shape.nx → i < 64
+    → word_bit words (first + (y * row_words shape.nx + c)) i ≡ bit (64 * c + i) y
 
--- the latches of the node at a place
-abbrev pub output_in : Shape → List ℕ → (place : ℕ) → Bool
-output_in shape words place = word_bit words (nodes_at shape + place / 64) (place % 64)
+-- the pixel of a list that stands at (x, y), of which past the last column each bit is 0
+abbrev pub pixel_here : Shape → List PixelState → (x y : ℕ) → PixelState
+pixel_here shape pixels x y =
+    if nat_lt x (2 ^ shape.nx) then slice_index_or pixels (x * 2 ^ shape.ny + y) no_pixel else zero_pixel shape.bits
 
-abbrev pub carry_in : Shape → List ℕ → (place : ℕ) → Bool
-carry_in shape words place = word_bit words (nodes_at shape + shape.nodes + place / 64) (place % 64)
+-- the words hold these pixels, the leaves of a tree, and its nodes
+abbrev pub HoldsPixels : Shape → List PixelState → List ℕ → Type 0
+HoldsPixels shape pixels words = (y c i : ℕ) → y < 2 ^ shape.ny → c < row_words shape.nx → i < 64
+    → IsPixel shape.bits shape.plane words (y * row_words shape.nx + c) i (pixel_here shape pixels (64 * c + i) y)
 
--- what a feed makes of the node at a place, and nothing where there is none
-unfoldable pub fed_in : Shape → Lines → List ℕ → (place : ℕ) → Node
-fed_in shape lines words place =
-    if nat_lt place 2 then zero_node else
-    if nat_lt place (2 ^ (shape.nx + shape.ny + 1)) then next_node (place % 2 == 1)
-    (if nat_lt place 4 then lines.c else output_in shape words (place / 2))
-    (if nat_lt place (2 ^ (shape.nx + 1)) then lines.a else lines.b)
-    (carry_in shape words place)
-    else zero_node
-
--- the leaf over the pixel at bit i of word k of a plane, and 0 where there is none
-abbrev pub leaf_over : Shape → List ℕ → (k i : ℕ) → Bool
-leaf_over shape words k i =
-    let x = 64 * (k % row_words shape.nx) + i in
-    nat_lt x (2 ^ shape.nx)
-    && output_in shape words (2 ^ (shape.nx + shape.ny) + (x * 2 ^ shape.ny + k / row_words shape.nx))
-
--- the pixel, and its leaf, that stand at bit i of word k of each plane; past the last column there is none
-abbrev pub pixel_here : Shape → State → (k i : ℕ) → PixelState
-pixel_here shape s k i =
-    let x = 64 * (k % row_words shape.nx) + i in
-    if nat_lt x (2 ^ shape.nx) then pixel_of s x (k / row_words shape.nx) else zero_pixel shape.bits
-
-abbrev pub leaf_here : Shape → TreeState → (k i : ℕ) → Bool
-leaf_here shape tree k i =
-    let x = 64 * (k % row_words shape.nx) + i in
-    if nat_lt x (2 ^ shape.nx) then leaf_bit tree x (k / row_words shape.nx) else false
-
--- the words hold the pixels of a state, the leaves of a tree, and the nodes of one
-pub record HoldsPixels (shape : Shape) (s : State) (words : List ℕ) : Type 0 where
-  pub each : (k i : ℕ) → k < shape.plane → i < 64 → pixel_in_words shape.bits shape.plane words k i
-      ≡ pixel_here shape s k i
-
-pub record HoldsLeaves (shape : Shape) (tree : TreeState) (words : List ℕ) : Type 0 where
-  pub each : (k i : ℕ) → k < shape.plane → i < 64 → leaf_in shape.bits shape.plane words k i ≡ leaf_here shape tree k i
+abbrev pub HoldsLeaves : Shape → TreeState → List ℕ → Type 0
+HoldsLeaves shape tree words = HasPlane shape (leaves_at shape) (padded_leaf tree) words
 
 pub record HoldsNodes (shape : Shape) (tree : TreeState) (words : List ℕ) : Type 0 where
-  pub output : (p : ℕ) → p < 64 * shape.nodes → output_in shape words p ≡ node_bit (λ n. n.output) tree p
-  pub carry : (p : ℕ) → p < 64 * shape.nodes → carry_in shape words p ≡ node_bit (λ n. n.carry) tree p
+  pub output : (k : ℕ) → k < shape.nodes → IsNodeWord (λ n. n.output) tree k (get_or words (nodes_at shape + k) 0)
+  pub carry : (k : ℕ) → k < shape.nodes
+      → IsNodeWord (λ n. n.carry) tree k (get_or words (nodes_at shape + shape.nodes + k) 0)

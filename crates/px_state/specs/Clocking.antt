@@ -1,17 +1,15 @@
 -- A state that is clocked where its words stand. Clauses of public calls stand on it.
-use Rattle.std.specs.Prelude.{◌≡◌, ℕ, ◌<◌, not, List, map, get_or}
+use Rattle.std.specs.Prelude.{ℕ, not, List, map, Option}
 use Rattle.std.specs.List.{position}
-use Rattle.px_num.specs.Bits.{nat_bit}
 use Rattle.px_array.specs.Arrays.{HasGrid, State}
 use Rattle.px_array.specs.Clocks.{after_clocks}
 use Rattle.px_state.specs.Packing.{is_micro, micro_in}
-use Rattle.px_state.specs.Words.{BeginsWithState, room_of, state_bit}
-use Rattle.std.specs.Prelude.{Option}
+use Rattle.px_state.specs.Words.{BeginsWithState, HoldsWords}
 
 -- the words begin with those of a state of so many pixels with so many bits
 pub record HoldsState (bits nx ny : ℕ) (s : State) (words : List ℕ) : Type 0 where
   pub grid : HasGrid bits nx ny s
-  pub bit : (k i : ℕ) → k < room_of bits nx ny → i < 64 → nat_bit (get_or words k 0) i ≡ state_bit bits s k i
+  pub holds : HoldsWords bits s words
 
 -- the first word that is no micro for such pixels, if there is one
 abbrev pub first_stray : (bits : ℕ) → List ℕ → Option ℕ

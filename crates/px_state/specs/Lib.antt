@@ -7,13 +7,11 @@ pub use Rattle.px_sched.specs.Passes
 pub use Rattle.px_sched.specs.StepCursors
 pub mod Cells
 pub mod Clocking
-pub mod Columns
 pub mod Courses
 pub mod Inputs
 pub mod Operations
 pub mod Packed
 pub mod Packing
-pub mod Parts
 pub mod Putting
 pub mod Refusals
 pub mod States

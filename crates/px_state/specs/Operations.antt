@@ -60,46 +60,27 @@ role_number Merge = 11
 
 -- the solid whose face a step is of, counted from 1; 0 where it is of no face
 abbrev pub solid_number : Step → ℕ
-solid_number Start = 0
-solid_number Open = 0
 solid_number (Candidate solid face) = solid + 1
 solid_number (Drop solid face) = solid + 1
-solid_number Clear = 0
 solid_number (Front solid face) = solid + 1
-solid_number Confirm = 0
-solid_number (Begin other) = 0
 solid_number (Turn other solid face) = solid + 1
-solid_number (Close other plain) = 0
-solid_number Merge = 0
+solid_number step = 0
 
 -- that face's number; 0 for the far limit, which has none, and where it is of no face
 abbrev pub number_of_face : SceneView → Step → ℕ
-number_of_face scene Start = 0
-number_of_face scene Open = 0
 number_of_face scene (Candidate solid face) = face_number (solid_of scene solid) face
 number_of_face scene (Drop solid face) = face_number (solid_of scene solid) face
-number_of_face scene Clear = 0
 number_of_face scene (Front solid face) = face_number (solid_of scene solid) face
-number_of_face scene Confirm = 0
-number_of_face scene (Begin other) = 0
 number_of_face scene (Turn other solid face) = face_number (solid_of scene solid) face
-number_of_face scene (Close other plain) = 0
-number_of_face scene Merge = 0
+number_of_face scene step = 0
 
 -- the other literal that a step asks, counted from 1 among those of its product that are of other solids; 0
 -- where it asks none
 abbrev pub other_number : Step → ℕ
-other_number Start = 0
-other_number Open = 0
-other_number (Candidate solid face) = 0
-other_number (Drop solid face) = 0
-other_number Clear = 0
-other_number (Front solid face) = 0
-other_number Confirm = 0
 other_number (Begin other) = other + 1
 other_number (Turn other solid face) = other + 1
 other_number (Close other plain) = other + 1
-other_number Merge = 0
+other_number step = 0
 
 -- what the operations of a step are for: its pass, counted from 0, and its literal, counted from 1 among those
 -- of all products

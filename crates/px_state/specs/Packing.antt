@@ -29,29 +29,16 @@ act_number (act.AddTree at) = 14
 
 -- the value that an act names, and else 0
 abbrev pub packed_value : Act → Bool
-packed_value act.Nop = false
-packed_value act.EnableAll = false
 packed_value (act.EnableCarry v) = v
 packed_value (act.EnableTree v) = v
 packed_value (act.EnableBit at v) = v
 packed_value (act.SetCarry v) = v
-packed_value (act.Fetch at) = false
-packed_value (act.StoreTree at) = false
-packed_value (act.StoreLatch at) = false
 packed_value (act.StoreConst at v) = v
-packed_value (act.Toggle at) = false
-packed_value (act.CarryTree at) = false
-packed_value (act.CarryLatch at) = false
-packed_value (act.AddTree at) = false
+packed_value a = false
 
 -- the place of memory that an act names, and else 0
 abbrev pub memory_place : Act → ℕ
-memory_place act.Nop = 0
-memory_place act.EnableAll = 0
-memory_place (act.EnableCarry v) = 0
-memory_place (act.EnableTree v) = 0
 memory_place (act.EnableBit at v) = at
-memory_place (act.SetCarry v) = 0
 memory_place (act.Fetch at) = at
 memory_place (act.StoreTree at) = at
 memory_place (act.StoreLatch at) = at
@@ -60,6 +47,7 @@ memory_place (act.Toggle at) = at
 memory_place (act.CarryTree at) = at
 memory_place (act.CarryLatch at) = at
 memory_place (act.AddTree at) = at
+memory_place a = 0
 
 -- what the tree does: nothing, a clear, or a feed
 abbrev pub tree_number : TreeOp → ℕ
@@ -72,9 +60,8 @@ packed_bit v = if v then 1 else 0
 
 -- the lines a, b and c of a feed, in bits 0, 1 and 2
 abbrev pub lines_number : TreeOp → ℕ
-lines_number tree.Hold = 0
-lines_number tree.Clear = 0
 lines_number (tree.Feed a b c) = packed_bit a + 2 * packed_bit b + 4 * packed_bit c
+lines_number op = 0
 
 -- the word of a micro
 unfoldable pub packed : Micro → ℕ

@@ -2,10 +2,9 @@
 ghost use Rattle.std.specs.Prelude.{◌≡◌, ◌≢◌, ◌≤◌, ◌<◌, ◌+◌, ◌*◌, ℕ, ◌&&◌, cond, get_or, length};
 ghost use Rattle.std.specs.Bool.{beq};
 ghost use Rattle.px_num.specs.Bits.{nat_bit};
-ghost use Rattle.px_pixel.specs.Acts.{HasPlace};
 ghost use Rattle.px_pixel.specs.Pixels.{PixelState};
 ghost use Rattle.px_planes.specs.Pixels.{acted_at};
-ghost use Rattle.px_state.specs.Cells.{IsCell, IsShape, leaf_in, pixel_in_words};
+ghost use Rattle.px_state.specs.Cells.{IsActed, IsCell, IsShape, leaves_at, nodes_at};
 ghost use Rattle.px_state.specs.Packing.{memory_place};
 
 use crate::packing::place_of;
@@ -27,11 +26,9 @@ pub(crate) struct Cells {
 pub(crate) fn act_all(words: &mut [u64], shape: &Shape, act: &Act)
     requires shape { IsShape shape.now }
     requires place { memory_place act.now < shape.now.bits }
-    requires room { (shape.now.bits + 4) * shape.now.plane ≤ length words.old }
-    ensures acted { (k i : ℕ) → k < shape.now.plane → i < 64 → pixel_in_words shape.now.bits shape.now.plane words.new k i
-        ≡ acted_at (nat_bit shape.now.full i) act.now (leaf_in shape.now.bits shape.now.plane words.old k i)
-        (pixel_in_words shape.now.bits shape.now.plane words.old k i) }
-    ensures behind { (j : ℕ) → (shape.now.bits + 3) * shape.now.plane ≤ j → get_or words.new j 0 ≡ get_or words.old j 0 }
+    requires room { nodes_at shape.now ≤ length words.old }
+    ensures acted { (k : ℕ) → k < shape.now.plane → IsActed shape.now act.now k words.old words.new }
+    ensures behind { (j : ℕ) → leaves_at shape.now ≤ j → get_or words.new j 0 ≡ get_or words.old j 0 }
     ensures length { length words.new ≡ length words.old }
 {
     for k in 0..shape.plane {
@@ -43,32 +40,44 @@ pub(crate) fn act_all(words: &mut [u64], shape: &Shape, act: &Act)
 fn act_word(words: &mut [u64], shape: &Shape, k: usize, act: &Act)
     requires shape { IsShape shape.now }
     requires place { memory_place act.now < shape.now.bits }
-    requires room { (shape.now.bits + 4) * shape.now.plane ≤ length words.old }
+    requires room { nodes_at shape.now ≤ length words.old }
     requires within { k < shape.now.plane }
-    ensures acted { (i : ℕ) → i < 64 → pixel_in_words shape.now.bits shape.now.plane words.new k i
-        ≡ acted_at (nat_bit shape.now.full i) act.now (leaf_in shape.now.bits shape.now.plane words.old k i)
-        (pixel_in_words shape.now.bits shape.now.plane words.old k i) }
-    ensures others { (j i : ℕ) → j < shape.now.plane → j ≢ k → pixel_in_words shape.now.bits shape.now.plane words.new j i
-        ≡ pixel_in_words shape.now.bits shape.now.plane words.old j i }
-    ensures behind { (j : ℕ) → (shape.now.bits + 3) * shape.now.plane ≤ j → get_or words.new j 0 ≡ get_or words.old j 0 }
+    ensures acted { IsActed shape.now act.now k words.old words.new }
+    ensures others { (b j : ℕ) → j < shape.now.plane → j ≢ k
+        → get_or words.new (b * shape.now.plane + j) 0 ≡ get_or words.old (b * shape.now.plane + j) 0 }
+    ensures behind { (j : ℕ) → leaves_at shape.now ≤ j → get_or words.new j 0 ≡ get_or words.old j 0 }
     ensures length { length words.new ≡ length words.old }
 {
-    let memory = shape.word(place_of(act) as usize, k);
-    let enable = shape.word(shape.bits, k);
-    let carry = shape.word(shape.bits + 1, k);
-    let latch = shape.word(shape.bits + 2, k);
+    let at = place_of(act) as usize;
     let old = Cells {
-        memory: words[memory],
-        enable: words[enable],
-        carry: words[carry],
-        latch: words[latch],
-        leaf: words[shape.word(shape.bits + 3, k)],
+        memory: words[shape.start(at) + k],
+        enable: words[shape.start(shape.bits) + k],
+        carry: words[shape.start(shape.bits + 1) + k],
+        latch: words[shape.start(shape.bits + 2) + k],
+        leaf: words[shape.start(shape.bits + 3) + k],
     };
-    let new = acted(act, old, shape.full);
-    words[memory] = new.memory;
-    words[enable] = new.enable;
-    words[carry] = new.carry;
-    words[latch] = new.latch;
+    put_cells(words, shape, at, k, acted(act, old, shape.full));
+}
+
+/// Writes word `k` of the planes that an act may change.
+fn put_cells(words: &mut [u64], shape: &Shape, at: usize, k: usize, cells: Cells)
+    requires shape { IsShape shape.now }
+    requires place { at < shape.now.bits }
+    requires room { nodes_at shape.now ≤ length words.old }
+    requires within { k < shape.now.plane }
+    ensures memory { get_or words.new (at * shape.now.plane + k) 0 ≡ cells.memory }
+    ensures enable { get_or words.new (shape.now.bits * shape.now.plane + k) 0 ≡ cells.enable }
+    ensures carry { get_or words.new ((shape.now.bits + 1) * shape.now.plane + k) 0 ≡ cells.carry }
+    ensures latch { get_or words.new ((shape.now.bits + 2) * shape.now.plane + k) 0 ≡ cells.latch }
+    ensures others { (j : ℕ) → j ≢ at * shape.now.plane + k → j ≢ shape.now.bits * shape.now.plane + k
+        → j ≢ (shape.now.bits + 1) * shape.now.plane + k → j ≢ (shape.now.bits + 2) * shape.now.plane + k
+        → get_or words.new j 0 ≡ get_or words.old j 0 }
+    ensures length { length words.new ≡ length words.old }
+{
+    words[shape.start(at) + k] = cells.memory;
+    words[shape.start(shape.bits) + k] = cells.enable;
+    words[shape.start(shape.bits + 1) + k] = cells.carry;
+    words[shape.start(shape.bits + 2) + k] = cells.latch;
 }
 
 /// What an act makes of 64 pixels; `full` is 1 where there is one.

@@ -9,12 +9,10 @@ ghost use Rattle.px_state.specs.Packing.{memory_place};
 ghost use Rattle.px_state.specs.Words.{room_of};
 
 use crate::acting::act_all;
-use crate::feeding::{clear_all, feed_all};
-use crate::leaves::write_leaves;
+use crate::nodes::move_nodes;
 use crate::packing::{is_micro, micro_in};
 use crate::shape::Shape;
-use px_array::{Micro, TreeOp};
-use px_tree::Lines;
+use px_array::Micro;
 
 /// Makes a clock of each micro on the state of `2^nx` by `2^ny` pixels of so many memory bits that stands
 /// in the words.
@@ -80,15 +78,5 @@ fn clock(words: &mut [u64], shape: &Shape, m: &Micro)
     ensures length { length words.new ≡ length words.old }
 {
     act_all(words, shape, &m.act);
-    match m.tree {
-        TreeOp::Hold => {}
-        TreeOp::Clear => {
-            clear_all(words, shape);
-            write_leaves(words, shape);
-        }
-        TreeOp::Feed { a, b, c } => {
-            feed_all(words, shape, Lines { a, b, c });
-            write_leaves(words, shape);
-        }
-    }
+    move_nodes(words, shape, m.tree);
 }

@@ -4,14 +4,14 @@
 mod acting;
 mod broadcast;
 mod clocks;
-mod columns;
 mod fault;
 mod feeding;
-mod leaves;
 mod micros;
+mod nodes;
 mod operation;
 mod operations;
 mod packing;
+mod plane;
 mod room;
 mod running;
 mod shape;

@@ -1,9 +1,9 @@
 //! How the words of a state are laid out for a grid.
-ghost use Rattle.std.specs.Prelude.{◌≡◌, ◌≤◌, ◌<◌, ◌+◌, ◌*◌, ℕ, nat_lt};
+ghost use Rattle.std.specs.Prelude.{◌≡◌, ◌≤◌, ◌+◌, ◌*◌, ◌^◌};
 ghost use Rattle.px_tree.specs.Nodes.{IsGrid};
-ghost use Rattle.px_state.specs.Cells.{IsShape, nodes_at};
+ghost use Rattle.px_state.specs.Cells.{IsShape};
 
-use crate::words::{node_words, row_words};
+use crate::words::{node_words, plane_words};
 use px_num::power;
 use px_planes::full_word;
 
@@ -34,7 +34,7 @@ impl Shape {
             bits,
             nx,
             ny,
-            plane: power(ny) * row_words(nx),
+            plane: plane_words(nx, ny),
             nodes: node_words(nx, ny),
             full: full_word(power(nx)),
         }
@@ -42,21 +42,13 @@ impl Shape {
 }
 
 impl Shape {
-    /// The place of word `k` of a plane, counted from 0.
-    pub(crate) fn word(&self, plane: usize, k: usize) -> usize
+    /// Where the words of a plane begin, and behind those of the last plane the words of the nodes.
+    pub(crate) fn start(&self, plane: usize) -> usize
         requires shape { IsShape self.now }
-        requires plane { plane < self.now.bits + 4 }
-        requires within { k < self.now.plane }
-        ensures { result ≡ plane * self.now.plane + k }
+        requires plane { plane ≤ self.now.bits + 4 }
+        ensures start { result ≡ plane * self.now.plane }
+        ensures few { result ≤ 2 ^ 21 }
     {
-        plane * self.plane + k
-    }
-
-    /// Where the words of the nodes begin.
-    pub(crate) fn nodes_at(&self) -> usize
-        requires { IsShape self.now }
-        ensures { result ≡ nodes_at self.now }
-    {
-        (self.bits + 4) * self.plane
+        plane * self.plane
     }
 }

@@ -1,63 +1,50 @@
 //! Blocks of 64 words, turned over: bit `i` of word `w` becomes bit `w` of word `i`.
-ghost use Rattle.std.specs.Prelude.{◌≡◌, ◌+◌, ◌*◌, ◌/◌, ◌%◌, ◌^◌, ◌<◌, ◌==◌, ℕ};
+ghost use Rattle.std.specs.Prelude.{◌≡◌, ◌+◌, ◌*◌, ◌/◌, ◌%◌, ◌<◌, ◌==◌, ℕ, cond, get_or};
 ghost use Rattle.px_num.specs.Bits.{nat_bit};
 ghost use Rattle.px_rows.specs.Rows.{row_bit};
-ghost use Rattle.px_state.specs.Turning.{HasLow, exchanged};
+ghost use Rattle.px_state.specs.Turning.{shuffled};
 
-use px_num::power;
+use px_plane_tree::doubled_pair;
 use px_rows::chosen_word;
+use std::simd::prelude::*;
 
-/// The block that is turned over, in six stages.
+/// The bits at odd places.
+pub(crate) const ODD: u64 = 0xaaaa_aaaa_aaaa_aaaa;
+
+/// The block that is turned over, by six shuffles.
 pub(crate) fn turned_block(block: &[u64; 64]) -> [u64; 64]
     ensures { (p : ℕ) → p < 4096 → row_bit result p ≡ row_bit block.now (64 * (p % 64) + p / 64) }
 {
-    let mut words = *block;
-    for k in 0..6 {
-        words = exchanged(&words, k);
+    let first = shuffled(block);
+    let second = shuffled(&first);
+    let third = shuffled(&second);
+    let fourth = shuffled(&third);
+    let fifth = shuffled(&fourth);
+    shuffled(&fifth)
+}
+
+/// The bits of a block's first half at even places, and those of the second at odd ones.
+fn shuffled(block: &[u64; 64]) -> [u64; 64]
+    ensures { (p : ℕ) → p < 4096 → row_bit result p ≡ row_bit block.now (shuffled p) }
+{
+    let mut words = [0; 64];
+    for w in 0..32 {
+        let both = merged(block[w], block[32 + w]);
+        words[2 * w] = both[0];
+        words[2 * w + 1] = both[1];
     }
     words
 }
 
-/// Of each two words that are `2^k` apart, the bits that are `2^k` apart change places.
-fn exchanged(words: &[u64; 64], k: u32) -> [u64; 64]
-    requires { k < 6 }
-    ensures { (p : ℕ) → p < 4096 → row_bit result p ≡ row_bit words.now (exchanged k p) }
-{
-    let low = low_bits(k);
-    let mut now = *words;
-    for w in 0..64 {
-        now[w] = exchanged_word(words, k, low, w);
-    }
-    now
-}
-
-/// Word `w` of them.
+/// The bits of one word at even places, and those of another at odd ones.
 #[inline(always)]
-fn exchanged_word(words: &[u64; 64], k: u32, low: u64, w: usize) -> u64
-    requires stage { k < 6 }
-    requires low { HasLow k low }
-    requires within { w < 64 }
-    ensures { (i : ℕ) → i < 64 → nat_bit result i ≡ row_bit words.now (exchanged k (64 * w + i)) }
+fn merged(even: u64, odd: u64) -> [u64; 2]
+    ensures { (h j : ℕ) → h < 2 → j < 64 → nat_bit (get_or result h 0) j
+        ≡ cond (j % 2 == 1) (nat_bit odd (32 * h + j / 2)) (nat_bit even (32 * h + j / 2)) }
 {
-    let apart = power(k);
-    if (w >> k) % 2 == 0 {
-        chosen_word(words[w + apart] << apart, words[w], low)
-    } else {
-        chosen_word(words[w], words[w - apart] >> apart, low)
-    }
-}
-
-/// The bits whose place has a 0 at bit `k`.
-fn low_bits(k: u32) -> u64
-    requires { k < 6 }
-    ensures { HasLow k result }
-{
-    match k {
-        0 => 0x5555_5555_5555_5555,
-        1 => 0x3333_3333_3333_3333,
-        2 => 0x0f0f_0f0f_0f0f_0f0f,
-        3 => 0x00ff_00ff_00ff_00ff,
-        4 => 0x0000_ffff_0000_ffff,
-        _ => 0x0000_0000_ffff_ffff,
-    }
+    let (evens, odds) = doubled_pair(u64x2::from_array([even, odd]));
+    [
+        chosen_word(evens[0], odds[0], ODD),
+        chosen_word(evens[1], odds[1], ODD),
+    ]
 }

@@ -15,7 +15,8 @@ use crate::running::run_to;
 use crate::state::{Course, State};
 use crate::words::{room_of, write_words};
 use crate::{micros, operations};
-use px_asm::Operating;
+use px_array::Array;
+use px_planes::PlaneArray;
 use std::alloc::Global;
 
 /// Finds the state of a scene or of a listing after so many clocks, and writes its words to the front
@@ -25,39 +26,39 @@ use std::alloc::Global;
 /// where the clock lies past the last, and `NoRoom` where the list has fewer words than `room_of`
 /// says. After an error the list is as it was; after `Ok` so is what lies behind the words of the
 /// state. The array is then the one after these clocks, and a refusal of the text leaves it as it was.
-pub fn write_state<A: Operating>(
+pub fn write_state<const N: usize>(
     alloc: Global,
     text: &[u8],
     clock: u64,
     words: &mut [u64],
-    array: &mut A,
+    array: &mut PlaneArray<N>,
 ) -> Result<State, StateFault>
-    requires bits { A.BITS ≤ 256 }
-    ensures ok { OnOk result (state_refusal A.BITS text.now clock (length words.old) ≡ None) }
-    ensures state { IfOk result (λ s. IsState A.BITS (course_of text.now) clock s) }
-    ensures words { OnOk result (BeginsWithState A.BITS
-        (device_after A.BITS (course_of text.now) clock).state words.old words.new) }
+    requires bits { N ≤ 256 }
+    ensures ok { OnOk result (state_refusal N text.now clock (length words.old) ≡ None) }
+    ensures state { IfOk result (λ s. IsState N (course_of text.now) clock s) }
+    ensures words { OnOk result (BeginsWithState N
+        (device_after N (course_of text.now) clock).state words.old words.new) }
     ensures err { IfErr result (λ fault.
-        IsRefusedBy fault (state_refusal A.BITS text.now clock (length words.old))) }
+        IsRefusedBy fault (state_refusal N text.now clock (length words.old))) }
     ensures kept { OnErr result (words.new ≡ words.old) }
     ensures length { length words.new ≡ length words.old }
-    ensures array { OnOk result (IsRunTo A.BITS (course_of text.now) clock (A.view array.new)) }
-    ensures refused { IfErr result (λ fault. FaultLeaves fault A.BITS (course_of text.now)
-        (A.view array.old) (A.view array.new)) }
+    ensures array { OnOk result (IsRunTo N (course_of text.now) clock array.new) }
+    ensures refused { IfErr result (λ fault. FaultLeaves fault N (course_of text.now)
+        array.old array.new) }
 {
-    let input = read_input(alloc, text, A::BITS as u32)?;
-    let course = Broadcast::of(alloc, &input, A::BITS as u32)?;
+    let input = read_input(alloc, text, N as u32)?;
+    let course = Broadcast::of(alloc, &input, N as u32)?;
     let (nx, ny) = course.grid();
     array.open(nx, ny)?;
     let (operations, clocks) = course.cost();
-    let due = room_of(A::BITS, nx, ny);
+    let due = room_of(N, nx, ny);
     judge(clock, clocks, words.len(), due)?;
     let next = run_to(&course, array, clock);
     write_words(array, words);
     Ok(State {
         nx,
         ny,
-        bits: A::BITS as u32,
+        bits: N as u32,
         operations,
         clocks,
         clock,

@@ -1,25 +1,29 @@
-use Rattle.px_num.proofs.Basics.{◌+◌, ◌*◌, ◌<◌, ap, refl, ◌∙◌, arith, inl, inr, cases_eq}
+use Rattle.px_num.proofs.Basics.{◌+◌, ◌<◌, ap, sym, ◌∙◌, arith, inl, inr, cases_eq}
 use Rattle.px_num.specs.Bits.{nat_bit}
+use Rattle.px_state.proofs.ActingLemmas.{same_pixel}
+use Rattle.px_state.specs.Cells.{leaves_at}
 use Rattle.px_state.proofs.acting.act_all.Goals as goal
 
 pub loop-k-preserved : goal.loop-k-preserved
 loop-k-preserved c =
     let before = c.loop-k.invariant in
     let act = c.act_word.ensures in
-    let bits = c.args.shape.now.bits in
-    let plane = c.args.shape.now.plane in
+    let shape = c.args.shape.now in
+    let plane = shape.plane in
     let k = c.loop-k.k in
     let in_plane : k < plane = c.loop-k-test.true in
     record {
-      done = λ j i low inside. elim (cases_eq j k) [
+      done = λ j low i p bit long is. elim (cases_eq j k) [
         | inl same ↦
-            let leaf = ap (λ w. nat_bit w i) (before.behind ((bits + 3) * plane + k) (omega arith)) in
-            rw same (act.acted i inside ∙ rw (leaf, before.rest k i (omega arith) in_plane) refl)
-        | inr other ↦ act.others j i (omega (arith, in_plane, low)) other
-            ∙ before.done j i (omega (arith, low, other)) inside
+            let leaf = ap (λ w. nat_bit w i) (before.behind (leaves_at shape + k) (omega arith)) in
+            rw (same, sym leaf) (act.acted i p bit long (same_pixel shape.bits plane k i c.args.words.now c.loop-k.words p
+            (λ b below. before.rest b k (omega arith) in_plane) (rw same at is)))
+        | inr other ↦
+            let within : j < plane = omega (arith, in_plane, low) in
+            same_pixel shape.bits plane j i c.loop-k.words c.act_word.new.words _
+            (λ b below. act.others b j within other) (before.done j (omega (arith, low, other)) i p bit long is)
       ];
-      rest = λ j i high within. act.others j i within (omega (arith, high))
-          ∙ before.rest j i (omega (arith, high)) within;
+      rest = λ b j high within. act.others b j within (omega (arith, high)) ∙ before.rest b j (omega (arith, high)) within;
       behind = λ j past. act.behind j past ∙ before.behind j past;
       same = act.length ∙ before.same;
     }

@@ -1,47 +1,62 @@
-use Rattle.px_num.proofs.Basics.{◌≡◌, ℕ, ◌+◌, ◌*◌, ◌<◌, false, sym, refl, ◌∙◌}
-use Rattle.px_num.proofs.ListLaws.{get_or-tabulate, length-tabulate}
-use Rattle.px_num.specs.Bits.{bit_at, nat_bit}
-use Rattle.px_planes.specs.Pixels.{acted_at}
-use Rattle.px_state.specs.Cells.{leaf_in, pixel_in_words, word_bit}
+use Rattle.px_num.proofs.Basics.{ℕ, ◌+◌, ◌*◌, ◌<◌, ap, sym, ◌∙◌, arith, inl, inr, cases_eq}
+use Rattle.px_num.specs.Bits.{nat_bit}
+use Rattle.px_state.proofs.ActingLemmas.{other_bits}
+use Rattle.px_state.proofs.ShapeLemmas.{apart, beside, plane_end}
+use Rattle.px_state.specs.Cells.{leaves_at}
 use Rattle.px_state.specs.Packing.{memory_place}
-use Rattle.px_state.proofs.ActingLemmas.{length-acted, other_bits, other_pixel, written_pixel}
+use Rattle.px_state.specs.Words.{word_bit}
 use Rattle.px_state.proofs.acting.act_word.Goals as goal
 
 pub returns-clause-acted : goal.returns-clause-acted
-returns-clause-acted c = λ i within.
-    let bits = c.args.shape.now.bits in
-    let plane = c.args.shape.now.plane in
-    let at = memory_place c.args.act.now in
-    let words = c.args.words.now in
-    let inside = nat_bit c.args.shape.now.full i in
-    let t = leaf_in bits plane words c.args.k i in
-    let old = pixel_in_words bits plane words c.args.k i in
-    let long = length-tabulate bits (λ at. word_bit words (at * plane + c.args.k) i) in
-    let bit : (b : ℕ) → b < bits → bit_at old.memory b ≡ word_bit words (b * plane + c.args.k) i =
-    λ b below. get_or-tabulate bits (λ at. word_bit words (at * plane + c.args.k) i) b false below in
-    let is = (rw (
-      c.word-memory.ensures,
-      c.place_of.ensures,
-      c.word-enable.ensures,
-      c.word-carry.ensures,
-      c.word-latch.ensures,
-      c.word.ensures,
-    ) at (c.acted-new.ensures i old within)) (rw long c.requires.place) (record {
-      memory = sym (bit at c.requires.place);
-      enable = refl;
-      carry = refl;
-      latch = refl;
+returns-clause-acted c = λ i p bit long is.
+    let shape = c.args.shape.now in
+    let bits = shape.bits in
+    let plane = shape.plane in
+    let k = c.args.k in
+    let a = c.args.act.now in
+    let at = memory_place a in
+    let put = rw c.place_of-at.ensures at c.put_cells.ensures in
+    let cell = (rw (
+      c.start.ensures.start,
+      c.start-2.ensures.start,
+      c.start-3.ensures.start,
+      c.start-4.ensures.start,
+      c.start-5.ensures.start,
+      c.place_of-at.ensures,
+    ) at (c.acted.ensures i p bit)) (rw long c.requires.place) (record {
+      memory = is.memory at c.requires.place;
+      enable = is.enable;
+      carry = is.carry;
+      latch = is.latch;
     }) in
-    rw (c.word-memory.ensures, c.place_of.ensures, c.word-enable.ensures, c.word-carry.ensures, c.word-latch.ensures)
-    (written_pixel bits plane at c.args.k words c.acted-new.result.memory c.acted-new.result.enable
-    c.acted-new.result.carry c.acted-new.result.latch c.requires.place c.requires.within c.requires.room i
-    (acted_at inside c.args.act.now t old) is.memory is.enable is.carry is.latch
-    (length-acted inside c.args.act.now t old ∙ long)
-    (λ b below other. other_bits inside c.args.act.now t old b other ∙ bit b below))
+    let here = c.requires.within in
+    record {
+      memory = λ b below. elim (cases_eq b at) [
+        | inl same ↦ rw same (ap (λ w. nat_bit w i) put.memory ∙ cell.memory)
+        | inr other ↦
+            ap (λ w. nat_bit w i) (put.others (b * plane + k) (apart b at plane k k here here other)
+            (apart b bits plane k k here here (omega arith)) (apart b (bits + 1) plane k k here here (omega arith))
+            (apart b (bits + 2) plane k k here here (omega arith)))
+            ∙ (is.memory b below
+            ∙ sym (other_bits (nat_bit shape.full i) a (word_bit c.args.words.now (leaves_at shape + k) i) p b other))
+      ];
+      enable = ap (λ w. nat_bit w i) put.enable ∙ cell.enable;
+      carry = ap (λ w. nat_bit w i) put.carry ∙ cell.carry;
+      latch = ap (λ w. nat_bit w i) put.latch ∙ cell.latch;
+    }
 
 pub returns-clause-others : goal.returns-clause-others
-returns-clause-others c = λ j i in_plane other.
-    rw (c.word-memory.ensures, c.place_of.ensures, c.word-enable.ensures, c.word-carry.ensures, c.word-latch.ensures)
-    (other_pixel c.args.shape.now.bits c.args.shape.now.plane (memory_place c.args.act.now) c.args.k c.args.words.now
-    c.acted-new.result.memory c.acted-new.result.enable c.acted-new.result.carry c.acted-new.result.latch
-    c.requires.place c.requires.within c.requires.room j i in_plane other)
+returns-clause-others c = λ b j within other.
+    let plane = c.args.shape.now.plane in
+    let apart = λ (at : ℕ). beside b at plane j c.args.k within c.requires.within other in
+    c.put_cells.ensures.others (b * plane + j) (apart _) (apart _) (apart _) (apart _)
+
+pub returns-clause-behind : goal.returns-clause-behind
+returns-clause-behind c = λ j past.
+    let shape = c.args.shape.now in
+    let low : (b : ℕ) → b < shape.bits + 3 → b * shape.plane + c.args.k < leaves_at shape =
+    λ b below. omega (arith, c.requires.within, plane_end b (shape.bits + 3) shape.plane below) in
+    c.put_cells.ensures.others j
+    (omega (arith, past, low c.place_of-at.result (omega (arith, c.place_of-at.ensures, c.requires.place))))
+    (omega (arith, past, low shape.bits (omega arith))) (omega (arith, past, low (shape.bits + 1) (omega arith)))
+    (omega (arith, past, low (shape.bits + 2) (omega arith)))

@@ -1,7 +1,7 @@
 use Rattle.px_num.proofs.Basics.{◌%◌, ◌∙◌, ◌==◌}
 use Rattle.px_num.specs.Bits.{nat_bit}
 use Rattle.px_rows.proofs.BitLaws.{bit_of_zero, odd_bits}
-use Rattle.px_state.proofs.FeedingLemmas.{carry_law, output_law}
+use Rattle.px_state.proofs.NodeLemmas.{carry_law, output_law}
 use Rattle.px_state.proofs.feeding.next_words.Goals as goal
 
 pub returns-clause-output : goal.returns-clause-output

@@ -1,21 +1,16 @@
-use Rattle.px_num.proofs.Basics.{◌≡◌, ap, sym, ◌∙◌, arith}
+use Rattle.px_num.proofs.Basics.{ap, ◌∙◌}
 use Rattle.px_rows.specs.Rows.{row_bit}
-use Rattle.px_state.specs.Turning.{turned_place, exchanged}
-use Rattle.px_state.proofs.TurningLemmas.{crossed_all, crossed_more, crossed_none, exchanged_below}
+use Rattle.px_state.specs.Turning.{shuffled}
+use Rattle.px_state.proofs.TurningLemmas.{shuffled_below, shuffled_often}
 use Rattle.px_state.proofs.turning.turned_block.Goals as goal
 
-pub loop-k-init : goal.loop-k-init
-loop-k-init c = λ p within. ap (row_bit c.args.block.now) (sym (crossed_none p))
-
-pub loop-k-preserved : goal.loop-k-preserved
-loop-k-preserved c = λ p within.
-    let k = c.loop-k.k in
-    c.exchanged-words.ensures p within
-    ∙ (c.loop-k.invariant (exchanged k p) (exchanged_below k p c.loop-k-test.true within)
-    ∙ ap (row_bit c.args.block.now) (crossed_more k p c.loop-k-test.true within))
-
 pub returns : goal.returns
-returns c = λ p within.
-    let last : c.loop-k.k ≡ 6 = omega (arith, c.loop-k-test.false, c.loop-k.auto.k-end) in
-    c.loop-k.invariant p within
-    ∙ ap (row_bit c.args.block.now) (ap (λ k. turned_place k p) last ∙ crossed_all p within)
+returns c = λ p w.
+    let one = shuffled_below p w in
+    let two = shuffled_below (shuffled p) one in
+    let three = shuffled_below (shuffled (shuffled p)) two in
+    let four = shuffled_below (shuffled (shuffled (shuffled p))) three in
+    let five = shuffled_below (shuffled (shuffled (shuffled (shuffled p)))) four in
+    c.shuffled.ensures p w ∙ (c.shuffled-fifth.ensures _ one ∙ (c.shuffled-fourth.ensures _ two
+    ∙ (c.shuffled-third.ensures _ three ∙ (c.shuffled-second.ensures _ four ∙ (c.shuffled-first.ensures _ five
+    ∙ ap (row_bit c.args.block.now) (shuffled_often p w))))))

@@ -1,0 +1,165 @@
+-- The nodes of a tree whose latches stand in words.
+use Rattle.px_num.proofs.Basics.{◌≡◌, ℕ, ◌+◌, ◌*◌, ◌/◌, ◌%◌, ◌^◌, ◌<◌, ◌≤◌, ◌==◌, ◌&&◌, eqb, nat_lt, nat_le, Bool}
+use Rattle.px_num.proofs.Basics.{true, false, cond, List, get_or, refl, sym, ap, ◌∙◌, arith, inl, inr, cases_eq}
+use Rattle.px_num.proofs.Basics.{cases_lt, get_or-replicate, pow-add}
+use Rattle.px_num.proofs.ListLaws.{get_or-tabulate}
+use Rattle.px_num.proofs.TruthLaws.{and_true, le_false, le_true, lt_false, lt_true, power_grows}
+use Rattle.px_num.specs.Bits.{majority, nat_bit, xor}
+use Rattle.px_plane_tree.specs.Lent.{IsLatch}
+use Rattle.px_rows.proofs.BitLaws.{bit_of_zero}
+use Rattle.px_tree.specs.Nodes.{TreeState, after_feed, at_place, cleared, next_at, next_node, zero_node}
+use Rattle.px_tree.specs.declared.lines.Lines.{Lines}
+use Rattle.px_tree.specs.declared.node.Node.{Node}
+use Rattle.px_state.proofs.ShapeLemmas.{plane_end}
+use Rattle.px_state.specs.Cells.{HoldsNodes, IsShape, IsShapeOf, nodes_at, placed}
+use Rattle.px_state.specs.Words.{IsNodeWord, node_bit, padded_leaf}
+use Rattle.px_state.specs.declared.shape.Shape.{Shape}
+
+-- the node table by its two cases
+pub output_law : (odd p l c : Bool) → cond odd (xor p (xor l c)) p ≡ (next_node odd p l c).output
+output_law true p l c = refl
+output_law false p l c = refl
+
+pub carry_law : (odd p l c zero : Bool) → zero ≡ false → cond odd (majority p l c) zero ≡ (next_node odd p l c).carry
+carry_law true p l c zero none = refl
+carry_law false p l c zero none = none
+
+-- the parents of nodes, of which the root is line c
+pub parents_root : (word j : ℕ) (c : Bool) → 2 ≤ j → j < 64
+    → cond (nat_lt (j / 2) 2) (c && eqb (j / 2) 1) (nat_bit word (j / 2)) ≡ cond (nat_lt j 4) c (nat_bit word (j / 2))
+parents_root word j c some within = elim (cases_lt j 4) [
+  | inl low ↦ let one : j / 2 ≡ 1 = omega arith in rw (lt_true j 4 low, one) (and_true c)
+  | inr high ↦ rw (lt_false j 4 high, lt_false (j / 2) 2 (omega arith)) refl
+]
+
+module _ (shape : Shape) (tree : TreeState) (size : IsShapeOf shape tree) where
+  abbrev total : ℕ
+  total = 2 ^ (shape.nx + shape.ny + 1)
+
+  pub node_inside : (latch : Node → Bool) (p : ℕ) → 2 ≤ p → p < total
+      → node_bit latch tree p ≡ latch (at_place tree.nodes p)
+  node_inside latch p some inside = rw (size.columns, size.rows, lt_false p 2 some, lt_true p total inside) refl
+
+  -- a word with the bits f of the nodes that there are has the latches of a tree whose nodes have these bits
+  pub masked : (latch : Node → Bool) (there word w : ℕ)
+      → ((j : ℕ) → j < 64 → nat_bit there j ≡ (nat_le 2 (64 * w + j) && nat_lt (64 * w + j) total))
+      → ((j : ℕ) → j < 64 → 2 ≤ 64 * w + j → 64 * w + j < total
+      → nat_bit word j ≡ latch (at_place tree.nodes (64 * w + j)))
+      → (j : ℕ) → j < 64 → cond (nat_bit there j) (nat_bit word j) (nat_bit 0 j) ≡ node_bit latch tree (64 * w + j)
+  masked latch there word w is each j within =
+      let p = 64 * w + j in
+      elim (cases_lt p 2) [
+        | inl low ↦ rw (is j within, le_false 2 p low, lt_true p 2 low) (bit_of_zero j)
+        | inr some ↦ elim (cases_lt p total) [
+          | inl inside ↦
+              rw (is j within, le_true 2 p some, lt_true p total inside) (each j within some inside
+              ∙ sym (node_inside latch p some inside))
+          | inr past ↦
+              rw (
+                is j within,
+                le_true 2 p some,
+                lt_false p total past,
+                size.columns,
+                size.rows,
+                lt_false p 2 some,
+                lt_false p total past,
+              ) (bit_of_zero j)
+        ]
+      ]
+
+  -- a feed, by the word of the parents' outputs and that of the carries
+  module _ (lines : Lines) (w parents carry above line : ℕ) (outputs : IsNodeWord (λ n. n.output) tree (w / 2) parents)
+      (carries : IsNodeWord (λ n. n.carry) tree w carry)
+      (above_is : (j : ℕ) → j < 64 → 2 ≤ 64 * w + j → nat_bit above j
+      ≡ cond (nat_lt (64 * w + j) 4) lines.c (nat_bit parents (32 * (w % 2) + j / 2)))
+      (line_is : (j : ℕ) → j < 64 → nat_bit line j
+      ≡ cond (nat_lt (64 * w + j) (2 ^ (shape.nx + 1))) lines.a lines.b) where
+    pub fed_node : (j : ℕ) → j < 64 → 2 ≤ 64 * w + j → 64 * w + j < total
+        → next_node (j % 2 == 1) (nat_bit above j) (nat_bit line j) (nat_bit carry j)
+        ≡ at_place (after_feed lines.a lines.b lines.c tree).nodes (64 * w + j)
+    fed_node j within some inside =
+        let p = 64 * w + j in
+        let odd : j % 2 ≡ p % 2 = omega arith in
+        let half : 64 * (w / 2) + (32 * (w % 2) + j / 2) ≡ p / 2 = omega arith in
+        let latch : nat_bit carry j ≡ (at_place tree.nodes p).carry =
+        carries j within ∙ node_inside (λ n. n.carry) p some inside in
+        let parent : cond (nat_lt p 4) lines.c (nat_bit parents (32 * (w % 2) + j / 2))
+        ≡ cond (nat_lt p 4) lines.c (at_place tree.nodes (p / 2)).output =
+        elim (cases_lt p 4) [
+          | inl root ↦ rw (lt_true p 4 root) refl
+          | inr deep ↦ rw (lt_false p 4 deep) (outputs (32 * (w % 2) + j / 2) (omega arith)
+              ∙ (ap (node_bit (λ n. n.output) tree) half
+              ∙ node_inside (λ n. n.output) (p / 2) (omega arith) (omega arith)))
+        ] in
+        rw (size.columns, size.rows, above_is j within some, parent, line_is j within, latch, odd)
+        (sym (get_or-tabulate total (next_at lines.a lines.b lines.c (2 ^ (shape.nx + 1)) tree.nodes) p zero_node inside
+        ∙ rw (lt_false p 2 some) refl))
+
+  -- the latches of a tree that is cleared
+  pub none : (latch : Node → Bool) (p : ℕ) → latch zero_node ≡ false → node_bit latch (cleared tree.nx tree.ny) p ≡ false
+  none latch p zero = elim (cases_lt p 2) [
+    | inl low ↦ rw (lt_true p 2 low) refl
+    | inr some ↦ elim (cases_lt p (2 ^ (tree.nx + tree.ny + 1))) [
+      | inl inside ↦
+          rw (
+            lt_false p 2 some,
+            lt_true p (2 ^ (tree.nx + tree.ny + 1)) inside,
+            get_or-replicate (2 ^ (tree.nx + tree.ny + 1)) p zero_node zero_node inside,
+          ) zero
+      | inr past ↦ rw (lt_false p 2 some, lt_false p (2 ^ (tree.nx + tree.ny + 1)) past) refl
+    ]
+  ]
+
+  pub cleared_nodes : (words : List ℕ) → ((k : ℕ) → k < 2 * shape.nodes → get_or words (nodes_at shape + k) 0 ≡ 0)
+      → HoldsNodes shape (cleared tree.nx tree.ny) words
+  cleared_nodes words zero = record {
+    output = λ k within i bit.
+        ap (λ w. nat_bit w i) (zero k (omega arith)) ∙ (bit_of_zero i ∙ sym (none (λ n. n.output) (64 * k + i) refl));
+    carry = λ k within i bit.
+        let place : nodes_at shape + shape.nodes + k ≡ nodes_at shape + (shape.nodes + k) = omega arith in
+        ap (λ k. nat_bit (get_or words k 0) i) place ∙ (ap (λ w. nat_bit w i) (zero (shape.nodes + k) (omega arith))
+        ∙ (bit_of_zero i ∙ sym (none (λ n. n.carry) (64 * k + i) refl)));
+  }
+
+  -- a leaf is the node behind those of the levels above
+  pub leaf_law : (nodes : List ℕ) → IsShape shape
+      → ((k : ℕ) → k < shape.nodes → IsNodeWord (λ n. n.output) tree k (get_or nodes k 0)) → (x y : ℕ) → y < 2 ^ shape.ny
+      → placed shape nodes (2 ^ shape.nx) x y ≡ padded_leaf tree x y
+  leaf_law nodes is held x y row = rw size.columns (elim (cases_lt x (2 ^ shape.nx)) [
+    | inr past ↦ rw (lt_false x (2 ^ shape.nx) past) refl
+    | inl column ↦
+        let p = (2 ^ shape.nx + x) * 2 ^ shape.ny + y in
+        let leaves : 2 ^ (shape.nx + shape.ny) ≡ 2 ^ shape.nx * 2 ^ shape.ny = pow-add 2 shape.nx shape.ny in
+        let twice : total ≡ 2 * 2 ^ (shape.nx + shape.ny) = omega (arith, pow-add 2 (shape.nx + shape.ny) 1) in
+        let place : p ≡ 2 ^ (shape.nx + shape.ny) + (x * 2 ^ shape.ny + y) = omega (arith, leaves) in
+        let within : x * 2 ^ shape.ny + y < 2 ^ (shape.nx + shape.ny) =
+        omega (arith, leaves, plane_end x (2 ^ shape.nx) (2 ^ shape.ny) column) in
+        let some : 2 ≤ 2 ^ (shape.nx + shape.ny) = power_grows 1 (shape.nx + shape.ny) (omega (arith, is.grid)) in
+        let inside : p < total = omega (arith, place, within, twice) in
+        let whole : 64 * (p / 64) + p % 64 ≡ p = omega arith in
+        rw (lt_true x (2 ^ shape.nx) column, size.rows)
+        (held (p / 64) (omega (arith, inside, is.nodes)) (p % 64) (omega arith)
+        ∙ (ap (node_bit (λ n. n.output) tree) whole ∙ (node_inside (λ n. n.output) p (omega (arith, place, some)) inside
+        ∙ ap (λ p. (at_place tree.nodes p).output) place)))
+  ])
+
+-- a word of nodes more, and those that were written before
+module _ (shape : Shape) (latch : Node → Bool) (tree : TreeState) (from v word : ℕ) (old new : List ℕ)
+    (put : get_or new (from + v) 0 ≡ word)
+    (kept : (k : ℕ) → k < shape.nodes → (k ≡ v → ⊥) → get_or new (from + k) 0 ≡ get_or old (from + k) 0)
+    (is : IsNodeWord latch tree v word) where
+  pub one_more_word : (k : ℕ) → k < shape.nodes
+      → ((k ≡ v → ⊥) → IsNodeWord latch tree k (get_or old (from + k) 0))
+      → IsNodeWord latch tree k (get_or new (from + k) 0)
+  one_more_word k within before i bit = elim (cases_eq k v) [
+    | inl same ↦ rw (same, put) (is i bit)
+    | inr other ↦ ap (λ w. nat_bit w i) (kept k within other) ∙ before other i bit
+  ]
+
+-- the word of a row of latches, where there are nodes
+pub latch_word : (tree : TreeState) (latch : Node → Bool) (row : List ℕ) (w j : ℕ) → IsLatch tree latch row → j < 64
+    → 64 * w + j < 2 ^ (tree.nx + tree.ny + 1) → nat_bit (get_or row w 0) j ≡ latch (at_place tree.nodes (64 * w + j))
+latch_word tree latch row w j is within inside =
+    let word : (64 * w + j) / 64 ≡ w = omega arith in
+    let bit : (64 * w + j) % 64 ≡ j = omega arith in
+    rw (word, bit) at (is.each (64 * w + j) inside)

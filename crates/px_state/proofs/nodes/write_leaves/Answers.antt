@@ -1,0 +1,70 @@
+use Rattle.px_num.proofs.Basics.{◌≡◌, ℕ, ◌+◌, ◌-◌, ◌*◌, ◌^◌, ◌<◌, ap, inl, inr, sym, ◌∙◌, arith, get_or, length, pow-add}
+use Rattle.px_num.proofs.Basics.{get_or-append_right, get_or_append_left}
+use Rattle.px_num.proofs.TruthLaws.{power_grows}
+use Rattle.px_num.specs.Bits.{nat_bit}
+use Rattle.px_state.proofs.NodeLemmas.{leaf_law}
+use Rattle.px_state.proofs.ShapeLemmas.{plane_end}
+use Rattle.px_state.specs.Cells.{leaves_at, nodes_at}
+use Rattle.px_state.specs.Words.{IsNodeWord, row_words}
+use Rattle.px_state.proofs.nodes.write_leaves.Goals as goal
+
+pub write_plane-requires-clause-from : goal.write_plane-requires-clause-from
+write_plane-requires-clause-from c =
+    rw c.power.ensures (power_grows c.args.shape.now.nx 9 c.requires.shape.grid.0.1)
+
+pub write_plane-requires-clause-row : goal.write_plane-requires-clause-row
+write_plane-requires-clause-row c =
+    let shape = c.args.shape.now in
+    rw c.power.ensures (omega (
+      arith,
+      pow-add 2 shape.nx shape.ny,
+      pow-add 2 (shape.nx + shape.ny) 1,
+      c.requires.shape.nodes,
+      c.requires.room,
+      c.start.ensures.start,
+      c.split_at_mut-planes.ensures.back_len,
+    ))
+
+pub returns-clause-leaves : goal.returns-clause-leaves
+returns-clause-leaves c = λ tree size held y k i row low bit.
+    let shape = c.args.shape.now in
+    let is = c.requires.shape in
+    let cut = c.split_at_mut-planes in
+    let new = c.write_plane.new.words in
+    let nodes = cut.result.1.now in
+    let each = row_words shape.nx in
+    let place = leaves_at shape + (y * each + k) in
+    let long : length cut.result.0.now ≡ nodes_at shape = cut.ensures.front_len ∙ c.start.ensures.start in
+    let inside : place < length new =
+    omega (arith, long, c.write_plane.ensures.length, is.plane, low, plane_end y (2 ^ shape.ny) each row) in
+    let outputs : (k : ℕ) → k < shape.nodes → IsNodeWord (λ n. n.output) tree k (get_or nodes k 0) =
+    λ k within i bit.
+    let back : nodes_at shape + k - nodes_at shape ≡ k = omega arith in
+    let read : get_or c.args.words.now (nodes_at shape + k) 0 ≡ get_or nodes k 0 =
+    ap (λ ws. get_or ws (nodes_at shape + k) 0) cut.ensures.value
+    ∙ (get_or-append_right cut.result.0.now nodes (nodes_at shape) (nodes_at shape + k) 0 long (omega arith)
+    ∙ ap (λ k. get_or nodes k 0) back) in
+    ap (λ w. nat_bit w i) (sym read) ∙ held.output k within i bit in
+    ap (λ w. nat_bit w i) (get_or_append_left new nodes 0 place inside)
+    ∙ ((rw (c.start-first.ensures.start, c.power.ensures) at c.write_plane.ensures.plane) y k i row low bit
+    ∙ leaf_law shape tree size nodes is outputs (64 * k + i) y row)
+
+pub returns-clause-others : goal.returns-clause-others
+returns-clause-others c = λ k out.
+    let shape = c.args.shape.now in
+    let cut = c.split_at_mut-planes in
+    let old = cut.result.0.now in
+    let new = c.write_plane.new.words in
+    let nodes = cut.result.1.now in
+    let long : length old ≡ nodes_at shape = cut.ensures.front_len ∙ c.start.ensures.start in
+    let same : length new ≡ nodes_at shape = c.write_plane.ensures.length ∙ long in
+    let value = ap (λ ws. get_or ws k 0) cut.ensures.value in
+    let others = rw c.start-first.ensures.start at c.write_plane.ensures.others in
+    elim out [
+      | inl low ↦
+          get_or_append_left new nodes 0 k (omega (arith, same, low)) ∙ (others k (inl low)
+          ∙ sym (value ∙ get_or_append_left old nodes 0 k (omega (arith, long, low))))
+      | inr past ↦
+          get_or-append_right new nodes (nodes_at shape) k 0 same past
+          ∙ sym (value ∙ get_or-append_right old nodes (nodes_at shape) k 0 long past)
+    ]

@@ -1,0 +1,17 @@
+use Rattle.px_num.proofs.Basics.{◌≡◌, ℕ, ◌+◌, ◌*◌, ◌<◌, ◌≤◌, ◌⊎◌, length, get_or}
+use Rattle.px_plane_tree.specs.Lent.{IsLatch}
+use Rattle.px_tree.specs.Nodes.{TreeState}
+use Rattle.px_state.specs.Cells.{IsShapeOf, nodes_at}
+use Rattle.px_state.specs.Words.{IsNodeWord}
+use Rattle.px_state.proofs.nodes.write_nodes.Given as goal
+
+abbrev pub invariant-loop-w : goal.invariant-loop-w
+invariant-loop-w l = record {
+  output : (tree : TreeState) → IsShapeOf l.shape tree → IsLatch tree (λ n. n.output) l.outputs → (k : ℕ) → k < l.w
+      → IsNodeWord (λ n. n.output) tree k (get_or l.words (nodes_at l.shape + k) 0);
+  carry : (tree : TreeState) → IsShapeOf l.shape tree → IsLatch tree (λ n. n.carry) l.carries → (k : ℕ) → k < l.w
+      → IsNodeWord (λ n. n.carry) tree k (get_or l.words (nodes_at l.shape + l.shape.nodes + k) 0);
+  others : (j : ℕ) → (j < nodes_at l.shape) ⊎ (nodes_at l.shape + 2 * l.shape.nodes ≤ j)
+      → get_or l.words j 0 ≡ get_or l.fn.words j 0;
+  same : length l.words ≡ length l.fn.words;
+}

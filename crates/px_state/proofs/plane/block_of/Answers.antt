@@ -1,0 +1,24 @@
+use Rattle.px_num.proofs.Basics.{ℕ, ◌+◌, ◌*◌, ◌^◌, ◌<◌, ◌≡◌, ◌∙◌, arith, length-set}
+use Rattle.px_num.proofs.TruthLaws.{power_grows}
+use Rattle.px_num.specs.Bits.{nat_bit}
+use Rattle.px_state.proofs.PlaneLemmas.{more_words}
+use Rattle.px_state.specs.Cells.{placed}
+use Rattle.px_state.proofs.plane.block_of.Goals as goal
+
+pub column_word-requires-clause-column : goal.column_word-requires-clause-column
+column_word-requires-clause-column c =
+    let shape = c.args.shape.now in
+    omega (arith, c.requires.columns, c.loop-i-test.true, power_grows shape.nx 9 c.requires.shape.grid.0.1)
+
+pub loop-i-preserved : goal.loop-i-preserved
+loop-i-preserved c =
+    let shape = c.args.shape.now in
+    let before = c.loop-i.invariant in
+    record {
+      done = λ i j low bit in_grid.
+          more_words (λ i word. (j : ℕ) → j < 64 → 64 * c.args.w + j < 2 ^ shape.ny
+          → nat_bit word j ≡ placed shape c.args.row.now c.args.from (64 * c.args.c + i) (64 * c.args.w + j))
+          c.loop-i.block c.loop-i.i c.column_word.result (omega (arith, before.same, c.loop-i-test.true))
+          (λ i low j bit in_grid. before.done i j low bit in_grid) c.column_word.ensures i low j bit in_grid;
+      same = length-set c.loop-i.block c.loop-i.i c.column_word.result ∙ before.same;
+    }

@@ -1,0 +1,11 @@
+use Rattle.px_num.proofs.Basics.{◌≡◌, ℕ, ◌+◌, ◌*◌, ◌^◌, ◌<◌, length, get_or}
+use Rattle.px_num.specs.Bits.{nat_bit}
+use Rattle.px_state.specs.Cells.{placed}
+use Rattle.px_state.proofs.plane.block_of.Given as goal
+
+abbrev pub invariant-loop-i : goal.invariant-loop-i
+invariant-loop-i l = record {
+  done : (i j : ℕ) → i < l.i → j < 64 → 64 * l.w + j < 2 ^ l.shape.ny
+      → nat_bit (get_or l.block i 0) j ≡ placed l.shape l.row l.from (64 * l.c + i) (64 * l.w + j);
+  same : length l.block ≡ 64;
+}

@@ -1,0 +1,14 @@
+use Rattle.px_num.proofs.Basics.{◌≡◌, ℕ, ◌+◌, ◌*◌, ◌/◌, ◌^◌, ◌<◌, ◌≤◌, ◌⊎◌, length, get_or}
+use Rattle.px_state.specs.Cells.{placed}
+use Rattle.px_state.specs.Words.{row_words, word_bit}
+use Rattle.px_state.proofs.plane.write_plane.Given as goal
+
+abbrev pub invariant-loop-b : goal.invariant-loop-b
+invariant-loop-b l =
+    let each = row_words l.shape.nx in
+    record {
+      done : (y c i : ℕ) → y < 2 ^ l.shape.ny → c < each → i < 64 → y / 64 * each + c < l.b
+          → word_bit l.words (l.first + (y * each + c)) i ≡ placed l.shape l.row l.from (64 * c + i) y;
+      others : (k : ℕ) → (k < l.first) ⊎ (l.first + l.shape.plane ≤ k) → get_or l.words k 0 ≡ get_or l.fn.words k 0;
+      same : length l.words ≡ length l.fn.words;
+    }
