@@ -3,10 +3,10 @@ use Rattle.px_num.proofs.Basics.{◌≡◌, ℕ, ◌+◌, ◌^◌, ◌<◌, Bool
 use Rattle.px_num.proofs.Basics.{if◌then◌else◌, refl, ◌∙◌, arith, length-append, length-set, length-replicate}
 use Rattle.px_num.proofs.Basics.{get_or-replicate}
 use Rattle.px_num.proofs.ListLaws.{get_or-tabulate, length-tabulate}
-use Rattle.px_pixel.specs.Acts.{after_act}
-use Rattle.px_pixel.specs.Pixels.{PixelState}
-use Rattle.px_pixel.specs.declared.act.Act.{Act}
-use Rattle.px_pixel.specs.declared.act.Act.TheVariants.{StoreTree, StoreLatch, StoreConst, Toggle, AddTree}
+use Rattle.px_array.specs.Acts.{after_act}
+use Rattle.px_array.specs.Pixels.{PixelState}
+use Rattle.px_array.specs.declared.act.Act.{Act}
+use Rattle.px_array.specs.declared.act.Act.TheVariants.{StoreTree, StoreLatch, StoreConst, Toggle, AddTree}
 use Rattle.px_tree.specs.Nodes.{TreeState, leaf_output}
 use Rattle.px_array.specs.Arrays.{Device, HasGrid, State, pixel_at, zero_state}
 use Rattle.px_array.specs.Clocks.{after_clock, after_clocks, after_tree_op, all_clocked}

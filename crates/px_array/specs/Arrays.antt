@@ -1,7 +1,7 @@
 -- What a contract sees of an array: the state of every pixel and node, and the clocks. Clauses of public calls
 -- stand on it.
 use Rattle.std.specs.Prelude.{◌≡◌, ℕ, ◌+◌, ◌*◌, ◌^◌, ◌<◌, ◌≤◌, List, [], length, replicate, slice_index_or}
-use Rattle.px_pixel.specs.Pixels.{PixelState, zero_pixel}
+use Rattle.px_array.specs.Pixels.{PixelState, zero_pixel}
 use Rattle.px_tree.specs.Nodes.{TreeState, cleared}
 use Rattle.px_array.specs.declared.micro.Registers.{Registers}
 

@@ -1,9 +1,9 @@
 -- One clock of an array, and a run of clocks. Clauses of public calls stand on it.
 use Rattle.std.specs.Prelude.{ℕ, ◌+◌, ◌^◌, All, List, [], ◌∷◌, length, slice_index_or}
 use Rattle.px_num.specs.Lists.{tabulate}
-use Rattle.px_pixel.specs.Acts.{HasPlace, after_act}
-use Rattle.px_pixel.specs.Pixels.{PixelState}
-use Rattle.px_pixel.specs.declared.act.Act.{Act}
+use Rattle.px_array.specs.Acts.{HasPlace, after_act}
+use Rattle.px_array.specs.Pixels.{PixelState}
+use Rattle.px_array.specs.declared.act.Act.{Act}
 use Rattle.px_tree.specs.Nodes.{TreeState, after_feed, cleared, leaf_output}
 use Rattle.px_array.specs.Arrays.{Device, State, no_pixel}
 use Rattle.px_array.specs.declared.micro.Micro.{Micro}

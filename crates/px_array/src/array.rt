@@ -1,7 +1,7 @@
 //! What an array is, however it keeps its pixels and nodes.
 ghost use Rattle.std.specs.Prelude.{◌≡◌, ◌-◌, ◌*◌, ◌^◌, ◌<◌, ◌≤◌, ℕ, OnErr, OnOk, length};
 ghost use Rattle.px_num.specs.Bits.{bit_at};
-ghost use Rattle.px_pixel.specs.Acts.{HasPlace};
+ghost use Rattle.px_array.specs.Acts.{HasPlace};
 ghost use Rattle.px_tree.specs.Nodes.{IsGrid, leaf_bit, node_at};
 ghost use Rattle.px_array.specs.Arrays.{HasPixel, IsClosed, IsOpen, closed, opened};
 ghost use Rattle.px_array.specs.Arrays.{levels_of, pixel_of, registers_of};

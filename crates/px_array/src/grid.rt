@@ -1,7 +1,7 @@
 //! What an open array is made of, however it keeps its pixels and nodes.
 ghost use Rattle.std.specs.Prelude.{◌≡◌, ◌-◌, ◌*◌, ◌^◌, ◌<◌, ◌≤◌, ℕ, IfOk, IsSome, Some};
 ghost use Rattle.px_num.specs.Bits.{bit_at};
-ghost use Rattle.px_pixel.specs.Acts.{HasPlace};
+ghost use Rattle.px_array.specs.Acts.{HasPlace};
 ghost use Rattle.px_tree.specs.Nodes.{IsGrid, leaf_bit, node_at};
 ghost use Rattle.px_array.specs.Arrays.{Device, HasPixel, IsOpen, levels_of, opened, pixel_of};
 ghost use Rattle.px_array.specs.Arrays.{registers_of};

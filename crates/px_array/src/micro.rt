@@ -2,7 +2,7 @@
 ghost use Rattle.std.specs.Prelude.{◌≡◌, ◌≤◌};
 ghost use Rattle.px_array.specs.Arrays.{registers_of};
 
-use px_pixel::{Act, Pixel};
+use crate::{Act, Pixel};
 
 /// What the multiplier tree does in a clock (docs/MACHINE.md, "The multiplier tree").
 #[derive(Clone, Copy)]

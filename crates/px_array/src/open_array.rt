@@ -4,7 +4,7 @@ ghost use Rattle.px_array.specs.Arrays.{opened};
 ghost use Rattle.px_array.specs.Clocks.{clocked};
 ghost use Rattle.px_array.specs.OpenArrays.{AreEmpty};
 ghost use Rattle.px_array.specs.Slots.{ArrayView, IsSaved, after_save, no_slots, slot_of, worked};
-ghost use Rattle.px_pixel.specs.Acts.{HasPlace};
+ghost use Rattle.px_array.specs.Acts.{HasPlace};
 ghost use Rattle.px_tree.specs.Nodes.{IsGrid};
 
 use crate::grid::Grid;

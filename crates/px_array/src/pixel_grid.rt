@@ -1,6 +1,6 @@
 //! The grid that keeps its pixels one by one.
 ghost use Rattle.std.specs.Prelude.{◌≡◌, ◌+◌, ◌*◌, ◌^◌, ◌<◌, ◌≤◌, None, Some, if◌then◌else◌, length};
-ghost use Rattle.px_pixel.specs.Acts.{HasPlace};
+ghost use Rattle.px_array.specs.Acts.{HasPlace};
 ghost use Rattle.px_tree.specs.Nodes.{IsGrid, leaf_output};
 ghost use Rattle.px_array.specs.Clocks.{acted};
 ghost use Rattle.px_array.specs.Words.{memory_bit};
@@ -8,8 +8,8 @@ ghost use Rattle.px_array.specs.Words.{memory_bit};
 use crate::array_of::ArrayOf;
 use crate::grid::{Grid, move_tree};
 use crate::micro::{Micro, Registers};
+use crate::{Act, Pixel};
 use px_num::{Memory, power};
-use px_pixel::{Act, Pixel};
 use px_tree::{NodeTree, Tree, leaf_index};
 use std::alloc::Global;
 use std::marker::Model;

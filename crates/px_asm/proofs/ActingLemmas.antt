@@ -1,7 +1,7 @@
 -- One pixel under a list of acts, each with the bit of the tree that it sees then.
 use Rattle.px_num.proofs.Basics.{◌≡◌, ℕ, zero, suc, ◌+◌, ◌<◌, Bool, refl, ap, ◌∙◌, arith}
 use Rattle.px_asm.proofs.Words.{Act, after_act, PixelState}
-use Rattle.px_pixel.specs.declared.act.Act.TheVariants.{Nop}
+use Rattle.px_array.specs.declared.act.Act.TheVariants.{Nop}
 
 -- a pixel after n acts
 abbrev pub after_acts : (act : ℕ → Act) (tree : ℕ → Bool) → ℕ → PixelState → PixelState

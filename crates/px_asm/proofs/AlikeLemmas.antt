@@ -6,7 +6,7 @@ use Rattle.px_asm.proofs.Words.{all_known, all_micros, all_renewed, Clear, cycle
 use Rattle.px_asm.proofs.Words.{HasGrid, Hold, IsLawful, Known, Macro, Micro, micro_at, micros, no_pixel, pixel_at}
 use Rattle.px_asm.proofs.Words.{pixel_at-after_clock, PixelState, renewed, State, tree_at, TreeOp, TreeState}
 use Rattle.px_asm.proofs.StepLemmas.{run_is_steps, steps}
-use Rattle.px_pixel.specs.declared.act.Act.TheVariants as act
+use Rattle.px_array.specs.declared.act.Act.TheVariants as act
 use Rattle.px_macro.specs.declared.operation.Macro.TheVariants as m
 
 pub record AlikePixels (k : Known) (p q : PixelState) : Type 0 where

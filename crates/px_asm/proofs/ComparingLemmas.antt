@@ -6,7 +6,7 @@ use Rattle.px_asm.proofs.Words.{keep, kept, less_act, modulo, modulo-flipped, mo
 use Rattle.px_asm.proofs.Words.{NumberIsBelow, PixelState}
 use Rattle.px_asm.proofs.ActingLemmas.{after_acts}
 use Rattle.px_asm.proofs.StoringLemmas.{two_more}
-use Rattle.px_pixel.specs.declared.act.Act.TheVariants as act
+use Rattle.px_array.specs.declared.act.Act.TheVariants as act
 
 rest_of_small : (n w : ℕ) → n < 2 ^ w → n % 2 ^ w ≡ n
 rest_of_small n w below = mod-eq_of_lt below

@@ -8,7 +8,7 @@ use Rattle.px_asm.proofs.ActingLemmas.{after_acts, after_acts-parts, after_acts-
 use Rattle.px_asm.proofs.ComparingLemmas.{HasCompared, kept_by_carry}
 use Rattle.px_asm.proofs.StoringLemmas.{put_by_stores, same_bits}
 use Rattle.px_asm.proofs.WrittenLemmas.{IsWritten, none_written, one_written, whole_written}
-use Rattle.px_pixel.specs.declared.act.Act.TheVariants as act
+use Rattle.px_array.specs.declared.act.Act.TheVariants as act
 
 waiting_act : (levels : ℕ) (first : Act) (each : ℕ → Act) (i : ℕ) → suc i ≤ levels → act_at levels first each (suc i)
     ≡ act.Nop

@@ -5,7 +5,7 @@ use Rattle.px_asm.proofs.Words.{Act, act_at, after_act, after_clocks, after_tree
 use Rattle.px_asm.proofs.Words.{LeavesTheRest, Macro, Micro, micro_at, micros, none_known, pixel_at}
 use Rattle.px_asm.proofs.Words.{pixel_at-after_clock, PixelState, renewed, State, TreeOp}
 use Rattle.px_asm.proofs.StepLemmas.{grid_after_steps, run_is_steps, steps}
-use Rattle.px_pixel.specs.declared.act.Act.TheVariants as act
+use Rattle.px_array.specs.declared.act.Act.TheVariants as act
 use Rattle.px_macro.specs.declared.operation.Macro.TheVariants as m
 
 no : true ≡ false → ⊥

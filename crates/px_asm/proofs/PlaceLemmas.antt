@@ -4,7 +4,7 @@ use Rattle.px_num.proofs.Basics.{nat_tests}
 use Rattle.px_asm.proofs.Words.{Act, act_at, AddLinear, Copy, cycles, get_or-tabulate, HasPlace, HaveTheirPlaces}
 use Rattle.px_asm.proofs.Words.{IsLawful, KeepAtMost, KeepLess, KeepSign, length-tabulate, LoadConst, LoadLinear}
 use Rattle.px_asm.proofs.Words.{Macro, Micro, micro_at}
-use Rattle.px_pixel.specs.declared.act.Act.TheVariants as act
+use Rattle.px_array.specs.declared.act.Act.TheVariants as act
 
 chosen : (bits : ℕ) (b : Bool) (p q : Act) → (b ≡ true → HasPlace bits p) → (b ≡ false → HasPlace bits q)
     → HasPlace bits (if b then p else q)

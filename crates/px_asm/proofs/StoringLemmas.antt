@@ -5,7 +5,7 @@ use Rattle.px_asm.proofs.Words.{Act, after_act, AreApart, bit_at, bits_of, BitsO
 use Rattle.px_asm.proofs.Words.{number_in, PixelState, stored, with_field, with_number}
 use Rattle.px_asm.proofs.ActingLemmas.{after_acts}
 use Rattle.px_asm.proofs.WrittenLemmas.{IsWritten, none_written, one_written, whole_written}
-use Rattle.px_pixel.specs.declared.act.Act.TheVariants as act
+use Rattle.px_array.specs.declared.act.Act.TheVariants as act
 
 -- each act of a run stores a bit of v
 abbrev pub StoreEach : (at n : ℕ) (v : ℕ → Bool) (act : ℕ → Act) (tree : ℕ → Bool) → Type 0

@@ -29,9 +29,9 @@ pub use Rattle.px_num.proofs.TruthLaws.{beq_true, itself_true, suc_not_zero}
 pub use Rattle.px_num.specs.Bits.{bit_at, bit_of, carry_from, modulo, nat_bit}
 pub use Rattle.px_num.specs.Forms.{IsInTreeRange, value_at}
 pub use Rattle.px_num.specs.declared.linear.Linear.{Linear}
-pub use Rattle.px_pixel.specs.Acts.{after_act, HasPlace, kept, stored}
-pub use Rattle.px_pixel.specs.Pixels.{PixelState}
-pub use Rattle.px_pixel.specs.declared.act.Act.{Act}
+pub use Rattle.px_array.specs.Acts.{after_act, HasPlace, kept, stored}
+pub use Rattle.px_array.specs.Pixels.{PixelState}
+pub use Rattle.px_array.specs.declared.act.Act.{Act}
 pub use Rattle.px_tree.proofs.PlaceLaws.{index_below}
 pub use Rattle.px_tree.specs.Nodes.{IsGrid, leaf_output, TreeState}
 pub use Rattle.px_tree.specs.TreeBit.{LeafGivesSign, LeafGivesValue}

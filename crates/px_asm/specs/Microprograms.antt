@@ -3,7 +3,7 @@
 use Rattle.std.specs.Prelude.{◌≡◌, ℕ, ◌^◌, ◌<◌, All, List}
 use Rattle.px_macro.specs.Macros.{IsLawful, PixelBits, after_macro, after_macros}
 use Rattle.px_macro.specs.declared.operation.Macro.{Macro}
-use Rattle.px_pixel.specs.Pixels.{PixelState}
+use Rattle.px_array.specs.Pixels.{PixelState}
 use Rattle.px_tree.specs.Nodes.{IsGrid}
 use Rattle.px_array.specs.Arrays.{HasGrid, State, pixel_of}
 use Rattle.px_array.specs.Clocks.{HavePlaces, after_clocks}

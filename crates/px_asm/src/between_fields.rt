@@ -2,13 +2,13 @@
 ghost use Rattle.std.specs.Prelude.{◌≡◌, ◌<◌, ◌+◌, ◌*◌, ◌^◌};
 ghost use Rattle.px_num.specs.Bits.{nat_bit};
 ghost use Rattle.px_macro.specs.Macros.{AreOfOneLength, IsField};
-ghost use Rattle.px_pixel.specs.declared.act.Act.TheVariants.{StoreConst};
+ghost use Rattle.px_array.specs.declared.act.Act.TheVariants.{StoreConst};
 ghost use Rattle.px_asm.specs.Micros.{copy_act as act_of_copy};
 ghost use Rattle.px_asm.specs.Micros.{less_act as act_of_less};
 
+use px_array::Act;
 use px_macro::Field;
 use px_num::bit_of;
-use px_pixel::Act;
 
 /// Stores a bit of the number.
 pub(crate) fn constant_act(field: &Field, number: u64, i: u32) -> Act

@@ -1,7 +1,7 @@
 //! The clocks in which a form is fed to the tree, and the acts on the bits of its value.
 ghost use Rattle.std.specs.Prelude.{◌≡◌, ◌<◌, ◌≤◌, ◌+◌, ◌==◌, true, false, if◌then◌else◌};
 ghost use Rattle.px_macro.specs.Macros.{IsField};
-ghost use Rattle.px_pixel.specs.declared.act.Act.TheVariants.{
+ghost use Rattle.px_array.specs.declared.act.Act.TheVariants.{
   AddTree,
   CarryTree,
   EnableTree,
@@ -13,10 +13,9 @@ ghost use Rattle.px_tree.specs.Nodes.{IsGrid};
 ghost use Rattle.px_asm.specs.Micros.{act_at};
 ghost use Rattle.px_asm.specs.Micros.{tree_at as tree_op_of};
 
-use px_array::{Micro, TreeOp};
+use px_array::{Act, Micro, TreeOp};
 use px_macro::Field;
 use px_num::Linear;
-use px_pixel::Act;
 use px_tree::lines_at;
 
 /// An act in clock `i` of an operation on a form.

@@ -1,7 +1,7 @@
 //! The table of micros.
 ghost use Rattle.std.specs.Prelude.{◌≡◌, ◌<◌, ◌≤◌, ℕ};
 ghost use Rattle.px_macro.specs.Macros.{IsLawful};
-ghost use Rattle.px_pixel.specs.Acts.{HasPlace};
+ghost use Rattle.px_array.specs.Acts.{HasPlace};
 ghost use Rattle.px_tree.specs.Nodes.{IsGrid};
 ghost use Rattle.px_asm.specs.Micros.{cycles as cycles_of};
 ghost use Rattle.px_asm.specs.Micros.{micro_at as micro_of};
@@ -9,9 +9,8 @@ ghost use Rattle.px_asm.specs.Micros.{micro_at as micro_of};
 use crate::between_fields::{constant_act, copy_act, less_act};
 use crate::of_forms::{add_act, bound_act, fed, load_act, sign_act};
 use crate::still::still;
-use px_array::Micro;
+use px_array::{Act, Micro};
 use px_macro::Macro;
-use px_pixel::Act;
 
 /// How many clocks an operation takes on a grid of `2^nx` by `2^ny` pixels, at most 82
 /// (docs/MACHINE.md, "Microprograms").

@@ -7,7 +7,7 @@ use Rattle.px_control.proofs.Words.{passes_leave_the_picture, pixel_of, rows_of,
 use Rattle.px_asm.specs.Microprograms.{bits_of}
 use Rattle.px_asm.proofs.ProgramLemmas.{micros_leave_the_meanings}
 use Rattle.px_macro.proofs.MacroLemmas.{is_lawful_in_more}
-use Rattle.px_pixel.specs.Pixels.{zero_pixel}
+use Rattle.px_array.specs.Pixels.{zero_pixel}
 use Rattle.px_tree.proofs.PlaceLaws.{index_below}
 use Rattle.px_sched.proofs.PassesLaws.{passes_are_lawful}
 use Rattle.px_control.specs.PictureLaw.{PictureLaw}

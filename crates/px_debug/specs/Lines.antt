@@ -9,8 +9,8 @@ use Rattle.px_array.specs.declared.micro.TreeOp.{TreeOp}
 use Rattle.px_array.specs.declared.micro.TreeOp.TheVariants as t
 use Rattle.px_macro.specs.Fields.{number_in}
 use Rattle.px_macro.specs.declared.field.Field.{Field}
-use Rattle.px_pixel.specs.declared.act.Act.{Act}
-use Rattle.px_pixel.specs.declared.act.Act.TheVariants as a
+use Rattle.px_array.specs.declared.act.Act.{Act}
+use Rattle.px_array.specs.declared.act.Act.TheVariants as a
 use Rattle.px_sched.specs.Layouts.{LayoutView, depth_part, number_part}
 use Rattle.px_tree.specs.Nodes.{leaf_bit, node_at}
 

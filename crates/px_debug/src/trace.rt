@@ -6,8 +6,7 @@ use crate::text::{Text, digit};
 use arrayvec::ArrayString;
 use circular_buffer::HeapCircularBuffer;
 use itoa::Buffer;
-use px_array::{Micro, TreeOp};
-use px_pixel::Act;
+use px_array::{Act, Micro, TreeOp};
 
 /// The answer to `trace` (docs/DEBUGGER.md, "Answers"): a line for each of the last broadcasts, of
 /// which there are at most 32, oldest first.

@@ -1,7 +1,7 @@
 //! Each operation at once beside its micros, from one random state to the next.
 ghost use Rattle.std.specs.Prelude.{◌≡◌, ◌≤◌, OnOk};
 ghost use Rattle.px_array.specs.Arrays.{IsOpen};
-ghost use Rattle.px_pixel.specs.Acts.{HasPlace};
+ghost use Rattle.px_array.specs.Acts.{HasPlace};
 ghost use Rattle.px_machine_tests.specs.Ready.{IsReady};
 
 use crate::compared::{compare, compare_memories};

@@ -2,14 +2,13 @@
 ghost use Rattle.std.specs.Prelude.{◌≡◌};
 ghost use Rattle.px_array.specs.Arrays.{IsOpen};
 ghost use Rattle.px_array.specs.Slots.{IsSaved};
-ghost use Rattle.px_pixel.specs.Acts.{HasPlace};
+ghost use Rattle.px_array.specs.Acts.{HasPlace};
 ghost use Rattle.px_machine_tests.specs.Ready.{AreSaved};
 
 use crate::compared::{compare, try_node, try_pixel, try_registers, try_size};
 use crate::words::placed;
-use px_array::{Array, Micro, PixelArray, Registers, TreeOp};
+use px_array::{Act, Array, Micro, PixelArray, Registers, TreeOp};
 use px_num::Memory;
-use px_pixel::Act;
 use std::process::Abort;
 use std::test::Fail;
 

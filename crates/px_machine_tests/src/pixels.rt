@@ -1,8 +1,8 @@
 //! One pixel: the table of acts, worked by hand.
 ghost use Rattle.std.specs.Prelude.{◌<◌, ◌≤◌};
-ghost use Rattle.px_pixel.specs.Acts.{HasPlace};
+ghost use Rattle.px_array.specs.Acts.{HasPlace};
 
-use px_pixel::{Act, Pixel};
+use px_array::{Act, Pixel};
 use std::process::Abort;
 
 /// An act and the bit of the tree; then, as the digits of a number, enable, carry, latch and the bit of

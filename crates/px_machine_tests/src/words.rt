@@ -1,6 +1,6 @@
 //! Words worked out by hand, and both arrays side by side.
 ghost use Rattle.std.specs.Prelude.{◌≡◌, ◌<◌};
-ghost use Rattle.px_pixel.specs.Acts.{HasPlace};
+ghost use Rattle.px_array.specs.Acts.{HasPlace};
 ghost use Rattle.px_machine_tests.specs.Ready.{IsReady};
 
 use crate::at_once::{Trial, clock_each, try_both};
@@ -8,9 +8,8 @@ use crate::clocks::{feed, make_all};
 use crate::compared::{compare, try_size};
 use crate::numbers::Numbers;
 use crate::trees::{try_largest, try_six};
-use px_array::{Array, Micro, TreeOp};
+use px_array::{Act, Array, Micro, TreeOp};
 use px_num::{Linear, Memory};
-use px_pixel::Act;
 use px_planes::{PlaneArray, PlaneTree};
 use px_tree::{Tree, feed_form};
 use std::process::Abort;

@@ -14,11 +14,11 @@ pub use Rattle.px_num.proofs.TruthLaws.{and_false, and_true, power_grows}
 pub use Rattle.px_num.specs.Bits.{bit_at, bit_of, carry_from, majority, modulo, nat_bit, xor}
 pub use Rattle.px_num.specs.Forms.{value_at}
 pub use Rattle.px_num.specs.declared.linear.Linear.{Linear}
-pub use Rattle.px_pixel.specs.Acts.{after_act, kept, stored}
-pub use Rattle.px_pixel.specs.Pixels.{PixelState, zero_pixel}
-pub use Rattle.px_pixel.specs.declared.act.Act.{Act}
-pub use Rattle.px_pixel.specs.declared.act.Act.TheVariants.{AddTree, CarryLatch, CarryTree, Fetch, SetCarry}
-pub use Rattle.px_pixel.specs.declared.act.Act.TheVariants.{StoreConst, StoreLatch, StoreTree}
+pub use Rattle.px_array.specs.Acts.{after_act, kept, stored}
+pub use Rattle.px_array.specs.Pixels.{PixelState, zero_pixel}
+pub use Rattle.px_array.specs.declared.act.Act.{Act}
+pub use Rattle.px_array.specs.declared.act.Act.TheVariants.{AddTree, CarryLatch, CarryTree, Fetch, SetCarry}
+pub use Rattle.px_array.specs.declared.act.Act.TheVariants.{StoreConst, StoreLatch, StoreTree}
 pub use Rattle.px_planes.specs.Operations.{IsDone, IsLike, IsWordDone, IsWorked, IsWorkedIn, stored_bits}
 pub use Rattle.px_planes.specs.Pixels.{acted_at, HasPixels, HasWords, IsActed, IsZero, pixel_in, pixels_in}
 pub use Rattle.px_planes.specs.declared.planes.Planes.{Planes}

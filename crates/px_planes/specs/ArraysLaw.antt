@@ -3,8 +3,8 @@ use Rattle.std.specs.Prelude.{◌≡◌, ℕ, ◌+◌, ◌^◌, ◌<◌, List, [
 use Rattle.px_array.specs.Arrays.{State, pixel_at}
 use Rattle.px_array.specs.Clocks.{after_clocks, after_tree_op}
 use Rattle.px_array.specs.declared.micro.Micro.{Micro}
-use Rattle.px_pixel.specs.Acts.{after_act}
-use Rattle.px_pixel.specs.Pixels.{PixelState}
+use Rattle.px_array.specs.Acts.{after_act}
+use Rattle.px_array.specs.Pixels.{PixelState}
 use Rattle.px_tree.specs.Nodes.{TreeState, leaf_output}
 
 -- what some micros make of one pixel, which sees of the others nothing, and of the tree its own leaf

@@ -1,7 +1,7 @@
 -- What the rows of registers that a grid lends hold. Clauses of public calls stand on it.
 use Rattle.std.specs.Prelude.{◌≡◌, ℕ, ◌*◌, ◌^◌, ◌<◌, ◌≤◌, Bool, List, length}
 use Rattle.px_array.specs.Arrays.{State, levels_of, pixel_at}
-use Rattle.px_pixel.specs.Pixels.{PixelState}
+use Rattle.px_array.specs.Pixels.{PixelState}
 use Rattle.px_rows.specs.Rows.{row_bit}
 
 -- a register of each pixel, by their places

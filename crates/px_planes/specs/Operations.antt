@@ -9,8 +9,8 @@ use Rattle.px_num.specs.declared.linear.Linear.{Linear}
 use Rattle.px_asm.specs.Microprograms.{bits_of}
 use Rattle.px_macro.specs.Macros.{after_macro}
 use Rattle.px_macro.specs.declared.operation.Macro.{Macro}
-use Rattle.px_pixel.specs.Acts.{stored}
-use Rattle.px_pixel.specs.Pixels.{PixelState}
+use Rattle.px_array.specs.Acts.{stored}
+use Rattle.px_array.specs.Pixels.{PixelState}
 use Rattle.px_planes.specs.Pixels.{HasWords, pixel_in}
 use Rattle.px_planes.specs.declared.edges.Edge.{Edge}
 use Rattle.px_planes.specs.declared.planes.Planes.{Planes}

@@ -3,10 +3,10 @@ use Rattle.std.specs.Prelude.{◌≡◌, ℕ, ◌*◌, ◌%◌, ◌<◌, ◌≤�
 use Rattle.std.specs.Prelude.{slice_index_or}
 use Rattle.px_num.specs.Bits.{nat_bit}
 use Rattle.px_num.specs.Lists.{tabulate}
-use Rattle.px_pixel.specs.Acts.{after_act}
-use Rattle.px_pixel.specs.Pixels.{PixelState, zero_pixel}
-use Rattle.px_pixel.specs.declared.act.Act.{Act}
-use Rattle.px_pixel.specs.declared.act.Act.TheVariants.{EnableAll, SetCarry}
+use Rattle.px_array.specs.Acts.{after_act}
+use Rattle.px_array.specs.Pixels.{PixelState, zero_pixel}
+use Rattle.px_array.specs.declared.act.Act.{Act}
+use Rattle.px_array.specs.declared.act.Act.TheVariants.{EnableAll, SetCarry}
 use Rattle.px_rows.specs.Rows.{row_bit, words_for}
 use Rattle.px_planes.specs.declared.planes.Planes.{Planes}
 

@@ -2,7 +2,7 @@
 use Rattle.std.specs.Prelude.{◌≡◌, ℕ, ◌+◌, ◌*◌, ◌^◌, ◌<◌, ◌≤◌, List, [], length, slice_index, slice_index_or}
 use Rattle.px_array.specs.Arrays.{Device}
 use Rattle.px_num.specs.Lists.{tabulate}
-use Rattle.px_pixel.specs.Pixels.{PixelState, zero_pixel}
+use Rattle.px_array.specs.Pixels.{PixelState, zero_pixel}
 use Rattle.px_rows.specs.Rows.{words_for}
 use Rattle.px_rows.specs.Rows.{row_bit}
 use Rattle.px_planes.specs.declared.planes.Planes.{Planes}

@@ -1,15 +1,15 @@
 //! What each act does to the bit planes.
 ghost use Rattle.std.specs.Prelude.{◌<◌, length};
-ghost use Rattle.px_pixel.specs.Acts.{HasPlace};
-ghost use Rattle.px_pixel.specs.declared.act.Act.TheVariants.{EnableAll, EnableCarry, EnableTree};
-ghost use Rattle.px_pixel.specs.declared.act.Act.TheVariants.{EnableBit, SetCarry, Fetch};
-ghost use Rattle.px_pixel.specs.declared.act.Act.TheVariants.{StoreTree, StoreLatch, StoreConst};
-ghost use Rattle.px_pixel.specs.declared.act.Act.TheVariants.{Toggle, CarryTree, CarryLatch};
-ghost use Rattle.px_pixel.specs.declared.act.Act.TheVariants.{AddTree};
+ghost use Rattle.px_array.specs.Acts.{HasPlace};
+ghost use Rattle.px_array.specs.declared.act.Act.TheVariants.{EnableAll, EnableCarry, EnableTree};
+ghost use Rattle.px_array.specs.declared.act.Act.TheVariants.{EnableBit, SetCarry, Fetch};
+ghost use Rattle.px_array.specs.declared.act.Act.TheVariants.{StoreTree, StoreLatch, StoreConst};
+ghost use Rattle.px_array.specs.declared.act.Act.TheVariants.{Toggle, CarryTree, CarryLatch};
+ghost use Rattle.px_array.specs.declared.act.Act.TheVariants.{AddTree};
 ghost use Rattle.px_planes.specs.Pixels.{HasWords, IsActed};
 
 use crate::planes::Planes;
-use px_pixel::Act;
+use px_array::Act;
 
 /// Makes every pixel do an act; `leaves` has the outputs of their leaves.
 pub fn act_planes(planes: &mut Planes, leaves: &[u64], act: Act)

@@ -5,7 +5,7 @@ ghost use Rattle.px_macro.specs.Macros.{IsField};
 ghost use Rattle.px_macro.specs.declared.operation.Macro.TheVariants.{AddLinear};
 ghost use Rattle.px_num.specs.Bits.{bit_at, majority, nat_bit, xor};
 ghost use Rattle.px_num.specs.Forms.{IsInTreeRange};
-ghost use Rattle.px_pixel.specs.Acts.{stored};
+ghost use Rattle.px_array.specs.Acts.{stored};
 ghost use Rattle.px_planes.specs.Operations.{IsDone, IsStripDone, IsWorkedIn};
 ghost use Rattle.px_planes.specs.Pixels.{HasWords, pixel_in};
 ghost use Rattle.px_rows.specs.Rows.{EachBit, row_bit};

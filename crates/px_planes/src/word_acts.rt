@@ -1,7 +1,7 @@
 //! What is done to the 64 pixels of one word.
 ghost use Rattle.std.specs.Prelude.{◌≡◌, ℕ, ◌<◌, ◌≤◌, ◌+◌, ◌*◌, ◌/◌, ◌%◌, length, slice_index};
 ghost use Rattle.px_num.specs.Bits.{bit_at, nat_bit};
-ghost use Rattle.px_pixel.specs.Acts.{kept, stored};
+ghost use Rattle.px_array.specs.Acts.{kept, stored};
 ghost use Rattle.px_planes.specs.Operations.{IsWorked, stored_bits};
 ghost use Rattle.px_planes.specs.Pixels.{HasWords, pixel_in};
 

@@ -9,10 +9,10 @@ use Rattle.std.proofs.lemmas.List.{get_or-set_other}
 use Rattle.px_array.proofs.ClockLaws.{length-after_act}
 use Rattle.px_array.specs.Arrays.{HasGrid, State, no_pixel, pixel_at, pixel_of}
 use Rattle.px_array.specs.Clocks.{acted}
-use Rattle.px_pixel.specs.Acts.{after_act}
-use Rattle.px_pixel.specs.Pixels.{PixelState}
-use Rattle.px_pixel.specs.declared.act.Act.{Act}
-use Rattle.px_pixel.specs.declared.act.Act.TheVariants as act
+use Rattle.px_array.specs.Acts.{after_act}
+use Rattle.px_array.specs.Pixels.{PixelState}
+use Rattle.px_array.specs.declared.act.Act.{Act}
+use Rattle.px_array.specs.declared.act.Act.TheVariants as act
 use Rattle.px_planes.proofs.GridLemmas.{acted_inside, acted_outside}
 use Rattle.px_planes.specs.Pixels.{acted_at}
 use Rattle.px_tree.specs.Nodes.{leaf_bit, leaf_output}

@@ -5,7 +5,7 @@ use Rattle.px_num.proofs.TruthLaws.{lt_false, lt_true}
 use Rattle.px_num.specs.Bits.{bit_at}
 use Rattle.px_array.specs.Arrays.{State, levels_of}
 use Rattle.px_array.specs.Words.{memory_bit}
-use Rattle.px_pixel.specs.Pixels.{PixelState, zero_pixel}
+use Rattle.px_array.specs.Pixels.{PixelState, zero_pixel}
 use Rattle.px_planes.specs.Lent.{IsRegister}
 use Rattle.px_tree.specs.Nodes.{TreeState}
 use Rattle.px_rows.specs.Rows.{EachBit, row_bit, words_for}

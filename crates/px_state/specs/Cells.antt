@@ -3,8 +3,8 @@ use Rattle.std.specs.Prelude.{◌≡◌, ℕ, ◌+◌, ◌*◌, ◌^◌, ◌<◌
 use Rattle.std.specs.Prelude.{if◌then◌else◌}
 use Rattle.px_num.specs.Bits.{bit_at, nat_bit}
 use Rattle.px_array.specs.Arrays.{no_pixel}
-use Rattle.px_pixel.specs.Pixels.{PixelState, zero_pixel}
-use Rattle.px_pixel.specs.declared.act.Act.{Act}
+use Rattle.px_array.specs.Pixels.{PixelState, zero_pixel}
+use Rattle.px_array.specs.declared.act.Act.{Act}
 use Rattle.px_planes.specs.Pixels.{acted_at}
 use Rattle.px_rows.specs.Rows.{row_bit}
 use Rattle.px_tree.specs.Nodes.{IsGrid, TreeState}

@@ -3,9 +3,9 @@
 -- Clauses of public calls stand on it.
 use Rattle.std.specs.Prelude.{◌≡◌, ℕ, ◌+◌, ◌*◌, ◌/◌, ◌%◌, ◌^◌, ◌≤◌, ◌==◌, ◌&&◌, nat_lt, Bool, false, true}
 use Rattle.std.specs.Prelude.{if◌then◌else◌}
-use Rattle.px_pixel.specs.Acts.{HasPlace}
-use Rattle.px_pixel.specs.declared.act.Act.{Act}
-use Rattle.px_pixel.specs.declared.act.Act.TheVariants as act
+use Rattle.px_array.specs.Acts.{HasPlace}
+use Rattle.px_array.specs.declared.act.Act.{Act}
+use Rattle.px_array.specs.declared.act.Act.TheVariants as act
 use Rattle.px_array.specs.declared.micro.Micro.{Micro}
 use Rattle.px_array.specs.declared.micro.TreeOp.{TreeOp}
 use Rattle.px_array.specs.declared.micro.TreeOp.TheVariants as tree

@@ -7,7 +7,7 @@ use Rattle.px_num.specs.Bits.{bit_at, nat_bit}
 use Rattle.px_rows.specs.Rows.{words_for}
 use Rattle.px_tree.specs.Nodes.{TreeState, at_place, leaf_bit}
 use Rattle.px_tree.specs.declared.node.Node.{Node}
-use Rattle.px_pixel.specs.Pixels.{PixelState, zero_pixel}
+use Rattle.px_array.specs.Pixels.{PixelState, zero_pixel}
 use Rattle.px_array.specs.Arrays.{State, pixel_of}
 
 -- how many words a row has

@@ -2,14 +2,14 @@
 ghost use Rattle.std.specs.Prelude.{◌≡◌, ◌≢◌, ◌≤◌, ◌<◌, ◌+◌, ◌*◌, ℕ, ◌&&◌, cond, get_or, length};
 ghost use Rattle.std.specs.Bool.{beq};
 ghost use Rattle.px_num.specs.Bits.{nat_bit};
-ghost use Rattle.px_pixel.specs.Pixels.{PixelState};
+ghost use Rattle.px_array.specs.Pixels.{PixelState};
 ghost use Rattle.px_planes.specs.Pixels.{acted_at};
 ghost use Rattle.px_state.specs.Cells.{IsActed, IsCell, IsShape, leaves_at, nodes_at};
 ghost use Rattle.px_state.specs.Packing.{memory_place};
 
 use crate::packing::place_of;
 use crate::shape::Shape;
-use px_pixel::Act;
+use px_array::Act;
 use px_rows::{all_of, chosen_word, majority_word, turned, xor_word};
 
 /// One word of each plane that an act reads: 64 pixels.

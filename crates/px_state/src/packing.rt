@@ -17,8 +17,7 @@ ghost use Rattle.px_state.specs.Packing.{
   packed_value,
 };
 
-use px_array::{Micro, TreeOp};
-use px_pixel::Act;
+use px_array::{Act, Micro, TreeOp};
 
 /// A micro in one word: the place of memory in bits 0 to 31; the number of the act, counted from 1 in
 /// the order of docs/MACHINE.md, "The fourteen acts", in bits 32 to 39; the value in bit 40; in bits

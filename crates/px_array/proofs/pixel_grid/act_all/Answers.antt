@@ -1,6 +1,6 @@
 use Rattle.px_num.proofs.Basics.{◌≡◌, ◌^◌, ◌+◌, length, slice_index_or, arith, ◌∙◌}
 use Rattle.px_num.proofs.ListLaws.{is_tabulate}
-use Rattle.px_pixel.specs.Acts.{after_act}
+use Rattle.px_array.specs.Acts.{after_act}
 use Rattle.px_tree.specs.Nodes.{leaf_output}
 use Rattle.px_array.specs.Arrays.{no_pixel}
 use Rattle.px_array.proofs.pixel_grid.act_all.Goals as goal

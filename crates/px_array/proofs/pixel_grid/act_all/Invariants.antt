@@ -1,5 +1,5 @@
 use Rattle.px_num.proofs.Basics.{◌≡◌, ℕ, ◌<◌, ◌≤◌, slice_index_or}
-use Rattle.px_pixel.specs.Acts.{after_act}
+use Rattle.px_array.specs.Acts.{after_act}
 use Rattle.px_tree.specs.Nodes.{leaf_output}
 use Rattle.px_array.specs.Arrays.{no_pixel}
 use Rattle.px_array.proofs.pixel_grid.act_all.Given as goal

@@ -1,5 +1,5 @@
 use Rattle.px_num.proofs.Basics.{arith, ◌≡◌, ◌∙◌, [], get_or, length, refl, ap, get_or_default}
-use Rattle.px_pixel.specs.declared.act.Act.TheVariants.{StoreConst}
+use Rattle.px_array.specs.declared.act.Act.TheVariants.{StoreConst}
 use Rattle.px_planes.proofs.StoredLemmas.{store_law}
 use Rattle.px_planes.proofs.acts.store_const.Goals as goal
 

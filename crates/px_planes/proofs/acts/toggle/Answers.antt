@@ -1,5 +1,5 @@
 use Rattle.px_num.proofs.Basics.{arith, ◌≡◌, ◌∙◌, [], get_or, length, not, refl, ap, get_or_default}
-use Rattle.px_pixel.specs.declared.act.Act.TheVariants.{Toggle}
+use Rattle.px_array.specs.declared.act.Act.TheVariants.{Toggle}
 use Rattle.px_rows.specs.Rows.{row_bit}
 use Rattle.px_planes.proofs.StoredLemmas.{bit_of_rows, store_law}
 use Rattle.px_planes.proofs.acts.toggle.Goals as goal

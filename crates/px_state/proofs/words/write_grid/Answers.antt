@@ -1,6 +1,6 @@
 use Rattle.px_num.proofs.Basics.{◌≡◌, ◌+◌, ◌*◌, ◌^◌, ◌<◌, ap, sym, subst, refl, ◌∙◌, arith, inl, inr, length}
 use Rattle.px_num.specs.Bits.{nat_bit}
-use Rattle.px_pixel.specs.Pixels.{PixelState}
+use Rattle.px_array.specs.Pixels.{PixelState}
 use Rattle.px_state.proofs.ClockedLemmas.{room_is, same_behind, whole_of}
 use Rattle.px_state.proofs.RegisterLemmas.{placed_register, row_room}
 use Rattle.px_state.proofs.ShapeLemmas.{plane_end}

@@ -1,7 +1,7 @@
 use Rattle.px_num.proofs.Basics.{◌≡◌, ◌+◌, ◌*◌, ◌^◌, ◌<◌, false, ap, ◌∙◌, arith, inl, inr, cases_eq, length}
 use Rattle.std.proofs.lemmas.List.{get_or-replicate}
 use Rattle.px_num.specs.Bits.{bit_at, nat_bit}
-use Rattle.px_pixel.specs.Pixels.{PixelState, zero_pixel}
+use Rattle.px_array.specs.Pixels.{PixelState, zero_pixel}
 use Rattle.px_state.proofs.RegisterLemmas.{memory_register, placed_register, row_room}
 use Rattle.px_state.proofs.ShapeLemmas.{plane_end}
 use Rattle.px_state.specs.Words.{row_words}

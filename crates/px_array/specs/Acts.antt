@@ -2,11 +2,11 @@
 use Rattle.std.specs.Prelude.{ℕ, ◌<◌, ⊤, Bool, true, not, ◌&&◌, slice_set, if◌then◌else◌}
 use Rattle.std.specs.Bool.{beq}
 use Rattle.px_num.specs.Bits.{bit_at, majority, xor}
-use Rattle.px_pixel.specs.Pixels.{PixelState}
-use Rattle.px_pixel.specs.declared.act.Act.{Act}
-use Rattle.px_pixel.specs.declared.act.Act.TheVariants.{Nop, EnableAll, EnableCarry, EnableTree, EnableBit}
-use Rattle.px_pixel.specs.declared.act.Act.TheVariants.{SetCarry, Fetch, StoreTree, StoreLatch, StoreConst}
-use Rattle.px_pixel.specs.declared.act.Act.TheVariants.{Toggle, CarryTree, CarryLatch, AddTree}
+use Rattle.px_array.specs.Pixels.{PixelState}
+use Rattle.px_array.specs.declared.act.Act.{Act}
+use Rattle.px_array.specs.declared.act.Act.TheVariants.{Nop, EnableAll, EnableCarry, EnableTree, EnableBit}
+use Rattle.px_array.specs.declared.act.Act.TheVariants.{SetCarry, Fetch, StoreTree, StoreLatch, StoreConst}
+use Rattle.px_array.specs.declared.act.Act.TheVariants.{Toggle, CarryTree, CarryLatch, AddTree}
 
 -- where the pixel is enabled, the bit at a place becomes v
 abbrev pub stored : ℕ → Bool → PixelState → PixelState

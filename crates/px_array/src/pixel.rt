@@ -2,8 +2,8 @@
 ghost use Rattle.std.specs.Prelude.{◌≡◌, ◌<◌, ◌≤◌, not};
 ghost use Rattle.std.specs.Bool.{OnFalse};
 ghost use Rattle.px_num.specs.Bits.{bit_at};
-ghost use Rattle.px_pixel.specs.Acts.{HasPlace, after_act, enabled, stored};
-ghost use Rattle.px_pixel.specs.Pixels.{zero_pixel};
+ghost use Rattle.px_array.specs.Acts.{HasPlace, after_act, enabled, stored};
+ghost use Rattle.px_array.specs.Pixels.{zero_pixel};
 
 use crate::act::Act;
 use crate::memory::PixelMemory;
@@ -23,7 +23,7 @@ pub struct Pixel<const N: usize> {
 
 impl<const N: usize> Model for Pixel<N> {
     ghost use Rattle.std.specs.Prelude.{◌≤◌};
-    ghost use Rattle.px_pixel.specs.Pixels.{PixelState};
+    ghost use Rattle.px_array.specs.Pixels.{PixelState};
 
     ghost Value = { PixelState };
 
