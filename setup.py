@@ -11,8 +11,8 @@ HERE = os.path.dirname(os.path.abspath(__file__))
 # Where `./pxplanes --library` and tools/package put the library.
 LIBRARIES = os.path.join(HERE, "package", "lib")
 LIBRARY = "libpxplanes.so"
-# The library is for this system alone, and for every Python.
-TAG = "py3", "none", "manylinux_2_17_x86_64"
+# By the processor that the header of the library's file says. Each is for Linux with glibc, and for every Python.
+PROCESSORS = {62: "x86_64", 183: "aarch64"}
 
 
 class WithLibrary(build_py):
@@ -35,7 +35,9 @@ class WithLibrary(build_py):
 
 class ForLinux(bdist_wheel):
     def get_tag(self):
-        return TAG
+        with open(os.path.join(LIBRARIES, LIBRARY), "rb") as library:
+            processor = int.from_bytes(library.read(20)[18:], "little")
+        return "py3", "none", "manylinux_2_17_" + PROCESSORS[processor]
 
 
 class WithBinary(Distribution):

@@ -381,8 +381,8 @@ uint32_t pxplanes_clocks(uint64_t *words, size_t words_len, uint32_t grid_width,
  *
  * The text is refused as by the program: with MALFORMED and LIMIT found is what its note says, and with USAGE the
  * words name no command. `debug` is past a LIMIT where its lines are, though the program answers those before: then
- * nothing is written. NO_ROOM is answered after the work, which is then done for nothing: so give room enough where it is
- * known, as for an image of P6, 3 bytes a pixel and 20. `render` and `tile` write two of them, `colour`, `refine` and `shadow` one.
+ * nothing is written. NO_ROOM is answered after the work, which is then done for nothing, and also if there is no buffer. The room
+ * of an image is known before the work: pxplanes_maps_size of pxplanes_image.h gives it. That of a text is not.
  *
  *     struct pxplanes_found found;
  *     size_t room = 1 << 20;

@@ -1,6 +1,6 @@
 /*
  * Pictures in a form of your own, in C99 or C++: what pxplanes_render, pxplanes_window and pxplanes_colour write, as RGB or RGBA
- * of 8 bits, as uint32_t or as float, in rows at any distance. Nothing is allocated.
+ * of 8 bits, as uint32_t or as float, in rows at any distance; and the size of what pxplanes_run writes. Nothing is allocated.
  *
  *     uint8_t *pixels = malloc(stride * height);          // rows from the bottom, as OpenGL has them
  *     pxplanes_place_rgba(pixels + (height - 1) * stride, -(ptrdiff_t) stride, rgb, width, height);
@@ -63,6 +63,20 @@ static inline void pxplanes_place_floats(void *first, ptrdiff_t stride, const ui
             memcpy(to, &depth, sizeof depth);
         }
     }
+}
+
+/*
+ * The bytes that pxplanes_run writes for an image, before the work: two maps of the picture's size, as pxplanes_check finds it, for
+ * "render"; one for "colour", "shadow" and "refine"; and two of A by B for "tile A B".
+ */
+static inline uint64_t pxplanes_maps_size(uint32_t width, uint32_t height, uint32_t maps)
+{
+    uint64_t head = 11;
+    for (uint32_t left = width; left > 9; left /= 10)
+        head++;
+    for (uint32_t left = height; left > 9; left /= 10)
+        head++;
+    return maps * (head + UINT64_C(3) * width * height);
 }
 
 #undef PXPLANES_CAST_

@@ -26,8 +26,9 @@ struct pxplanes_plane {
 
 enum pxplanes_kind { PXPLANES_FRONT, PXPLANES_BACK };
 
-/* A front or a back; it has a colour of its own where has_colour is not 0, and otherwise that of its solid. In C++ its name is
- * `struct pxplanes_face`, since a call of pxplanes.h has the short one. */
+/* A front or a back; it has a colour of its own where has_colour is not 0, and otherwise that of its solid. In C++ write
+ * `struct pxplanes_face`, as in C: pxplanes.h has a call of the same name, which hides the short name of a struct there. Another
+ * name for either would break programs that use it. */
 struct pxplanes_face {
     enum pxplanes_kind kind;
     struct pxplanes_plane plane;

@@ -1,13 +1,8 @@
 """Runs the built program for the tools. It is no tool itself."""
-import contextlib
 import os
 import re
-import shutil
-import signal
 import subprocess
-import tempfile
-import time
-from collections.abc import Iterator, Sequence
+from collections.abc import Sequence
 
 from pxplanes.ends import TOP
 from pxplanes.errors import Trouble
@@ -32,15 +27,6 @@ def built() -> str:
     return os.path.isfile(DEFAULT) and is_newer() and newer_of(DEFAULT) or DEFAULT
 
 
-def builds(path: str) -> Iterator[tuple[str, str]]:
-    """The places that a program is installed at, each with the file that comes there: for newer processors too, where it is built."""
-    first = path.removesuffix(NEWER_END)
-    yield DEFAULT, first
-    newer = newer_of(first)
-    if newer:
-        yield NEWER, newer
-
-
 def place_of(path: str | None) -> str:
     """Where the program is: as said, or as the environment's PXPLANES_PROGRAM says, or as built."""
     return os.path.abspath(path or os.environ.get("PXPLANES_PROGRAM") or built())
@@ -57,67 +43,6 @@ def needed(path: str | None) -> str:
     if program is None:
         raise Trouble("no program at %s; ./pxplanes builds it" % place_of(path))
     return program
-
-
-def descendants(pid: int) -> set[int]:
-    """The processes below one, by their numbers."""
-    parents = {}
-    for leaf in os.listdir("/proc"):
-        if leaf.isdigit():
-            try:
-                with open("/proc/%s/stat" % leaf) as file:
-                    parents[int(leaf)] = int(file.read().rsplit(")", 1)[1].split()[1])
-            except OSError:
-                continue
-    found = {pid}
-    while True:
-        more = {child for child, parent in parents.items() if parent in found} - found
-        if not more:
-            return found - {pid}
-        found |= more
-
-
-def copied(pid: int, copy: str) -> bool:
-    """Whether a process below one runs the program that `rt try` built; it is copied then."""
-    for child in descendants(pid):
-        try:
-            with open("/proc/%d/cmdline" % child) as file:
-                words = file.read().split("\0")
-            built = next((word for word in words if os.path.basename(word) == "program" and os.path.isfile(word)), None)
-            if built:
-                shutil.copyfile(built, copy)
-                os.chmod(copy, 0o755)
-                return True
-        except OSError:
-            continue
-    return False
-
-
-def unproved(folder: str) -> str:
-    """The program as `rt try` builds it, without proofs and with checks at run time, copied into a folder.
-
-    `rt try` keeps no file: it is copied while it draws a picture that takes it some seconds."""
-    if shutil.which("rt") is None:
-        raise Trouble("there is no command rt; README.md says what is needed")
-    copy = os.path.join(folder, "program")
-    words = ["rt", "try", "--steps", "1000", "--seconds", "600", "--", "tile", "4096", "4096"]
-    with open(os.path.join(TOP, "gallery", "house.scene"), "rb") as scene, tempfile.TemporaryFile() as notes:
-        tried = subprocess.Popen(words, cwd=os.path.join(TOP, "crates", "px_program"), stdin=scene,
-                                 stdout=subprocess.DEVNULL, stderr=notes, start_new_session=True)
-        try:
-            while tried.poll() is None:
-                if copied(tried.pid, copy):
-                    return copy
-                time.sleep(0.05)
-            notes.seek(0)
-            raise Trouble("not built: %s" % notes.read().decode("utf-8", "replace").strip().split("\n")[0])
-        finally:
-            if tried.poll() is None:
-                # (rt runs the program in a session of its own)
-                for pid in (*descendants(tried.pid), tried.pid):
-                    with contextlib.suppress(ProcessLookupError):
-                        os.kill(pid, signal.SIGKILL)
-                tried.wait()
 
 
 def answer(program: str, words: Sequence[str | bytes], text: bytes, seconds: float | None = None) -> tuple[int, bytes, str]:

@@ -9,8 +9,8 @@ and its `run` is given to bash there, with PROGRAM set. If root runs it, it cann
   status  the exit status of the last (0)
   wanted/ the files that they must leave; PNG files are compared unpacked
   needs   commands that must be there, one a line; the case is skipped if one is not. `built` is a proved program; `page` is
-          page/pxplanes.html; `archive` is the library for C, which tools/dev/build makes; `shared` is the same as PXPLANES_LIBRARY
-          names it; `states` is one with the calls for states; `venv` is Python's own; `chroot` is a place to lay out a system,
+          page/pxplanes.html; `archive` is the library for C, which tools/dev/build makes, `aarch64` and `windows` those for other
+          systems; `shared` is the same as PXPLANES_LIBRARY names it; `states` is one with the calls for states; `venv` is Python's own; `chroot` is a place to lay out a system,
           from an archive of Debian that answers"""
 import ctypes
 import functools
@@ -34,16 +34,19 @@ import sessions_of_tests
 CASES = os.path.join(TOP, "tools", "cases")
 SHARED = "PXPLANES_LIBRARY"
 PAGE = os.path.join(TOP, "page", "pxplanes.html")
-ARCHIVE = os.path.join(TOP, "crates", "px_c", "out", "libpx_c.a")
+ARCHIVES = {need: os.path.join(TOP, "crates", "px_c", "out", "libpx_c%s.a" % end)
+            for need, end in (("archive", ""), ("aarch64", "-aarch64"), ("windows", "-windows"))}
+ARCHIVE = ARCHIVES["archive"]
 NO_LIBRARY = "there is no library for C; .ci/run builds it"
 SKIPPED = {"built": "it needs a program that is proved", "archive": NO_LIBRARY, "shared": NO_LIBRARY,
+           "aarch64": NO_LIBRARY + " where its cross compiler is installed", "windows": NO_LIBRARY + " where its cross compiler is installed",
            "page": "there is no page; tools/package --web --page makes it",
            "kept": "the page was made of other crates; tools/package --web --page, after a gate, makes it of these",
            "venv": "this Python makes no venv; Debian's python3-venv has it",
            "chroot": "only root lays out a system, and from an archive of Debian that answers",
            "states": "there is no library for C with the calls for states; .ci/run builds it"}
 # The needs that tools/dev/build makes.
-OF_BUILDS = {"archive", "shared", "states"}
+OF_BUILDS = {*ARCHIVES, "shared", "states"}
 RUNNING = sessions_of_tests.Groups()
 # What runs of documents need, by what is in them.
 NEEDS = (("rtl/rtl ", ("iverilog", "yosys")), ("simulate-board", ("verilator", "numpy")), ("pxplanes compare", ("numpy",)),
@@ -158,10 +161,10 @@ def is_lacking(need):
     """Whether a command is not there; `built` is a program with no checks at run time, which costs memory and time."""
     if need in ("shared", "states"):
         return not has_calls(need)
-    if need == "numpy":
-        return importlib.util.find_spec("numpy") is None
-    if need in ("archive", "page"):
-        return not os.path.isfile(ARCHIVE if need == "archive" else PAGE)
+    if need in ("numpy", "yaml"):
+        return importlib.util.find_spec(need) is None
+    if need in ARCHIVES or need == "page":
+        return not os.path.isfile(ARCHIVES.get(need, PAGE))
     if need == "chroot":
         return not lays_out_systems()
     if need == "venv":

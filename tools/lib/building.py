@@ -13,13 +13,10 @@ import subprocess
 import tempfile
 import time
 
+from builds import FIRST
 from pxplanes import ends
 import gate
-from pxplanes import program
 from pxplanes.errors import Trouble
-
-# Of the processors that Rattle compiles for: the one of the first build, and the one of the second.
-FIRST, SECOND = "x86-64-v2", "x86-64-v3"
 LIBRARY, PROGRAM = "px_c", "px_program"
 LINE = re.compile(r"(?m)^([a-z]\w*)( staticlib)?:(.*)$")
 PROVED = re.compile(r"(?m)^logic=proved .*\bstatements=trusted\b.*$")
@@ -27,7 +24,8 @@ PROVED = re.compile(r"(?m)^logic=proved .*\bstatements=trusted\b.*$")
 REFUSED = re.compile(r"\b(foreign|hides|partial|may-abort|may-serve|may-wait|bugs)\b")
 # The lines of what rattle says that say nothing of what is not proved.
 TOLD_ANYWAY = re.compile(r": proved$|^(statements |logic|empty contracts:|by-macro:|rattle build:)")
-TARGET = "x86_64-unknown-linux-gnu"
+# The kit has what a program asks of the system for its own alone.
+SYSTEM = os.path.join(ends.TOP, "tools", "lib", "system.c")
 SYSTEM_PARTS = ("libos_c.a", "liblibc_c.a")
 MODULE = "module.bc"
 # What was built last, outside the crates' own folders, which rt ci empties: each file, and next to it what it was built of.
@@ -40,7 +38,7 @@ LOOKED_AFTER = 0.2
 RUNNING = set()
 # Which of Debian's packages has a command.
 PACKAGES = {command: "; Debian's %s has it" % package for command, package in (
-    ("dpkg-source", "dpkg-dev"), ("dpkg-buildpackage", "dpkg-dev"), ("dh", "debhelper"), ("dh_python3", "dh-python"))}
+    ("dpkg-source", "dpkg-dev"), ("dpkg-buildpackage", "dpkg-dev"), ("dh", "debhelper"), ("dh_python3", "dh-python"), ("doxygen", "doxygen"))}
 
 
 def need(command):
@@ -71,25 +69,36 @@ def in_kit(*leaves):
     return os.path.join(kit(), *leaves)
 
 
-def handed(pid, word):
-    """The module that a compiler below a process reads, called with a word, if there is one now."""
-    for child in program.descendants(pid):
-        try:
-            with open("/proc/%d/cmdline" % child, "rb") as file:
-                words = file.read().split(b"\0")
-            if os.path.basename(words[0]) == b"clang" and MODULE.encode() in words and word in words:
-                return os.path.join(os.readlink("/proc/%d/cwd" % child), MODULE)
-        except OSError:
-            continue
-    return None
+def descendants(pid):
+    """The processes below one, by their numbers."""
+    parents, found = {}, {pid}
+    for leaf in filter(str.isdigit, os.listdir("/proc")):
+        with contextlib.suppress(OSError), open("/proc/%s/stat" % leaf) as file:
+            parents[int(leaf)] = int(file.read().rsplit(")", 1)[1].split()[1])
+    while more := {child for child, parent in parents.items() if parent in found} - found:
+        found |= more
+    return found - {pid}
 
 
-def copied(path, copy):
-    """Whether a file is there, and was copied."""
-    try:
-        return bool(path and shutil.copyfile(path, copy))
-    except OSError:
-        return False
+def handed(words, folder, word=MODULE):
+    """The module that the words of a compiler name, called with a word in a folder."""
+    return os.path.join(folder, MODULE) if os.path.basename(words[0]) == "clang" and {MODULE, word} <= set(words) else None
+
+
+def tried(words, _):
+    """The program that `rt try` built, where words run it."""
+    return next((word for word in words if os.path.basename(word) == "program" and os.path.isfile(word)), None)
+
+
+def copied(pid, find, copy):
+    """Whether a process below one names a file that is looked for; it is copied then."""
+    for child in descendants(pid):
+        with contextlib.suppress(OSError), open("/proc/%d/cmdline" % child, errors="replace") as file:
+            path = find(file.read().split("\0"), os.readlink("/proc/%d/cwd" % child))
+            if path:
+                shutil.copy(path, copy)
+                return True
+    return False
 
 
 def of_crates():
@@ -120,18 +129,6 @@ def keep(path, leaf, of, line):
         file.write("%s\n%s\n%s\n" % (of, line, hashlib.sha256(ends.content(kept)).hexdigest()))
 
 
-def of_cpu(path, cpu):
-    """The name of a build for a processor, by that of the first."""
-    stem, end = os.path.splitext(path)
-    return path if cpu == FIRST else "%s-%s%s" % (stem, cpu, end)
-
-
-def newer_of(path):
-    """A library as it is built for newer processors; None where there is none, or an older one."""
-    newer = of_cpu(path, SECOND)
-    return newer if os.path.isfile(newer) and os.path.getmtime(path) <= os.path.getmtime(newer) else None
-
-
 def lines_of(top):
     """The crates of a folder, each with the libraries that it names: by crates.txt."""
     text = ends.content(os.path.join(top, "crates.txt")).decode("utf-8")
@@ -152,7 +149,7 @@ def with_below(lines, aims):
 @contextlib.contextmanager
 def started(words, **how):
     """A command in a session of its own. If it still runs at the end of this, it is ended with all that it started."""
-    running = subprocess.Popen(words, stdin=subprocess.DEVNULL, start_new_session=True, **how)
+    running = subprocess.Popen(words, **{"stdin": subprocess.DEVNULL, **how}, start_new_session=True)
     RUNNING.add(running)
     try:
         yield running
@@ -163,8 +160,13 @@ def started(words, **how):
 
 def end(running):
     if running.poll() is None:
+        # (rt runs a program in a session of its own)
+        below = descendants(running.pid)
         with contextlib.suppress(ProcessLookupError):
             os.killpg(running.pid, signal.SIGTERM)
+        for pid in below:
+            with contextlib.suppress(ProcessLookupError):
+                os.kill(pid, signal.SIGTERM)
         running.wait()
 
 
@@ -174,19 +176,33 @@ def end_all():
         end(running)
 
 
-def ran(words, folder, copy=None, word=MODULE.encode(), is_copy_enough=False):
-    """Runs a command of the kit in a folder: its status, what it says, and whether a copy was made, if one is asked for, of the
-    module that is handed to clang with a word. If the copy is enough, the command is ended then."""
+def ran(words, folder, copy=None, find=handed, is_copy_enough=False, **how):
+    """Runs a command of the kit in a folder: its status, what it says, and whether a copy was made, if one is asked for, of the file
+    that is found in the words of a process below it. If the copy is enough, the command is ended then."""
     kept = copy is None
-    with tempfile.TemporaryFile() as notes, started(words, cwd=folder, stdout=notes, stderr=notes) as running:
+    with tempfile.TemporaryFile() as notes, started(words, cwd=folder, stdout=notes, stderr=notes, **how) as running:
         while not kept and running.poll() is None:
             time.sleep(LOOKED_AFTER)
-            kept = copied(handed(running.pid, word), copy)
+            kept = copied(running.pid, find, copy)
         if is_copy_enough and kept:
             end(running)
         status = running.wait()
         notes.seek(0)
         return status, notes.read().decode("utf-8", "replace"), kept
+
+
+def unproved(folder):
+    """The program as `rt try` builds it, without proofs and with checks at run time, copied into a folder.
+
+    `rt try` keeps no file: it is copied while it draws a picture that takes it some seconds."""
+    kit()
+    copy = os.path.join(folder, "program")
+    words = ["rt", "try", "--steps", "1000", "--seconds", "600", "--", "tile", "4096", "4096"]
+    with open(os.path.join(ends.TOP, "gallery", "house.scene"), "rb") as scene:
+        _, said, is_copied = ran(words, os.path.join(ends.TOP, "crates", PROGRAM), copy, tried, True, stdin=scene)
+    if not is_copied:
+        raise Trouble("not built: %s" % said.strip().split("\n")[0])
+    return copy
 
 
 def run(words, folder, copy):
@@ -199,9 +215,13 @@ def run(words, folder, copy):
     return said
 
 
-def link(part, to):
-    words = [in_kit("bin", "rattle-link"), "--target", TARGET, "--toolchain", in_kit("toolchain"), "-o", to, part]
-    done([*words, *(in_kit("c", leaf) for leaf in SYSTEM_PARTS)], "rattle-link")
+def link(build, part, to):
+    """Links the program."""
+    if build.system == FIRST.system:
+        words = [in_kit("bin", "rattle-link"), "--target", build.target, "--toolchain", in_kit("toolchain"), "-o", to, part]
+        done([*words, *(in_kit("c", leaf) for leaf in SYSTEM_PARTS)], "rattle-link")
+    else:
+        done([build.compiler, "-O2", "-DPROGRAM", SYSTEM, part, "-o", to, "-Wl,--gc-sections,-z,relro,-z,now", "-s"])
 
 
 def calls_of(path):
@@ -270,15 +290,15 @@ class Proved:
             raise Trouble("%s: its proof says %s, which rt ci refuses" % (crate, refused[0]))
         return line
 
-    def compiling(self, crate, cpu):
+    def compiling(self, crate, build):
         """What is said besides where a crate is compiled."""
-        yield from ("--cpu", cpu, "--backend", "llvm", "--toolchain", in_kit("toolchain"))
+        yield from ("--target", build.target, "--cpu", build.processor, "--backend", "llvm", "--toolchain", in_kit("toolchain"))
         yield from ("--incremental", os.path.join(self.kept, crate)) if self.kept else ()
         yield from () if crate == PROGRAM else ("--crate-type", "staticlib")
 
-    def compile(self, crate, cpu, to, copy=None):
+    def compile(self, crate, build, to, copy=None):
         """Proves a crate over the statements below it, and compiles it to a file; the line of its proof."""
-        words = [*self.words(crate), *self.compiling(crate, cpu)]
+        words = [*self.words(crate), *self.compiling(crate, build)]
         said = run([in_kit("bin", "rattle"), "build", *words, "-o", to], self.folder(crate), copy)
         found = PROVED.search(said)
         if found is None:
@@ -301,28 +321,28 @@ class Proved:
             shutil.move(whole, made)
         return made, line, False
 
-    def make_library(self, cpu):
+    def make_library(self, build):
         """Builds the library for C, and of the first build keeps the module too; as `once`."""
         def make(place):
             archive, module = (os.path.join(place, leaf) for leaf in ("library.a", MODULE))
-            return archive, self.compile(LIBRARY, cpu, archive, module if cpu == FIRST else None)
+            return archive, self.compile(LIBRARY, build, archive, module if build is FIRST else None)
 
-        made = of_cpu(os.path.join(self.folder(LIBRARY), "out", "libpx_c.a"), cpu)
-        return self.once(made, make, *[MODULE][:cpu == FIRST])
+        made = build.of(os.path.join(self.folder(LIBRARY), "out", "libpx_c.a"))
+        return self.once(made, make, *[MODULE][:build is FIRST])
 
-    def make_program(self, cpu):
-        """Builds the program for a processor, which may call nothing that the one of `rt ci` does not; as `once`."""
+    def make_program(self, build):
+        """Builds the program, which may call nothing that the one of `rt ci` does not; as `once`."""
         first = os.path.join(self.folder(PROGRAM), "out", PROGRAM)
         if not os.path.isfile(first):
             raise Trouble("no program at %s; rt ci builds it" % first)
 
         def make(place):
             part, whole = (os.path.join(place, leaf) for leaf in ("program.o", "program"))
-            line = self.compile(PROGRAM, cpu, part)
-            link(part, whole)
-            more = sorted(calls_of(whole) - calls_of(first))
+            line = self.compile(PROGRAM, build, part)
+            link(build, part, whole)
+            more = sorted(calls_of(whole) - calls_of(first) - build.calls)
             if more:
-                raise Trouble("the program for %s calls %s, which the other does not" % (cpu, ", ".join(more)))
+                raise Trouble("the program for %s calls %s, which the other does not" % (build.end[1:], ", ".join(more)))
             return whole, line
 
-        return self.once(of_cpu(first, cpu), make)
+        return self.once(build.of(first), make)

@@ -10,20 +10,22 @@ import shutil
 import tempfile
 
 import building
+import builds
 from pxplanes.errors import Trouble
 from pxplanes import ends
 import gate
 import installing
-from pxplanes import program
 
 # No package of Debian's own, which would begin at 1, and be newer.
 REVISION = "0upstream1"
 FOLDER = "debian"
 # What the kit has built, where a source package holds it.
 PREBUILT = "prebuilt"
-# What is built is for this processor alone.
-ARCHITECTURE, MULTIARCH = "amd64", "x86_64-linux-gnu"
-LIBRARIES = os.path.join("lib", MULTIARCH)
+# The architectures, each with how its packages are built; those for all are built with the first.
+BUILDS = {"amd64": (builds.FIRST, ("-b",)), "arm64": (builds.ARM, ("-B", "-a", "arm64"))}
+DOXYFILE = os.path.join("tools", "lib", "Doxyfile")
+# A call that a header declares.
+DECLARED = re.compile(r"(?m)^\w[\w ]*?\*?(pxplanes_\w*[a-z])\(")
 # The same bytes each time: `settle` gives all files their modes and times.
 SAME = ("--sort=name", "--owner=root:0", "--group=root:0", "--format=gnu")
 CHANGELOG = """pxplanes (%s) unstable; urgency=medium
@@ -58,12 +60,6 @@ def changelog():
     return CHANGELOG % (version(), maintainer, email.utils.formatdate(when(), usegmt=True).replace("GMT", "+0000"))
 
 
-def packages():
-    """The names of the files of all packages."""
-    found = re.findall(r"(?ms)^Package: (\S+)$.*?^Architecture: (\S+)$", control())
-    return ["%s_%s_%s.deb" % (name, version(), architecture) for name, architecture in found]
-
-
 def tree(place, names):
     """Lays out files of the checkout in a folder, as the source package has them, and answers where."""
     top = os.path.join(place, "pxplanes-" + installing.version())
@@ -91,10 +87,34 @@ def add_built(top, built):
 
 
 def built(archive, libc):
-    """What the kit has built: by the names that it has in a source package. The builds for newer processors stand behind the others."""
-    found = {place: path for place, path in program.builds(program.DEFAULT)}
-    found.update({gate.ARCHIVE: archive, gate.NEWER_ARCHIVE: building.newer_of(archive), gate.LIBC: libc})
-    return {os.path.basename(place): path for place, path in found.items() if path}
+    """What the kit has built: by the names that it has in a source package."""
+    return {os.path.basename(name): path for name, path in gate.built(archive, libc) if name != builds.WINDOWS.of(gate.ARCHIVE)}
+
+
+def host():
+    """What dpkg-buildpackage builds for."""
+    return BUILDS[os.environ.get("DEB_HOST_ARCH", "amd64")][0]
+
+
+def needed(held, build, name):
+    """A file of a build among those that the kit has built."""
+    own = os.path.basename(build.of(name))
+    if own not in held:
+        raise Trouble("there is no %s for %s; .ci/run makes it where %s is installed" % (own, build.system, build.compiler))
+    return held[own]
+
+
+def lay_out_calls(to):
+    """Writes the manual's pages of the headers, as Doxygen makes them, and one for each call that leads to its header's."""
+    with tempfile.TemporaryDirectory(prefix="px-manual-") as place:
+        building.done(["doxygen", DOXYFILE], cwd=ends.TOP, env=dict(os.environ, API=place))
+        folder = os.path.join(place, "man", "man3")
+        for leaf in filter(re.compile("pxplanes").match, os.listdir(folder)):
+            installing.put(os.path.join(folder, leaf), os.path.join(to, leaf))
+    for header in gate.HEADERS:
+        for call in DECLARED.findall(ends.content(os.path.join(ends.TOP, header)).decode("utf-8")):
+            with open(os.path.join(to, call + ".3"), "w", encoding="ascii") as file:
+                file.write(".so man3/%s.3\n" % os.path.basename(header))
 
 
 def prebuilt():
@@ -120,6 +140,16 @@ def source(out, held):
         return taken(place, [leaf for leaf in sorted(os.listdir(place)) if os.path.isfile(os.path.join(place, leaf))], out)
 
 
+def archived(folder, out):
+    """Packs a folder as an archive, the same bytes each time; answers where it is, in a line."""
+    name = "pxplanes-%s-%s" % (installing.version(), os.path.basename(folder))
+    with tempfile.TemporaryDirectory(prefix="px-package-") as place:
+        shutil.copytree(folder, os.path.join(place, name), symlinks=True)
+        settle(os.path.join(place, name))
+        done(["tar", *SAME, "-cJf", name + ".tar.xz", name], place)
+        return taken(place, [name + ".tar.xz"], out)
+
+
 def taken(place, leaves, out):
     """Moves files to a folder, and answers where they are, a line each."""
     os.makedirs(out, exist_ok=True)
@@ -133,8 +163,13 @@ def package(files, held, out):
     """Makes the packages of files of the checkout and of what is built; answers where they are, a line each."""
     for command in building.PACKAGES:
         building.need(command)
-    with tempfile.TemporaryDirectory(prefix="px-deb-") as place:
-        top = tree(place, files)
-        add_built(top, held)
-        done(["dpkg-buildpackage", "-us", "-uc", "-b"], top)
-        return taken(place, packages(), out)
+    lines = []
+    for build, how in BUILDS.values():
+        if build is not builds.FIRST and not (build.is_possible() and os.path.basename(build.of(gate.ARCHIVE)) in held):
+            continue
+        with tempfile.TemporaryDirectory(prefix="px-deb-") as place:
+            top = tree(place, files)
+            add_built(top, held)
+            done(["dpkg-buildpackage", "-us", "-uc", *how], top)
+            lines += taken(place, sorted(leaf for leaf in os.listdir(place) if leaf.endswith(".deb")), out)
+    return lines

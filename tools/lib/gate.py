@@ -2,6 +2,7 @@
 import hashlib
 import os
 
+import builds
 from pxplanes.errors import Trouble
 from pxplanes import ends
 import installing
@@ -12,7 +13,6 @@ import web_page
 PASSED = os.path.join(ends.TOP, "crates", "px_program", "out", "passed")
 HEADERS = ("include/pxplanes.h", "include/pxplanes.hpp", "include/pxplanes_image.h", "include/pxplanes_scene.h")
 ARCHIVE = os.path.join("crates", "px_c", "out", "libpx_c.a")
-NEWER_ARCHIVE = os.path.join("crates", "px_c", "out", "libpx_c-x86-64-v3.a")
 LIBC = "liblibc_c.a"
 # They make the libraries, the packages and the page.
 MAKERS = ("tools/package", "tools/lib", "MANIFEST.in", "pyproject.toml", "setup.py", "debian", "page/library", "page/src")
@@ -38,13 +38,16 @@ def sum_crates():
     return all_of.hexdigest()
 
 
+def built(archive, libc):
+    """What the kit has built, and is packed: a name of each file, and where it is."""
+    for name, first in ((os.path.relpath(program.DEFAULT, ends.TOP), program.DEFAULT), (ARCHIVE, archive)):
+        yield from ((build.of(name), build.beside(first)) for build in builds.ALL if build.beside(first))
+    yield LIBC, libc
+
+
 def packed(archive, libc):
     """What packages are made of: a name of each file, and where it is."""
-    for place, path in program.builds(program.DEFAULT):
-        yield os.path.relpath(place, ends.TOP), path
-    yield ARCHIVE, archive
-    yield NEWER_ARCHIVE, "-x86-64-v3".join(os.path.splitext(archive))
-    yield LIBC, libc
+    yield from built(archive, libc)
     yield os.path.relpath(web_page.PAGE, ends.TOP), web_page.PAGE
     for name in (*HEADERS, *installing.sources(), *installing.known(name for maker in MAKERS for name in installing.inside(maker))):
         yield name, os.path.join(ends.TOP, name)
@@ -95,9 +98,9 @@ def need_packed(files):
         raise Trouble("only files that git tracks are packed, and this is no repository")
     files = dict(files)
     for name in differing(files.items()):
-        path = files.get(name, name)
-        shown = path if name in (ARCHIVE, NEWER_ARCHIVE, LIBC) and path != os.path.join(ends.TOP, name) else name
-        raise Trouble("%s is not what the gate passed; .ci/run tries it" % shown)
+        own = os.path.join(ends.TOP, name)
+        path = files.get(name, own)
+        raise Trouble("%s is not what the gate passed; .ci/run tries it" % (name if path == own else path))
 
 
 def note_again(name, files):

@@ -19,6 +19,7 @@ from dataclasses import dataclass
 
 import building
 from building import LIBRARY, PROGRAM
+import builds
 import gate
 from pxplanes import ends, program
 from pxplanes.errors import Trouble
@@ -212,8 +213,8 @@ class Proof:
         this is one."""
         with tempfile.TemporaryDirectory(prefix=building.KEEPS) as kept:
             made = Apart(self.room, self.apart, kept)
-            for cpu in (building.FIRST, building.SECOND)[:1 + program.is_newer()]:
-                made.make_library(cpu)
+            for build in (builds.FIRST, builds.SECOND)[:1 + program.is_newer()]:
+                made.make_library(build)
 
     def run(self, lock: int) -> None:
         """Proves everything; trouble if anything is not proved."""
@@ -361,7 +362,7 @@ def made_unproved() -> None:
         sum_of = summed(PROGRAM)
         os.makedirs(building.STORE, exist_ok=True)
         with tempfile.TemporaryDirectory(prefix="unproved.", dir=building.STORE) as place:
-            os.replace(program.unproved(place), os.path.join(place, "unproved"))
+            os.replace(building.unproved(place), os.path.join(place, "unproved"))
             take(UNPROVED, place, sum_of)
 
 

@@ -8,7 +8,6 @@ import building
 from pxplanes import ends
 import gate
 import installing
-from pxplanes import program
 from pxplanes.errors import Trouble
 
 # What is installed here, by Debian.
@@ -19,10 +18,7 @@ OWN = ("PXPLANES_", "PATH", "PYTHON")
 
 def all_built():
     """All that was built here and may be checked."""
-    yield from (path for _, path in program.builds(program.DEFAULT))
-    yield from (os.path.join(ends.TOP, leaf) for leaf in (gate.ARCHIVE, gate.NEWER_ARCHIVE))
-    yield building.KEPT
-    yield gate.PASSED
+    return (*dict(gate.built(os.path.join(ends.TOP, gate.ARCHIVE), building.KEPT)).values(), gate.PASSED)
 
 
 def key(tried, built):
@@ -41,19 +37,17 @@ def key(tried, built):
     return hashlib.sha256(repr((tried, tree, files, sys.version, modules, settings)).encode()).hexdigest()
 
 
-def place(part):
-    """Where the checksum of what passed last of a part is, next to what was built."""
+def mark_of(part):
+    """The file that has the key of what passed last of a part, next to what was built."""
     return os.path.join(building.STORE, "checked-" + part)
 
 
 def has_passed(part, found):
     """Whether what has this key passed last of a part."""
-    path = place(part)
-    return found is not None and os.path.isfile(path) and ends.content(path).decode("ascii").strip() == found
+    return found is not None and os.path.isfile(mark_of(part)) and ends.content(mark_of(part)).decode("ascii") == found
 
 
 def note(part, found):
     """Notes that what has this key passed of a part."""
-    os.makedirs(building.STORE, exist_ok=True)
-    with open(place(part), "w", encoding="ascii") as file:
-        file.write(found + "\n")
+    with open(installing.made(mark_of(part)), "w", encoding="ascii") as file:
+        file.write(found)

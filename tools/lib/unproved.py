@@ -4,6 +4,7 @@
 of the crates below it. The module that `rt try` hands to clang has these calls then, with the parameters of C, under names of the
 crate: they get those of the header, and the module is compiled again, to an archive as `rt lib` makes it. Nothing of it is proved, and
 its version says so."""
+import functools
 import os
 import re
 
@@ -11,12 +12,13 @@ import building
 from pxplanes import ends
 import installing
 import making
-from building import done, in_kit
+import retarget
+from building import done
 from pxplanes.errors import Trouble
 
 CRATE = "px_c"
 # The module with checks is the one that is compiled so.
-CHECKED = b"-fsanitize=address"
+CHECKED = functools.partial(building.handed, word="-fsanitize=address")
 FLAGS = ("--target=x86_64-unknown-linux-gnu", "-fPIC", "-O1", "-ffunction-sections", "-fdata-sections")
 NAMES, SAID = os.path.join("src", "names.rt"), 'b"%s"'
 MAIN = """
@@ -119,13 +121,10 @@ def named(text):
 
 def archive(place):
     """Makes the archive of the library in a folder, and answers where it is."""
-    clang = in_kit("toolchain", "bin", "clang")
     path = lambda leaf: os.path.join(place, leaf)
     tried(lay_out(os.path.join(place, "tree")), path("module.bc"))
-    done([clang, FLAGS[0], "-S", "-emit-llvm", "-O0", "-Xclang", "-disable-llvm-passes", "-x", "ir", path("module.bc"), "-o",
-              path("tried.ll")], "clang")
     with open(path("named.ll"), "w", encoding="utf-8") as file:
-        file.write(named(ends.content(path("tried.ll")).decode("utf-8")))
-    done([clang, *FLAGS, "-c", "-x", "ir", path("named.ll"), "-o", path("library.o")], "clang")
+        file.write(named(retarget.text_of(path("module.bc"), path("tried.ll"))))
+    retarget.clang(*FLAGS, "-c", "-x", "ir", path("named.ll"), "-o", path("library.o"))
     done(["ar", "rcsD", path("library.a"), path("library.o")], "ar")
     return path("library.a")

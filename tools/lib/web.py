@@ -1,8 +1,8 @@
 """The library as a module of WebAssembly, made of the same module that is compiled to the library for C.
 
-tools/dev/build keeps that module, module.bc, which it passes to the kit's clang. Its text gets the layout and the features of wasm64,
-and its one instruction of x86 becomes the same one of WebAssembly. The kit's clang and lld compile and link it with page/library/heap.c
-and wide.c, and memory32.py gives it a 32-bit memory. page/library/README.md says what that rests on."""
+retarget.py gives the module the target wasm64; its one instruction of x86 becomes the same one of WebAssembly. The kit's clang and lld
+compile and link it with page/library/heap.c and wide.c, and memory32.py gives it a 32-bit memory. page/library/README.md says what that
+rests on."""
 import gzip
 import io
 import json
@@ -12,19 +12,20 @@ import tarfile
 import tempfile
 
 import building
+import builds
 from pxplanes import ends
 import gate
 import memory32
+import retarget
 from building import done, in_kit
 from pxplanes.errors import Trouble
 
 WEB = os.path.join(ends.TOP, "page", "library")
 TARGET = "wasm64-unknown-unknown"
-FLAGS = ["--target=" + TARGET, "-O3", "-msimd128", "-mbulk-memory", "-ffreestanding"]
-FEATURES = '"target-features"="+simd128,+bulk-memory,+sign-ext,+nontrapping-fptoint"'
+FLAGS = ("-O3", "-msimd128", "-mbulk-memory", "-ffreestanding")
 # An index of pshufb with its highest bit clear and below 16, as all of the tree's are, is one of swizzle.
-SAME = {"@llvm.x86.ssse3.pshuf.b.128": "@llvm.wasm.swizzle"}
-FOREIGN = {"rattle_alloc", "rattle_realloc", "rattle_dealloc"}
+CHANGES = ((r'"target-cpu"="[^"]*"( "target-features"="[^"]*")?', '"target-features"="+simd128,+bulk-memory,+sign-ext,+nontrapping-fptoint"'),
+           (r"@llvm\.x86\.ssse3\.pshuf\.b\.128\b", "@llvm.wasm.swizzle"))
 PARTS = ("heap", "wide")
 HEAP_CALLS = ("px_malloc", "px_free")
 STACK, LARGEST = 1 << 20, 1 << 30
@@ -32,45 +33,13 @@ STACK, LARGEST = 1 << 20, 1 << 30
 MODULES = ("pxplanes.mjs", "node.mjs", "pxplanes.d.mts")
 
 
-def translated(text: str, layout: str) -> str:
-    """The text of a module as one for WebAssembly."""
-    text = re.sub(r"(?m)^target datalayout.*$", layout, text)
-    text = re.sub(r"(?m)^target triple.*$", 'target triple = "%s"' % TARGET, text)
-    text = re.sub(r'"probe-stack"="inline-asm"|"stack-probe-size"="\d+"', "", text)
-    text = re.sub(r'"target-cpu"="[^"]*"( "target-features"="[^"]*")?', FEATURES, text)
-    for own, same in SAME.items():
-        text = text.replace(own, same)
-    other = sorted(set(re.findall(r"@(llvm\.x86\.[\w.]+)", text)))
-    if other or " asm " in text:
-        raise Trouble("the module names another instruction of x86: %s" % (", ".join(other) or "in assembly"))
-    foreign = set(re.findall(r"(?m)^declare [^@]*@([\w.]+)\(", text))
-    others = sorted(name for name in foreign - FOREIGN if not name.startswith("llvm."))
-    if others:
-        raise Trouble("the module calls another foreign function: %s" % ", ".join(others))
-    return text
-
-
 def compiled(module: str, out: str, place: str) -> None:
     """Compiles a module, module.bc, and links it with the heap; `out` is the file that is made."""
     tools = in_kit("toolchain", "bin")
-    clang = os.path.join(tools, "clang")
     path = lambda leaf: os.path.join(place, leaf)
-    words = ["--target=x86_64-unknown-linux-gnu", "-S", "-emit-llvm", "-O0", "-Xclang", "-disable-llvm-passes", "-x", "ir"]
-    done([clang, *words, module, "-o", path("x86.ll")], "clang")
-    with open(path("empty.c"), "w") as file:
-        file.write("int x;\n")
-    done([clang, *FLAGS, "-S", "-emit-llvm", path("empty.c"), "-o", path("empty.ll")], "clang")
-    with open(path("empty.ll")) as file:
-        found = re.search(r"(?m)^target datalayout.*$", file.read())
-    if found is None:
-        raise Trouble("clang writes no layout of %s" % TARGET)
-    with open(path("x86.ll")) as file:
-        text = translated(file.read(), found.group())
-    with open(path("wasm.ll"), "w") as file:
-        file.write(text)
-    done([clang, *FLAGS, "-c", "-x", "ir", path("wasm.ll"), "-o", path("library.o")], "clang")
+    text = retarget.compiled(module, TARGET, FLAGS, CHANGES, set(), place)
     for part in PARTS:
-        done([clang, *FLAGS, "-c", os.path.join(WEB, part + ".c"), "-o", path(part + ".o")], "clang")
+        retarget.clang("--target=" + TARGET, *FLAGS, "-c", os.path.join(WEB, part + ".c"), "-o", path(part + ".o"))
     os.symlink(os.path.join(tools, "ld.lld"), path("wasm-ld"))
     calls = sorted(set(re.findall(r"(?m)^define [^@]*@(pxplanes_\w+)\(", text)))
     if not calls:
@@ -86,7 +55,7 @@ def make(out: str) -> None:
     gate.need_passed()
     with tempfile.TemporaryDirectory(prefix="px-web-") as place:
         if not building.is_kept():
-            building.Proved(ends.TOP, 2).make_library(building.FIRST)
+            building.Proved(ends.TOP, 2).make_library(builds.FIRST)
         compiled(building.KEPT, out, place)
 
 

@@ -3,6 +3,9 @@
  * may touch, and the program's note of what was found. Linked with --wrap for malloc, realloc and free.
  */
 #define _GNU_SOURCE
+#ifdef _WIN32
+#define __USE_MINGW_ANSI_STDIO 1
+#endif
 #include <malloc.h>
 #include <pthread.h>
 #include <stdarg.h>
@@ -10,9 +13,24 @@
 #include <stdio.h>
 #include <stdlib.h>
 #include <string.h>
-#include <sys/mman.h>
 #include <unistd.h>
 #include "pxplanes.h"
+#ifdef _WIN32
+/* What is used of sys/mman.h, by Windows' own calls. */
+#include <windows.h>
+#define malloc_usable_size _msize
+#define flockfile(file)
+#define funlockfile(file)
+#define MAP_FAILED NULL
+#define sysconf(page) 4096
+#define mmap(at, size, ...) VirtualAlloc(at, size, MEM_RESERVE | MEM_COMMIT, PAGE_READWRITE)
+#define mprotect(at, size, none) !VirtualProtect(at, size, PAGE_NOACCESS, &(DWORD){0})
+#define munmap(at, size) VirtualFree(at, 0, MEM_RELEASE)
+/* One thread at a time calls there: what is a thread's own is taken from malloc. */
+#define _Thread_local
+#else
+#include <sys/mman.h>
+#endif
 
 #define FILL 0xa5
 #define STACK (256 * 1024)

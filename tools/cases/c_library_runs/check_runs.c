@@ -11,9 +11,14 @@
  * bytes at once than its text, its output and its array explain. Prints a line for each difference, and last how much was compared.
  */
 #include "watched.h"
+#include <pxplanes_image.h>
+#include <inttypes.h>
 #include <time.h>
 
+/* In seconds. */
+#ifndef SHORT
 #define SHORT 0.1
+#endif
 
 struct run {
     char name[256];
@@ -21,7 +26,7 @@ struct run {
     uint32_t status;
 };
 
-static size_t of_status[PXPLANES_LIMIT + 1];
+static size_t of_status[PXPLANES_LIMIT + 1], sizes;
 
 /* The most bytes that a run may ask for at once: of its text as many as are read, 160 each; its output, while it grows; and two
  * arrays with their slots, which have 75 rows of 32 KiB and a tree of 128 KiB, five times, for 512 by 512 pixels. */
@@ -72,6 +77,29 @@ static void compare_found(const struct run *run, uint32_t status, struct pxplane
         differs(run->name, "status %u finds what does not apply", (unsigned) status);
 }
 
+/* The size of an image, which pxplanes_maps_size gives before the work, is that of the output. */
+static void compare_size(const struct run *run)
+{
+    struct pxplanes_found found;
+    char words[64];
+    uint32_t a = 1, b = 1;
+    uint64_t size = 0;
+    if (run->status != PXPLANES_OK || pxplanes_check(run->text.at, run->text.len, &found) != PXPLANES_OK)
+        return;
+    snprintf(words, sizeof words, "%.*s", (int) run->words.len, (const char *) run->words.at);
+    if (run->words.len == 0 || strcmp(words, "render") == 0)
+        size = pxplanes_maps_size(found.width, found.height, 2);
+    else if (strcmp(words, "colour") == 0 || strcmp(words, "shadow") == 0 || strncmp(words, "refine ", 7) == 0)
+        size = pxplanes_maps_size(found.width, found.height, 1);
+    else if (sscanf(words, "tile %" SCNu32 " %" SCNu32, &a, &b) == 2)
+        size = pxplanes_maps_size(a, b, 2);
+    else
+        return;
+    sizes++;
+    if (size != run->output.len)
+        differs(run->name, "its size is %llu before the work", (unsigned long long) size);
+}
+
 /* One run, into a buffer of so many bytes. */
 static void tried(const struct run *run, size_t len, long refuse)
 {
@@ -109,6 +137,7 @@ static void *compare_all(void *none)
         tried(run, run->output.len, 0);
         long all = asked;
         of_status[run->status]++;
+        compare_size(run);
         if (seconds() - began > SHORT)
             continue;
         tried(run, 0, 0);
@@ -162,7 +191,7 @@ int main(int words, char **word)
             return 2;
         pthread_join(thread, NULL);
     }
-    printf("%s done, %s usage, %s malformed, %s limits, %s calls, %ld differences\n", of_status[PXPLANES_OK] > 100 ? "many" : "few",
+    printf("%s sizes, %s done, %s usage, %s malformed, %s limits, %s calls, %ld differences\n", sizes > 60 ? "many" : "few", of_status[PXPLANES_OK] > 100 ? "many" : "few",
            of_status[PXPLANES_USAGE] > 15 ? "many" : "few", of_status[PXPLANES_MALFORMED] > 60 ? "many" : "few",
            of_status[PXPLANES_LIMIT] > 40 ? "many" : "few", atomic_load(&calls) > 10 * (long) count ? "many" : "few",
            atomic_load(&differences));

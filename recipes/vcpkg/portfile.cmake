@@ -1,0 +1,7 @@
+set(LEAF "pxplanes-${VERSION}-x86_64-linux-gnu.tar.xz")
+vcpkg_extract_source_archive(SOURCE_PATH ARCHIVE "${CMAKE_CURRENT_LIST_DIR}/${LEAF}")
+file(INSTALL "${SOURCE_PATH}/include/" DESTINATION "${CURRENT_PACKAGES_DIR}/include")
+file(INSTALL "${SOURCE_PATH}/lib/libpxplanes.a" DESTINATION "${CURRENT_PACKAGES_DIR}/lib")
+file(INSTALL "${SOURCE_PATH}/lib/libpxplanes.a" DESTINATION "${CURRENT_PACKAGES_DIR}/debug/lib")
+file(INSTALL "${SOURCE_PATH}/lib/pkgconfig/pxplanes.pc" DESTINATION "${CURRENT_PACKAGES_DIR}/lib/pkgconfig")
+vcpkg_fixup_pkgconfig()
