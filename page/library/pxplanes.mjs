@@ -8,7 +8,7 @@
 // and one out of its range as `RangeError`. docs/LIBRARY.md has each call.
 
 const STATUS = {ok: 0, usage: 2, malformed: 3, limit: 4, memory: 7, room: 8, clock: 9, grid: 10, micro: 11, operation: 12, window: 13, face: 14};
-const FOUND = 56, FACE = 28, NAME = 32, STATE = 64, WORD = 16, MICRO = 8, OPERATION = 88, ROOM = 1 << 21, MOST_SIDE = 512, MOST_BITS = 53, MOST_WORD = 2 ** 32 - 1;
+const FOUND = 56, FACE = 28, NAME = 32, STATE = 64, WORD = 16, MICRO = 8, OPERATION = 88, ROOM = 1 << 21, MOST_SIDE = 512, MOST_BITS = 53, MOST_WORD = 2 ** 32 - 1, MOST_WORDS = 2 ** 20;
 // A module with one instruction on vectors of 128 bits.
 const VECTORS = Uint8Array.of(0, 97, 115, 109, 1, 0, 0, 0, 1, 5, 1, 96, 0, 1, 123, 3, 2, 1, 0, 10, 10, 1, 8, 0, 65, 0, 253, 15, 253, 98, 11);
 const ACTS = ["", "nop", "enable-all", "enable-carry", "enable-tree", "enable-bit", "set-carry", "fetch", "store-tree", "store-latch",
@@ -18,8 +18,8 @@ const KINDS = ["all", "keep-sign", "keep-bit", "load-linear", "keep-at-most", "a
   "keep-less"];
 const FACES = ["near", "front", "back"];
 const ROLES = [null, "start", "open", "candidate", "drop", "clear", "front", "confirm", "begin", "turn", "close", "merge"];
-// A machine keeps so many states, and goes on from one that is so many clocks before at most; farther, a state of the text is faster.
-const LATEST = 1000, KEPT_BYTES = 1 << 27, NEAR = 24, STRETCH = 4096;
+// A machine keeps so many states, and goes on from one that is so many clocks before at most, until it knows what a clock takes.
+const LATEST = 1000, KEPT_BYTES = 1 << 27, NEAR = 24, FARTHEST = 400, STRETCH = 4096;
 
 // Why a text is refused, or a call not answered: `status` is the program's, `line` the first bad line, `cause` or `kind` the word of
 // why, `number` what was found there, and `clocks` or `operations` how many there are, where one past the last was asked.
@@ -164,17 +164,17 @@ export class Library {
 
   // The products that are drawn, each a list of solid numbers from 1 on, below 0 where a solid is taken away.
   products(text) {
-    return this.#roomy(count => this.#ask("products", text, [[4 * count, 4]], (found, [room]) => {
+    return this.#roomy(0, count => this.#ask("products", text, [[4 * count, 4]], (found, [room]) => {
       const rows = [[]];
       for (const number of this.#copy(Int32Array, room, 4 * count)) if (number) rows[rows.length - 1].push(number); else rows.push([]);
       return rows.slice(0, -1);
     }));
   }
 
-  // The machine after so many clocks of a scene or of a listing.
-  state(text, clock) {
-    const made = whole(clock, "clock");
-    return this.#roomy(count => this.#with([STATE], ([state]) => this.#ask("state", text, [[8 * count, 8]],
+  // The machine after so many clocks of a scene or of a listing; `size` is how many words of 64 bits the state has, if that is known.
+  state(text, clock, size = 0) {
+    const made = whole(clock, "clock"), known = whole(size, "size", MOST_WORDS);
+    return this.#roomy(known, count => this.#with([STATE], ([state]) => this.#ask("state", text, [[8 * count, 8]],
       (found, [room]) => new State(this.#fields(state), this.#copy(Uint32Array, room, 8 * count)), [BigInt(made)], [state])));
   }
 
@@ -246,10 +246,10 @@ export class Library {
       ({width, height, depths: map(isFloat ? Float32Array : Uint32Array, depths), faces: map(Uint32Array, faces), operations, clocks}), numbers);
   }
 
-  // Makes a call with a buffer of so many elements as the library says that it needs.
-  #roomy(call) {
+  // Makes a call with a buffer of so many elements, or as many as the library says that it needs.
+  #roomy(known, call) {
     try {
-      return call(0);
+      return call(known);
     } catch (error) {
       if (error.status !== STATUS.room) throw error;
       return call(error.number);
@@ -430,12 +430,13 @@ export class State {
 }
 
 // A machine over a text: any of its states. The last ones that it came by are kept, to go back to. Where `starts` has the first clock
-// of each operation, and the library makes clocks of a state, a state is made of one that is kept a few clocks before it.
+// of each operation, and the library makes clocks of a state, a state is made of one that is kept a few clocks before it: of so many
+// as take less time than a state of the text did.
 export class Machine {
   constructor(library, text, starts = null) {
     const isRising = Array.isArray(starts) && starts.every((clock, at) => Number.isSafeInteger(clock) && (at ? clock > starts[at - 1] : clock === 0));
     if (starts !== null && !isRising) throw new TypeError("starts is no array of the clocks at which the operations begin, from 0 on and rising");
-    Object.assign(this, {library, text, starts, kept: new Map(), packed: [0, new BigUint64Array(0)]});
+    Object.assign(this, {library, text, starts, kept: new Map(), packed: [0, new BigUint64Array(0)], near: NEAR, spent: {clocks: [0, 0], states: [0, 0]}});
     this.first = library.state(text, 0);
     this.clocks = this.first.clocks;
     this.most = Math.max(2 * NEAR, Math.min(LATEST, Math.floor(KEPT_BYTES / this.first.words.byteLength)));
@@ -466,16 +467,27 @@ export class Machine {
   prepare(clock) {
     whole(clock, "clock", this.clocks);
     if (!this.canStep || clock < NEAR || this.kept.has(clock - 1)) return;
-    let known = this.#keep(this.library.state(this.text, clock - NEAR));
+    let known = this.#keep(this.#ofText(clock - NEAR));
     while (known.clock + 1 < clock) known = this.#keep(this.#after(known, known.clock + 1));
   }
 
   // Goes on from a state that is near.
   #found(clock) {
     if (this.canStep && clock <= this.clocks)
-      for (let near = clock - 1; near >= Math.max(0, clock - NEAR); near--)
-        if (this.kept.has(near)) return this.#after(this.kept.get(near), clock);
-    return this.library.state(this.text, clock);
+      for (let near = clock - 1; near >= Math.max(0, clock - this.near); near--)
+        if (this.kept.has(near)) return this.#timed("clocks", clock - near, () => this.#after(this.kept.get(near), clock));
+    return this.#timed("states", 1, () => this.#ofText(clock));
+  }
+
+  #ofText(clock) { return this.library.state(this.text, clock, this.first.words.length / 2); }
+
+  // Makes so many clocks or states, and learns what they take.
+  #timed(what, count, make) {
+    const began = performance.now(), made = make(), {clocks, states} = this.spent;
+    this.spent[what][0] += performance.now() - began;
+    this.spent[what][1] += count;
+    if (clocks[0] && states[0]) this.near = Math.min(FARTHEST, Math.round(states[0] / states[1] * clocks[1] / clocks[0]));
+    return made;
   }
 
   #after(known, clock) {

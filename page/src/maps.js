@@ -144,7 +144,7 @@ async function readPng(bytes) {
   const width = view.getUint32(16), height = view.getUint32(20), [bits, kind, , , isWoven] = bytes.subarray(24), channels = OF_PNG[kind];
   if (!channels || isWoven || bits < 8) throw new Bad(`the page reads no PNG that is interlaced, has a palette, or has fewer than 8 bits: ${CONVERT}`);
   sized(width, height, "PNG file");
-  const body = await unpacked(new Uint8Array(await new Blob(parts).arrayBuffer()), "deflate").catch(() => { throw new Bad("the PNG file is damaged"); });
+  const body = await unpacked(joined(parts), "deflate").catch(() => { throw new Bad("the PNG file is damaged"); });
   const step = channels * bits / 8, length = width * step, lines = new Uint8Array(height * length);
   if (body.length < height * (length + 1)) throw new Bad("the PNG file ends early");
   for (let y = 0, to = 0; y < height; y++) {
@@ -155,6 +155,17 @@ async function readPng(bytes) {
     }
   }
   return new Raster(width, height, channels, 2 ** bits - 1, numbersOf(lines, bits === 8 ? "u1" : "u2", false, width * height * channels));
+}
+
+// Parts one after the other (in a worker WebKit reads no blob of them).
+function joined(parts) {
+  const out = new Uint8Array(parts.reduce((sum, part) => sum + part.length, 0));
+  let at = 0;
+  for (const part of parts) {
+    out.set(part, at);
+    at += part.length;
+  }
+  return out;
 }
 
 // Which of three bytes is nearest to the first two less the third.

@@ -2,11 +2,19 @@
 import {REGISTERS} from "../library/pxplanes.mjs";
 import {ON, OFF, greys, hue, packed} from "./palette.js";
 
+// How many bits of a word are 1, of each four of them.
+function ones(word) {
+  const pairs = word - (word >>> 1 & 0x55555555);
+  return (pairs & 0x33333333) + (pairs >>> 2 & 0x33333333);
+}
+
 // How many bits of a plane are 1.
-export function onesOf(state, plane) {
+export function onesOf({words, perPlane}, plane) {
   let count = 0;
-  for (let at = plane * state.perPlane; at < (plane + 1) * state.perPlane; at++)
-    for (let word = state.words[at]; word; word &= word - 1) count += 1;
+  for (let at = plane * perPlane; at < (plane + 1) * perPlane; at++) {
+    const fours = ones(words[at]);
+    count += Math.imul((fours & 0x0f0f0f0f) + (fours >>> 4 & 0x0f0f0f0f), 0x01010101) >>> 24;
+  }
   return count;
 }
 
@@ -23,8 +31,8 @@ export function fieldsOf(layout) {
 }
 
 // What there is to show of the array: each has a name, a label, a group, the planes that it is made of, and `fill(state, pixels)`, which
-// gives each place its colour, row by row, as an image holds them; one of bits has its plane. `layout` is null for a listing, and
-// `faces` has the colour of each face of a scene.
+// gives each place its colour, row by row, as an image holds them, or with a third word `SMALL` a place for as many columns and rows; one
+// of bits has its plane. `layout` is null for a listing, and `faces` has the colour of each face of a scene.
 export function viewsOf(layout, bits, faces) {
   const fields = fieldsOf(layout);
   const registers = REGISTERS.map((name, number) => bitView(name, name, "registers", bits + number));
@@ -38,10 +46,33 @@ export function viewsOf(layout, bits, faces) {
 }
 
 function bitView(name, label, group, plane, field = "") {
-  return {name, label, group, plane, planes: [plane, plane + 1], field, fill: (state, pixels) => fillBits(state, plane, pixels)};
+  return {name, label, group, plane, planes: [plane, plane + 1], field, 
+    fill: (state, pixels, step = 1) => (step === SMALL ? fillShares : fillBits)(state, plane, pixels)};
 }
 
 const [ONE, ZERO] = [ON, OFF].map(packed);
+export const SMALL = 4;
+// The colours of 16 bits of which none are 1, one, and so on.
+const SHARES = Uint32Array.from({length: SMALL * SMALL + 1}, (_, count) =>
+  packed(OFF.map((off, part) => Math.round(off + (ON[part] - off) * count / (SMALL * SMALL)))));
+
+// A small image of a plane, with a place for each four columns and rows: how many of their bits are 1.
+function fillShares({words, width, height, perRow, perPlane}, plane, pixels) {
+  for (let y = 0, to = 0; y < height; y += SMALL) {
+    for (let x = 0; x < width; x += 32) {
+      let at = plane * perPlane + y * perRow + (x >> 5), even = 0, odd = 0;
+      for (let row = 0; row < SMALL; row++, at += perRow) {
+        const fours = ones(words[at]);
+        even += fours & 0x0f0f0f0f;
+        odd += fours >>> 4 & 0x0f0f0f0f;
+      }
+      for (const end = to + Math.min(32, width - x) / SMALL; to < end; even >>>= 8, odd >>>= 8) {
+        pixels[to++] = SHARES[even & 255];
+        pixels[to++] = SHARES[odd & 255];
+      }
+    }
+  }
+}
 
 // An image of a plane.
 export function fillBits({words, width, height, perRow, perPlane}, plane, pixels) {
@@ -57,16 +88,19 @@ function keyViews(fields, key, label, faces) {
   const view = (what, field, colour) => {
     const {at, length} = fields.find(each => each.name === `${key} ${field}`);
     return {name: `${key} ${what}`, label: `${label} ${what}`, group: "numbers", planes: [at, at + length], field: `${key} ${field}`,
-      fill: (state, pixels) => fillNumbers(state.numbers(at, length), colour, 2 ** length - 1, pixels)};
+      fill: (state, pixels, step = 1) => fillNumbers(state.numbers(at, length), colour, 2 ** length - 1, pixels, state.width, step)};
   };
   return [view("colours", "face", () => number => faces[number] ?? OFF), view("depth", "depth", greys), view("face", "face", () => hue)];
 }
 
-function fillNumbers(numbers, colour, far, pixels) {
+// Of a small image each place has the number of the first of its pixels.
+function fillNumbers(numbers, colour, far, pixels, width, step) {
   const of = colour(numbers, far), known = new Map();
-  numbers.forEach((number, at) => {
-    let own = known.get(number);
-    if (own === undefined) known.set(number, own = packed(of(number)));
-    pixels[at] = own;
-  });
+  for (let first = 0, to = 0; first < numbers.length; first += step * width) {
+    for (let at = first; at < first + width; at += step, to++) {
+      let own = known.get(numbers[at]);
+      if (own === undefined) known.set(numbers[at], own = packed(of(numbers[at])));
+      pixels[to] = own;
+    }
+  }
 }

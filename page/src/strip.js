@@ -143,8 +143,11 @@ export class Strip {
       this.onView();
     }
     this.mark();
-    const now = this.thumbs.findLastIndex(each => each.clock <= clock);
-    this.thumbs.forEach(({button}, place) => button.classList.toggle("now", place === now));
+    const now = this.thumbs.findLast(each => each.clock <= clock)?.button;
+    if (now === this.now) return;
+    this.now?.classList.remove("now");
+    this.now = now;
+    now?.classList.add("now");
   }
 
   // Lights the passes of a face, or none if it is 0.

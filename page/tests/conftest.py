@@ -1,6 +1,5 @@
 """What the tests of the page share: a browser, and the page in it with the first scene of the documents."""
 import os
-import shutil
 import sys
 from typing import Iterator
 
@@ -9,16 +8,28 @@ import pytest
 TOP = os.path.dirname(os.path.dirname(os.path.dirname(os.path.realpath(__file__))))
 sys.path[:0] = [os.path.join(TOP, "tools", "lib"), os.path.join(TOP, "python")]
 import pages
-from browser import NAMES, Browser
+from browser import Browser
+from pxplanes.errors import Trouble
+from webdriver import Firefox, WebKit
 
 FIRST = os.path.join(TOP, "docs", "scenes", "first.scene")
+BROWSERS = {"chromium": Browser, "firefox": Firefox, "webkit": WebKit}
+
+
+def pytest_addoption(parser: pytest.Parser) -> None:
+    parser.addoption("--browser", choices=list(BROWSERS), default="chromium", help="in which the tests run that need no protocol of Chromium's own")
+
+
+def opened(name: str) -> pages.AnyBrowser:
+    try:
+        return BROWSERS[name]()
+    except Trouble as trouble:
+        pytest.skip("%s; tools/dev/peers installs it" % trouble)
 
 
 @pytest.fixture(scope="session")
-def chromium() -> Iterator[Browser]:
-    if not any(map(shutil.which, NAMES)):
-        pytest.skip("no chromium; tools/dev/peers installs it")
-    with Browser() as browser:
+def chromium(request: pytest.FixtureRequest) -> Iterator[pages.AnyBrowser]:
+    with opened(request.config.getoption("--browser")) as browser:
         yield browser
 
 
@@ -28,7 +39,7 @@ def page(chromium: Browser) -> Iterator[Browser]:
     chromium.size(1280, 720)
     pages.alone(chromium)
     chromium.run("(Storage.prototype.setItem = () => {}, localStorage.clear(), sessionStorage.clear())")
-    chromium.events.clear()
+    chromium.forget()
     pages.alone(chromium)
     yield chromium
     assert chromium.faults() == []
