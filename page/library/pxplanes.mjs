@@ -498,12 +498,9 @@ export class Machine {
   }
 
   #operationAt(clock) {
-    let low = 0, high = this.starts.length;
-    while (low < high) {
-      const middle = low + high >> 1;
-      if (this.starts[middle] <= clock) low = middle + 1; else high = middle;
-    }
-    return low - 1;
+    let last = this.starts.length - 1;
+    while (this.starts[last] > clock) last -= 1;
+    return last;
   }
 
   // Keeps a state, and forgets the one that was used longest ago.

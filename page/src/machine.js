@@ -96,7 +96,6 @@ export class Machine {
   goTo(clock) {
     if (!this.course) return;
     this.wanted = Math.max(0, Math.min(this.course.clocks, clock));
-    at("clock").value = this.wanted;
     this.fetchState();
   }
 
@@ -163,6 +162,8 @@ export class Machine {
     const unknown = [this.view, this.beside].filter(name => name && !this.viewNamed(name));
     if (unknown.length) this.tell(new Trouble(`There is nothing named ${unknown.join(" or ")} to show of this text.`));
     at("until").value = state.clock;
+    // (the slider goes with the array, so that both are painted at once; it stays under a hand that moved on)
+    if (this.isShown) at("clock").value = state.clock;
     this.paint();
     this.onShow();
     this.showWall();

@@ -326,14 +326,18 @@ function letters(way) {
 }
 
 function theme() {
-  const root = document.documentElement, system = matchMedia("(prefers-color-scheme: dark)").matches ? "dark" : "light";
-  root.dataset.theme = (root.dataset.theme ?? system) === "dark" ? "light" : "dark";
-  remember({theme: root.dataset.theme});
+  showTheme(document.documentElement.dataset.theme === "dark" ? "light" : "dark");
+  remember({theme: document.documentElement.dataset.theme});
+}
+
+// Shows a theme, or the system's.
+function showTheme(name = isDark.matches ? "dark" : "light") {
+  document.documentElement.dataset.theme = name;
   machine.strip.drawPasses();
 }
 
 // Theme and size of letters stay, where the browser keeps anything for the page.
-const LOOK = "pxplanes look";
+const LOOK = "pxplanes look", isDark = matchMedia("(prefers-color-scheme: dark)");
 
 const remembered = () => stored(store => JSON.parse(store.getItem(LOOK))) ?? {};
 
@@ -396,7 +400,8 @@ function showStep({scene: name, exercise, place}) {
 async function start() {
   document.body.classList.toggle("embed", new URLSearchParams(location.search).has("embed"));
   const look = remembered();
-  if (look.theme) document.documentElement.dataset.theme = look.theme;
+  showTheme(look.theme);
+  isDark.addEventListener("change", () => showTheme(remembered().theme));
   if (look.letters) document.documentElement.style.fontSize = look.letters;
   let given = null;
   try {

@@ -7,7 +7,7 @@ const STEPS = [
   {scene: "letters", place: {share: 0.55, view: "best colours", pixel: [60, 180], isPlayed: "pass"}, lit: "#stages",
     title: "A processor in every pixel",
     words: "This page simulates Pixel-Planes, a graphics machine that was built at the University of North Carolina, and described in 1985. "
-      + "Every pixel has a processor of one bit, and all of them take the same step in each clock. Here they draw the letters UNC."},
+      + "Every pixel has a processor of one bit, and all of them take the same step in each clock. Here they draw the words PIXEL PLANES."},
   {scene: "triangle", place: {clock: 321, view: "enable", pixel: [7, 8]}, lit: "#stages", title: "One edge",
     words: "An edge asks every pixel at once on which side of a line it lies. Those on the wrong side are switched off. Of the 256 pixels 207 "
       + "are still enabled: the white ones."},
