@@ -201,7 +201,7 @@ export class Machine {
     const operation = isDone ? count - 1 : state.operation;
     const [pass, line, words, first] = course.operations[operation] ?? [0, "", "", 0], {said, kind} = course.pass(pass);
     const end = this.head.layout ? "all is done: key B has the picture" : "all is done";
-    const place = isDone ? `${count} operations in ${state.clocks} clocks`
+    const place = isDone ? `${count.toLocaleString("en")} operations in ${state.clocks.toLocaleString("en")} clocks`
       : `operation ${operation} (of 0 to ${count - 1}), next its clock ${state.operationClock} (of 0 to ${course.startOf(operation + 1) - first - 1})`;
     const number = made("span", "label", `pass ${pass + 1} of ${course.passes.length}`);
     at("pass").replaceChildren(made("i", "chip pass-" + kind), number, ...worded(said));
