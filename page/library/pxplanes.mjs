@@ -18,8 +18,8 @@ const KINDS = ["all", "keep-sign", "keep-bit", "load-linear", "keep-at-most", "a
   "keep-less"];
 const FACES = ["near", "front", "back"];
 const ROLES = [null, "start", "open", "candidate", "drop", "clear", "front", "confirm", "begin", "turn", "close", "merge"];
-// A machine keeps so many states, and goes on from one that is so many clocks before at most, until it knows what a clock takes.
-const LATEST = 1000, KEPT_BYTES = 1 << 27, NEAR = 24, FARTHEST = 400, STRETCH = 4096;
+// A machine keeps so many states, and goes on from one that is so many clocks before at most; farther, a state of the text is faster.
+const LATEST = 1000, KEPT_BYTES = 1 << 27, NEAR = 24, STRETCH = 4096;
 
 // Why a text is refused, or a call not answered: `status` is the program's, `line` the first bad line, `cause` or `kind` the word of
 // why, `number` what was found there, and `clocks` or `operations` how many there are, where one past the last was asked.
@@ -171,11 +171,14 @@ export class Library {
     }));
   }
 
-  // The machine after so many clocks of a scene or of a listing; `size` is how many words of 64 bits the state has, if that is known.
-  state(text, clock, size = 0) {
-    const made = whole(clock, "clock"), known = whole(size, "size", MOST_WORDS);
-    return this.#roomy(known, count => this.#with([STATE], ([state]) => this.#ask("state", text, [[8 * count, 8]],
-      (found, [room]) => new State(this.#fields(state), this.#copy(Uint32Array, room, 8 * count)), [BigInt(made)], [state])));
+  // The machine after so many clocks of a scene or of a listing. With room for the state's words of 64 bits the text is read once, and without it twice.
+  state(text, clock, room = 0) {
+    const made = whole(clock, "clock"), known = whole(room, "room", MOST_WORDS);
+    return this.#roomy(known, count => this.#with([STATE], ([state]) => this.#ask("state", text, [[8 * count, 8]], (found, [place]) => {
+      const fields = this.#fields(state), {wordsPerRow, height, bits, levels} = fields;
+      const size = (bits + REGISTERS.length) * height * wordsPerRow + 2 * Math.ceil(2 ** (levels + 1) / 64);
+      return new State(fields, this.#copy(Uint32Array, place, 8 * size));
+    }, [BigInt(made)], [state])));
   }
 
   // The microinstructions of so many clocks, from `first` on, as the library packs them.
@@ -430,13 +433,12 @@ export class State {
 }
 
 // A machine over a text: any of its states. The last ones that it came by are kept, to go back to. Where `starts` has the first clock
-// of each operation, and the library makes clocks of a state, a state is made of one that is kept a few clocks before it: of so many
-// as take less time than a state of the text did.
+// of each operation, and the library makes clocks of a state, a state is made of one that is kept a few clocks before it.
 export class Machine {
   constructor(library, text, starts = null) {
     const isRising = Array.isArray(starts) && starts.every((clock, at) => Number.isSafeInteger(clock) && (at ? clock > starts[at - 1] : clock === 0));
     if (starts !== null && !isRising) throw new TypeError("starts is no array of the clocks at which the operations begin, from 0 on and rising");
-    Object.assign(this, {library, text, starts, kept: new Map(), packed: [0, new BigUint64Array(0)], near: NEAR, spent: {clocks: [0, 0], states: [0, 0]}});
+    Object.assign(this, {library, text, starts, kept: new Map(), packed: [0, new BigUint64Array(0)]});
     this.first = library.state(text, 0);
     this.clocks = this.first.clocks;
     this.most = Math.max(2 * NEAR, Math.min(LATEST, Math.floor(KEPT_BYTES / this.first.words.byteLength)));
@@ -474,33 +476,18 @@ export class Machine {
   // Goes on from a state that is near.
   #found(clock) {
     if (this.canStep && clock <= this.clocks)
-      for (let near = clock - 1; near >= Math.max(0, clock - this.near); near--)
-        if (this.kept.has(near)) return this.#timed("clocks", clock - near, () => this.#after(this.kept.get(near), clock));
-    return this.#timed("states", 1, () => this.#ofText(clock));
+      for (let near = clock - 1; near >= Math.max(0, clock - NEAR); near--)
+        if (this.kept.has(near)) return this.#after(this.kept.get(near), clock);
+    return this.#ofText(clock);
   }
 
   #ofText(clock) { return this.library.state(this.text, clock, this.first.words.length / 2); }
 
-  // Makes so many clocks or states, and learns what they take.
-  #timed(what, count, make) {
-    const began = performance.now(), made = make(), {clocks, states} = this.spent;
-    this.spent[what][0] += performance.now() - began;
-    this.spent[what][1] += count;
-    if (clocks[0] && states[0]) this.near = Math.min(FARTHEST, Math.round(states[0] / states[1] * clocks[1] / clocks[0]));
-    return made;
-  }
-
   #after(known, clock) {
     const words = this.library.clocks(known, this.#broadcast(known.clock, clock - known.clock)), isEnd = clock === this.clocks;
-    const operation = isEnd ? this.starts.length : this.#operationAt(clock);
+    const operation = isEnd ? this.starts.length : this.starts.filter(start => start <= clock).length - 1;
     return new State({...this.first, clock, operation, operationClock: isEnd ? 0 : clock - this.starts[operation],
       next: isEnd ? null : this.micros(clock, 1)[0]}, words);
-  }
-
-  #operationAt(clock) {
-    let last = this.starts.length - 1;
-    while (this.starts[last] > clock) last -= 1;
-    return last;
   }
 
   // Keeps a state, and forgets the one that was used longest ago.

@@ -9,7 +9,7 @@ import {NAMES, formOf} from "./passes.js";
 import {Inside} from "./inside.js";
 import {Player} from "./play.js";
 import {Predict} from "./predict.js";
-import {Screen, at, made} from "./show.js";
+import {Screen, at, made, passChip} from "./show.js";
 import {fieldsOf, onesOf, viewsOf} from "./state.js";
 import {Strip} from "./strip.js";
 import {isShown, treeOf} from "./tree.js";
@@ -61,7 +61,7 @@ export class Machine {
     for (const button of document.querySelectorAll("[data-zoom]"))
       button.addEventListener("click", () => this.zoom(Number(button.dataset.zoom)));
     for (const [kind, words] of Object.entries(KINDS))
-      at("legend").append(made("span", "", "", made("i", "chip pass-" + kind), words + " "));
+      at("legend").append(made("span", "", "", passChip(kind), words + " "));
     new ResizeObserver(() => { this.strip.drawPasses(); this.life.draw(); this.inside(); }).observe(at("machine"));
     new ResizeObserver(() => { if (this.state) this.arrange(); }).observe(at("stages"));
   }
@@ -204,7 +204,7 @@ export class Machine {
     const place = isDone ? `${count.toLocaleString("en")} operations in ${state.clocks.toLocaleString("en")} clocks`
       : `operation ${operation} (of 0 to ${count - 1}), next its clock ${state.operationClock} (of 0 to ${course.startOf(operation + 1) - first - 1})`;
     const number = made("span", "label", `pass ${pass + 1} of ${course.passes.length}`);
-    at("pass").replaceChildren(made("i", "chip pass-" + kind), number, ...worded(said));
+    at("pass").replaceChildren(passChip(kind), number, ...worded(said));
     at("operation").replaceChildren(...worded(isDone ? end : words));
     at("line").replaceChildren(made("code", "", isDone ? "" : line), made("span", "quiet", place));
     at("micro").replaceChildren(made("span", "label", "next"), made("code", "", state.micro ?? "nothing"),

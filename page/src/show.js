@@ -210,8 +210,9 @@ export function made(name, kind = "", text = "", ...inside) {
   return element;
 }
 
-// A small square of a colour, as CSS writes it.
+// A small square of a colour, as CSS writes it; and of the colour of a kind of passes.
 export const chip = colour => Object.assign(made("i", "chip"), {style: `background: ${colour}`});
+export const passChip = kind => chip(`var(--pass-${kind})`);
 
 const SVG = "http://www.w3.org/2000/svg";
 

@@ -2,19 +2,11 @@
 import {REGISTERS} from "../library/pxplanes.mjs";
 import {ON, OFF, greys, hue, packed} from "./palette.js";
 
-// How many bits of a word are 1, of each four of them.
-function ones(word) {
-  const pairs = word - (word >>> 1 & 0x55555555);
-  return (pairs & 0x33333333) + (pairs >>> 2 & 0x33333333);
-}
-
 // How many bits of a plane are 1.
-export function onesOf({words, perPlane}, plane) {
+export function onesOf(state, plane) {
   let count = 0;
-  for (let at = plane * perPlane; at < (plane + 1) * perPlane; at++) {
-    const fours = ones(words[at]);
-    count += Math.imul((fours & 0x0f0f0f0f) + (fours >>> 4 & 0x0f0f0f0f), 0x01010101) >>> 24;
-  }
+  for (let at = plane * state.perPlane; at < (plane + 1) * state.perPlane; at++)
+    for (let word = state.words[at]; word; word &= word - 1) count += 1;
   return count;
 }
 
@@ -52,24 +44,17 @@ function bitView(name, label, group, plane, field = "") {
 
 const [ONE, ZERO] = [ON, OFF].map(packed);
 export const SMALL = 4;
-// The colours of 16 bits of which none are 1, one, and so on.
-const SHARES = Uint32Array.from({length: SMALL * SMALL + 1}, (_, count) =>
-  packed(OFF.map((off, part) => Math.round(off + (ON[part] - off) * count / (SMALL * SMALL)))));
+// How many of four bits are 1; and the colours of 16 bits, of which none are 1, one, and so on.
+const ONES = Array.from({length: 2 ** SMALL}, (_, bits) => [...bits.toString(2)].filter(bit => bit === "1").length);
+const SHARES = Array.from({length: SMALL * SMALL + 1}, (_, count) => packed(OFF.map((off, part) => Math.round(off + (ON[part] - off) * count / (SMALL * SMALL)))));
 
-// A small image of a plane, with a place for each four columns and rows: how many of their bits are 1.
+// A small image of a plane, with a place for each four columns and rows.
 function fillShares({words, width, height, perRow, perPlane}, plane, pixels) {
   for (let y = 0, to = 0; y < height; y += SMALL) {
-    for (let x = 0; x < width; x += 32) {
-      let at = plane * perPlane + y * perRow + (x >> 5), even = 0, odd = 0;
-      for (let row = 0; row < SMALL; row++, at += perRow) {
-        const fours = ones(words[at]);
-        even += fours & 0x0f0f0f0f;
-        odd += fours >>> 4 & 0x0f0f0f0f;
-      }
-      for (const end = to + Math.min(32, width - x) / SMALL; to < end; even >>>= 8, odd >>>= 8) {
-        pixels[to++] = SHARES[even & 255];
-        pixels[to++] = SHARES[odd & 255];
-      }
+    for (let x = 0; x < width; x += SMALL) {
+      let count = 0;
+      for (let row = y; row < y + SMALL; row++) count += ONES[words[plane * perPlane + row * perRow + (x >> 5)] >>> (x & 31) & 15];
+      pixels[to++] = SHARES[count];
     }
   }
 }

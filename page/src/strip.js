@@ -3,7 +3,7 @@ import {ask, latest} from "./ask.js";
 import {KINDS} from "./course.js";
 import {rove} from "./rove.js";
 import {css} from "./palette.js";
-import {at, fitted, made, put} from "./show.js";
+import {at, fitted, made, passChip, put} from "./show.js";
 
 const MOST = 40, FEW = 10, WIDE = 30, PAUSE = 150, SMALL = 64, LARGER = 160, GAP = 4, ROWS = 5, CLOSER = .8;
 // An operation or a clock is drawn if it has at least so many pixels.
@@ -98,7 +98,7 @@ export class Strip {
   over(clock, x) {
     this.wanted = clock;
     const {said, kind, face} = this.course.pass(this.course.passAt(Math.max(0, clock - 1)));
-    at("under-words").replaceChildren(made("i", "chip pass-" + kind), `clock ${clock}: ${said.replaceAll("`", "")}`);
+    at("under-words").replaceChildren(passChip(kind), `clock ${clock}: ${said.replaceAll("`", "")}`);
     this.onFace(face);
     at("under").hidden = false;
     this.placed(x);
@@ -143,11 +143,8 @@ export class Strip {
       this.onView();
     }
     this.mark();
-    const now = this.thumbs.findLast(each => each.clock <= clock)?.button;
-    if (now === this.now) return;
-    this.now?.classList.remove("now");
-    this.now = now;
-    now?.classList.add("now");
+    const now = this.thumbs.findLastIndex(each => each.clock <= clock);
+    this.thumbs.forEach(({button}, place) => button.classList.toggle("now", place === now));
   }
 
   // Lights the passes of a face, or none if it is 0.

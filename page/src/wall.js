@@ -5,8 +5,6 @@ import {made, put} from "./show.js";
 import {SMALL} from "./state.js";
 
 const CAPTION = 13, LEAST = 33, GAP = 4, COARSE = 64;
-// A small image may be shown so many times as large as it is.
-const STRETCHED = 1.25;
 // The groups of planes, each with a heading; a caption below a plane says only what the heading does not.
 const GROUPS = ["", "key B", "key T", "rest"];
 
@@ -88,7 +86,7 @@ export class Wall {
       const {offsetLeft, offsetTop, offsetWidth, offsetHeight} = tile.place;
       tile.box = [offsetLeft, offsetTop, offsetWidth, offsetHeight].map(each => each * times);
     }
-    this.step = isFine && height >= SMALL && tiles[0].box[2] <= STRETCHED * width / SMALL ? SMALL : 1;
+    this.step = isFine && height >= SMALL && tiles[0].box[2] <= width / SMALL ? SMALL : 1;
     Object.assign(this.page, {width: width / this.step, height: height / this.step});
     this.pixels = new Uint32Array(this.page.width * this.page.height);
     if (shown) for (const tile of tiles) this.draw(tile, shown);

@@ -20,29 +20,37 @@ def pytest_addoption(parser: pytest.Parser) -> None:
     parser.addoption("--browser", choices=list(BROWSERS), default="chromium", help="in which the tests run that need no protocol of Chromium's own")
 
 
-def opened(name: str) -> pages.AnyBrowser:
-    try:
-        return BROWSERS[name]()
-    except Trouble as trouble:
-        pytest.skip("%s; tools/dev/peers installs it" % trouble)
+def pytest_configure(config: pytest.Config) -> None:
+    config.addinivalue_line("markers", "everywhere: it runs in each of the browsers")
+
+
+def pytest_generate_tests(metafunc: pytest.Metafunc) -> None:
+    if "opened" in metafunc.fixturenames:
+        is_everywhere = metafunc.definition.get_closest_marker("everywhere") is not None
+        names = list(BROWSERS) if is_everywhere else [metafunc.config.getoption("--browser")]
+        metafunc.parametrize("opened", names, indirect=True, scope="session")
 
 
 @pytest.fixture(scope="session")
-def chromium(request: pytest.FixtureRequest) -> Iterator[pages.AnyBrowser]:
-    with opened(request.config.getoption("--browser")) as browser:
+def opened(request: pytest.FixtureRequest) -> Iterator[pages.AnyBrowser]:
+    try:
+        browser = BROWSERS[request.param]()
+    except Trouble as trouble:
+        pytest.skip("%s; tools/dev/peers installs it" % trouble)
+    with browser:
         yield browser
 
 
 @pytest.fixture
-def page(chromium: Browser) -> Iterator[Browser]:
+def page(opened: Browser) -> Iterator[Browser]:
     """The page as a file, with no drafts, at 1280 by 720, and at the end no faults in it."""
-    chromium.size(1280, 720)
-    pages.alone(chromium)
-    chromium.run("(Storage.prototype.setItem = () => {}, localStorage.clear(), sessionStorage.clear())")
-    chromium.forget()
-    pages.alone(chromium)
-    yield chromium
-    assert chromium.faults() == []
+    opened.size(1280, 720)
+    pages.alone(opened)
+    opened.run("(Storage.prototype.setItem = () => {}, localStorage.clear(), sessionStorage.clear())")
+    opened.forget()
+    pages.alone(opened)
+    yield opened
+    assert opened.faults() == []
 
 
 @pytest.fixture(scope="session")

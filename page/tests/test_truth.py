@@ -155,6 +155,7 @@ def plain() -> bytes:
 MAPS = {"depth.npy": npy(), "depth.pfm": pfm(), "depth.png": png(0, 1, 2), "depth.pgm": pgm(), "plain.pgm": plain()}
 
 
+@pytest.mark.everywhere
 @pytest.mark.parametrize("name", MAPS)
 def test_maps_are_dropped_on_compare(page: Browser, name: str) -> None:
     page.run("delete document.body.dataset.compared")
@@ -248,6 +249,7 @@ def test_a_damaged_link_is_named(page: Browser, behind: str) -> None:
     assert page.until(DRAWN) == "yes"
 
 
+@pytest.mark.everywhere
 def test_a_readable_link(page: Browser) -> None:
     page.open("about:blank")
     page.open("file://" + pages.PAGE + "#s=house&c=40000&v=enable&p=20,20")
@@ -272,6 +274,7 @@ def test_a_film_does_not_take_the_pictures_name(page: Browser) -> None:
     assert page.run("taken") == ["first.png", "first-film.webm"]
 
 
+@pytest.mark.everywhere
 def test_a_cure_is_an_action(page: Browser, first: str) -> None:
     refuse(page)
     assert text_of(page, ".cure button") == "Write shaft"

@@ -2,7 +2,6 @@
 take the commands of W3C WebDriver. It is no tool itself."""
 from __future__ import annotations
 
-import base64
 import json
 import os
 import shutil
@@ -121,10 +120,6 @@ class Driven:
         self.act("pointer", {"type": "pointerMove", "x": int(x), "y": int(y)},
                  *({"type": kind, "button": 0} for kind in ("pointerDown", "pointerUp") if click))
 
-    def screenshot(self, path: str) -> None:
-        with open(path, "wb") as file:
-            file.write(base64.b64decode(self.command("screenshot")))
-
     def forget(self) -> None:
         """Drops the faults that there were."""
         os.truncate(self.log, 0)
@@ -138,7 +133,7 @@ class Driven:
 class Firefox(Driven):
     NAMES = ("firefox-esr", "firefox")
     COMMANDS = {"url": "Navigate", "execute/async": "ExecuteAsyncScript", "window/rect": "SetWindowRect", "actions": "PerformActions",
-                "screenshot": "TakeScreenshot", "timeouts": "SetTimeouts", "session": "NewSession"}
+                "timeouts": "SetTimeouts", "session": "NewSession"}
 
     def begin(self, port: int) -> None:
         with open(os.path.join(self.folder.name, "user.js"), "w") as file:
@@ -213,8 +208,8 @@ class WebKit(Driven):
                     raise Trouble("WebKitWebDriver does not answer") from None
                 time.sleep(0.1)
 
-    def asked(self, address: str, words: dict[str, Any] | None) -> Any:
-        request = urllib.request.Request(address, None if words is None else json.dumps(words).encode(), {"Content-Type": "application/json"})
+    def asked(self, address: str, words: dict[str, Any]) -> Any:
+        request = urllib.request.Request(address, json.dumps(words).encode(), {"Content-Type": "application/json"})
         try:
             with urllib.request.urlopen(request, timeout=2 * SECONDS) as answer:
                 return json.load(answer)["value"]
@@ -222,4 +217,4 @@ class WebKit(Driven):
             raise Trouble("%s: %s" % (address.rpartition("/")[2], json.load(error)["value"].get("message"))) from None
 
     def command(self, name: str, **words: Any) -> Any:
-        return self.asked("%s/%s/%s" % (self.address, self.session, name), None if name == "screenshot" else words)
+        return self.asked("%s/%s/%s" % (self.address, self.session, name), words)
