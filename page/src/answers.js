@@ -69,7 +69,6 @@ function courseOf(text) {
 function state(text, words) {
   const machine = machineIn(text), {next, words: own, ...fields} = machine.state(wholeNumber(words, "clock"));
   idle = setTimeout(() => machine.prepare(words.clock), IDLE);
-  // (the machine keeps its own words)
   return {...fields, words: own.slice(), next: next && {...next}, micro: next && String(next)};
 }
 

@@ -14,9 +14,7 @@ export function stretch(course, first, last, pace) {
 }
 
 // Which form of WebM the browser makes; undefined where it makes none.
-const webmForm = () => globalThis.MediaRecorder && FORMS.find(form => MediaRecorder.isTypeSupported(form));
-
-export const hasWebm = () => webmForm() !== undefined;
+export const webmForm = () => globalThis.MediaRecorder && FORMS.find(form => MediaRecorder.isTypeSupported(form));
 
 // A film of pictures of one size, so many a second, recorded while they are shown to the browser.
 export async function webm(pictures, perSecond) {

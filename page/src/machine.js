@@ -49,17 +49,14 @@ export class Machine {
       if (event.key === "Escape") at("until").value = this.wanted;
       if (event.key === "Escape" || event.key === "Enter") at("until").blur();
     });
-    for (const button of document.querySelectorAll("[data-move]"))
-      button.addEventListener("click", () => this.move(button.dataset.move.replace("pace", at("pace").value)));
     at("stop").addEventListener("keydown", event => {
       if (event.key === "Enter") this.stopAt(event.shiftKey ? -1 : 1).catch(tell);
       if (event.key === "Escape" || event.key === "Enter") at("stop").blur();
     });
     at("stops").append(...["enable", "face", ...NAMES].map(name => new Option(name)));
-    for (const button of document.querySelectorAll("[data-stop]"))
-      button.addEventListener("click", () => this.stopAt(Number(button.dataset.stop)).catch(tell));
-    for (const button of document.querySelectorAll("[data-zoom]"))
-      button.addEventListener("click", () => this.zoom(Number(button.dataset.zoom)));
+    const calls = {move: name => this.move(name.replace("pace", at("pace").value)), stop: way => this.stopAt(Number(way)).catch(tell), zoom: way => this.zoom(Number(way))};
+    for (const [word, call] of Object.entries(calls))
+      for (const button of document.querySelectorAll(`[data-${word}]`)) button.addEventListener("click", () => call(button.dataset[word]));
     for (const [kind, words] of Object.entries(KINDS))
       at("legend").append(made("span", "", "", passChip(kind), words + " "));
     new ResizeObserver(() => { this.strip.drawPasses(); this.life.draw(); this.inside(); }).observe(at("machine"));

@@ -276,7 +276,7 @@ async function askForFilm() {
   machine.stop();
   at("film-first").value = machine.wanted === machine.course.clocks ? 0 : machine.wanted;
   at("film-last").value = machine.course.clocks;
-  if (!film.hasWebm()) throw new Trouble("this browser records no WebM, so it makes no film");
+  if (!film.webmForm()) throw new Trouble("this browser records no WebM, so it makes no film");
   at("film").returnValue = "";
   at("film").showModal();
 }
@@ -449,9 +449,7 @@ document.addEventListener("click", event => {
   for (const menu of ["take", "gallery"]) if (!at(menu).contains(event.target)) at(menu).open = false;
 });
 document.addEventListener("dragover", event => { event.preventDefault(); document.body.classList.add("dragging"); });
-document.addEventListener("dragleave", event => {
-  if (!event.relatedTarget) document.body.classList.remove("dragging");
-});
+document.addEventListener("dragleave", event => { if (!event.relatedTarget) document.body.classList.remove("dragging"); });
 document.addEventListener("drop", event => {
   event.preventDefault();
   document.body.classList.remove("dragging");

@@ -288,6 +288,7 @@ def test_a_cure_is_an_action(page: Browser, first: str) -> None:
     ("fron 0 0 320", "fron", "in this order", "Write front"), ("front 0 0 3.5", "3.5", "whole number", None),
     ("front 0 0", "front 0 0", "front A B C", None), ("front 9999999 0 0", "9999999", "", None),
     ("gont 0 0 320", "gont", "in this order", "Write front"),
+    ("fron 0 0 320\nsolid", "fron", "in this order", "Write front"),
     ("xyznt 0 0 320", "xyznt", "in this order", None)])
 def test_a_refusal_has_its_place_and_at_most_one_change(page: Browser, typed: str, marked: str, says: str, action: str | None) -> None:
     """There is an action only if exactly one word is near that the library takes there: `gont` is two keys from `front`, `xyznt` three."""
