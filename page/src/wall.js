@@ -77,7 +77,8 @@ export class Wall {
   // Gives the sheet the size of the wall, and draws all of it.
   lay() {
     const {root, sheet, tiles, shown} = this, times = devicePixelRatio;
-    sheet.width = sheet.height = 0;
+    // (the sheet itself must not be what makes the wall as wide and high as it was)
+    Object.assign(sheet.style, {width: 0, height: 0});
     Object.assign(sheet, {width: root.scrollWidth * times, height: root.scrollHeight * times});
     Object.assign(sheet.style, {width: root.scrollWidth + "px", height: root.scrollHeight + "px"});
     const [width, height] = this.of.split(" ").map(Number), isFine = width > COARSE;
