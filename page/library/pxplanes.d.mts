@@ -156,7 +156,7 @@ export class Library {
   counts(text: Text): { operations: number; clocks: number };
   /** The operations, so many from `first` on, or all from there. */
   course(text: Text, first?: Whole, count?: Whole | null): Operation[];
-  state(text: Text, clock: Whole): State;
+  state(text: Text, clock: Whole, room?: Whole): State;
   micros(text: Text, first: Whole, count: Whole): Micro[];
   packed(text: Text, first: Whole, count: Whole): BigUint64Array;
   /** What the program writes for a command's words, as "tidy" or "tile 600 400", with the text as its standard input. */

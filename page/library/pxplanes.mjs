@@ -8,7 +8,7 @@
 // and one out of its range as `RangeError`. docs/LIBRARY.md has each call.
 
 const STATUS = {ok: 0, usage: 2, malformed: 3, limit: 4, memory: 7, room: 8, clock: 9, grid: 10, micro: 11, operation: 12, window: 13, face: 14};
-const FOUND = 56, FACE = 28, NAME = 32, STATE = 64, WORD = 16, MICRO = 8, OPERATION = 88, ROOM = 1 << 21, MOST_SIDE = 512, MOST_BITS = 53, MOST_WORD = 2 ** 32 - 1;
+const FOUND = 56, FACE = 28, NAME = 32, STATE = 64, WORD = 16, MICRO = 8, OPERATION = 88, ROOM = 1 << 21, MOST_SIDE = 512, MOST_BITS = 53, MOST_WORD = 2 ** 32 - 1, MOST_WORDS = 2 ** 20;
 // A module with one instruction on vectors of 128 bits.
 const VECTORS = Uint8Array.of(0, 97, 115, 109, 1, 0, 0, 0, 1, 5, 1, 96, 0, 1, 123, 3, 2, 1, 0, 10, 10, 1, 8, 0, 65, 0, 253, 15, 253, 98, 11);
 const ACTS = ["", "nop", "enable-all", "enable-carry", "enable-tree", "enable-bit", "set-carry", "fetch", "store-tree", "store-latch",
@@ -164,18 +164,21 @@ export class Library {
 
   // The products that are drawn, each a list of solid numbers from 1 on, below 0 where a solid is taken away.
   products(text) {
-    return this.#roomy(count => this.#ask("products", text, [[4 * count, 4]], (found, [room]) => {
+    return this.#roomy(0, count => this.#ask("products", text, [[4 * count, 4]], (found, [room]) => {
       const rows = [[]];
       for (const number of this.#copy(Int32Array, room, 4 * count)) if (number) rows[rows.length - 1].push(number); else rows.push([]);
       return rows.slice(0, -1);
     }));
   }
 
-  // The machine after so many clocks of a scene or of a listing.
-  state(text, clock) {
-    const made = whole(clock, "clock");
-    return this.#roomy(count => this.#with([STATE], ([state]) => this.#ask("state", text, [[8 * count, 8]],
-      (found, [room]) => new State(this.#fields(state), this.#copy(Uint32Array, room, 8 * count)), [BigInt(made)], [state])));
+  // The machine after so many clocks of a scene or of a listing. With room for the state's words of 64 bits the text is read once, and without it twice.
+  state(text, clock, room = 0) {
+    const made = whole(clock, "clock"), known = whole(room, "room", MOST_WORDS);
+    return this.#roomy(known, count => this.#with([STATE], ([state]) => this.#ask("state", text, [[8 * count, 8]], (found, [place]) => {
+      const fields = this.#fields(state), {wordsPerRow, height, bits, levels} = fields;
+      const size = (bits + REGISTERS.length) * height * wordsPerRow + 2 * Math.ceil(2 ** (levels + 1) / 64);
+      return new State(fields, this.#copy(Uint32Array, place, 8 * size));
+    }, [BigInt(made)], [state])));
   }
 
   // The microinstructions of so many clocks, from `first` on, as the library packs them.
@@ -246,10 +249,10 @@ export class Library {
       ({width, height, depths: map(isFloat ? Float32Array : Uint32Array, depths), faces: map(Uint32Array, faces), operations, clocks}), numbers);
   }
 
-  // Makes a call with a buffer of so many elements as the library says that it needs.
-  #roomy(call) {
+  // Makes a call with a buffer of so many elements, or as many as the library says that it needs.
+  #roomy(known, call) {
     try {
-      return call(0);
+      return call(known);
     } catch (error) {
       if (error.status !== STATUS.room) throw error;
       return call(error.number);
@@ -466,7 +469,7 @@ export class Machine {
   prepare(clock) {
     whole(clock, "clock", this.clocks);
     if (!this.canStep || clock < NEAR || this.kept.has(clock - 1)) return;
-    let known = this.#keep(this.library.state(this.text, clock - NEAR));
+    let known = this.#keep(this.#ofText(clock - NEAR));
     while (known.clock + 1 < clock) known = this.#keep(this.#after(known, known.clock + 1));
   }
 
@@ -475,23 +478,16 @@ export class Machine {
     if (this.canStep && clock <= this.clocks)
       for (let near = clock - 1; near >= Math.max(0, clock - NEAR); near--)
         if (this.kept.has(near)) return this.#after(this.kept.get(near), clock);
-    return this.library.state(this.text, clock);
+    return this.#ofText(clock);
   }
+
+  #ofText(clock) { return this.library.state(this.text, clock, this.first.words.length / 2); }
 
   #after(known, clock) {
     const words = this.library.clocks(known, this.#broadcast(known.clock, clock - known.clock)), isEnd = clock === this.clocks;
-    const operation = isEnd ? this.starts.length : this.#operationAt(clock);
+    const operation = isEnd ? this.starts.length : this.starts.filter(start => start <= clock).length - 1;
     return new State({...this.first, clock, operation, operationClock: isEnd ? 0 : clock - this.starts[operation],
       next: isEnd ? null : this.micros(clock, 1)[0]}, words);
-  }
-
-  #operationAt(clock) {
-    let low = 0, high = this.starts.length;
-    while (low < high) {
-      const middle = low + high >> 1;
-      if (this.starts[middle] <= clock) low = middle + 1; else high = middle;
-    }
-    return low - 1;
   }
 
   // Keeps a state, and forgets the one that was used longest ago.

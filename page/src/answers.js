@@ -67,9 +67,9 @@ function courseOf(text) {
 
 // The state after a clock: its words, and what comes next.
 function state(text, words) {
-  const machine = machineIn(text), {next, ...fields} = machine.state(wholeNumber(words, "clock"));
+  const machine = machineIn(text), {next, words: own, ...fields} = machine.state(wholeNumber(words, "clock"));
   idle = setTimeout(() => machine.prepare(words.clock), IDLE);
-  return {...fields, next: next && {...next}, micro: next && String(next)};
+  return {...fields, words: own.slice(), next: next && {...next}, micro: next && String(next)};
 }
 
 // Enable after the last clock, as an image, and in how many pixels it is 1.
@@ -156,6 +156,8 @@ function small(text, words) {
   return sampled(drawn, wholeNumber(words, "most", MOST_SMALL), (x, y) => drawn.rgb.subarray(3 * (y * drawn.width + x)));
 }
 
+// What of an answer is given to the page, and not copied.
+const GIVEN = {draw: ["depths", "faces", "rgb"], state: ["words"]};
 const QUESTIONS = {draw, ray, program: courseIn, state, wave, thumb, life, stop, enabled, compare, run, small};
 
 // What the page says of a refusal; of a listing only the program's note.
@@ -183,7 +185,7 @@ globalThis.onmessage = async ({data}) => {
   try {
     px = await ready;
     const answer = await answered(data);
-    postMessage(answer, data.name === "draw" && answer.depths ? [answer.depths.buffer, answer.faces.buffer, answer.rgb.buffer] : []);
+    postMessage(answer, (GIVEN[data.name] ?? []).flatMap(name => answer[name]?.buffer ?? []));
   } catch (error) {
     postMessage({failed: `${error.name}: ${error.message}`});
   }

@@ -33,14 +33,7 @@ export class Course {
   }
 
   // The operation under way after so many clocks: the last that begins there or before.
-  operationAt(clock) {
-    let low = 0, high = this.operations.length;
-    while (low < high) {
-      const middle = low + high >> 1;
-      if (this.operations[middle][3] <= clock) low = middle + 1; else high = middle;
-    }
-    return low - 1;
-  }
+  operationAt(clock) { return this.operations.findLastIndex(([, , , start]) => start <= clock); }
 
   pass(number) { return this.passes[number] ?? NONE; }
 

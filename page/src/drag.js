@@ -1,6 +1,6 @@
 // Numbers of the text that are dragged: by a grip next to the one under the pointer, or with Alt and the arrows the one at the cursor; and
 // the lines of a solid over the picture. The text changes when the one before is drawn, so that the picture follows.
-import {drawn, made} from "./show.js";
+import {drawn, follow, made} from "./show.js";
 
 const PIXELS = 4, TEN = 10, NUMBER = /-?\d+/g, PLANES = /^(side|front|back)\s+(-?\d+)\s+(-?\d+)\s+(-?\d+)/;
 // Words whose numbers are changed: not the first line's.
@@ -58,13 +58,9 @@ export class Drag {
     this.follow(this.grip, event, moved => this.want(row, found[0], first + Math.round((moved.clientX - from) / PIXELS)));
   }
 
-  // Follows the pointer until it is let go.
   follow(element, event, moved) {
-    const stop = new AbortController(), {signal} = stop;
-    element.setPointerCapture(event.pointerId);
     this.isHeld = true;
-    element.addEventListener("pointermove", moved, {signal});
-    for (const end of ["pointerup", "pointercancel"]) element.addEventListener(end, () => { this.isHeld = false; stop.abort(); }, {signal});
+    follow(element, event, moved, () => { this.isHeld = false; });
   }
 
   // A number that begins at a column of a row is to be another one: at once, or when the text is drawn.

@@ -1,6 +1,7 @@
 // A film of the machine: what is shown large at each place of a stretch, as WebM, which the browser records.
 import {Trouble} from "./ask.js";
-import {put} from "./show.js";
+import {made, put} from "./show.js";
+import {enlarging} from "./take.js";
 
 const MOST = 1000, SIDE = 512, FORMS = ["video/webm;codecs=vp9", "video/webm;codecs=vp8", "video/webm"];
 
@@ -13,28 +14,18 @@ export function stretch(course, first, last, pace) {
 }
 
 // Which form of WebM the browser makes; undefined where it makes none.
-const webmForm = () => globalThis.MediaRecorder && FORMS.find(form => MediaRecorder.isTypeSupported(form));
-
-export const hasWebm = () => webmForm() !== undefined;
-
-// A picture enlarged by a whole factor, up to 512 pixels wide and high.
-function enlarged({width, height, pixels}) {
-  const factor = Math.max(1, Math.floor(SIDE / Math.max(width, height))), out = new Uint32Array(width * height * factor * factor);
-  for (let y = 0, to = 0; y < height * factor; y++)
-    for (let x = 0; x < width * factor; x++, to++) out[to] = pixels[Math.floor(y / factor) * width + Math.floor(x / factor)];
-  return {width: width * factor, height: height * factor, pixels: out};
-}
+export const webmForm = () => globalThis.MediaRecorder && FORMS.find(form => MediaRecorder.isTypeSupported(form));
 
 // A film of pictures of one size, so many a second, recorded while they are shown to the browser.
 export async function webm(pictures, perSecond) {
-  const {width, height} = enlarged(pictures[0]), canvas = Object.assign(document.createElement("canvas"), {width, height}), parts = [];
-  canvas.getContext("2d");
+  const {width, height} = pictures[0], small = Object.assign(made("canvas"), {width, height}), {canvas, draw} = enlarging(small, SIDE), parts = [];
   const recorder = new MediaRecorder(canvas.captureStream(), {mimeType: webmForm(), videoBitsPerSecond: 8e6});
   recorder.ondataavailable = ({data}) => parts.push(data);
   const ended = new Promise(done => { recorder.onstop = done; }), wait = () => new Promise(done => setTimeout(done, 1000 / perSecond));
   recorder.start();
   for (const picture of pictures) {
-    put(canvas, enlarged(picture).pixels);
+    put(small, picture.pixels);
+    draw(small);
     await wait();
   }
   await wait();

@@ -1,5 +1,4 @@
 // The keys of the page. They work everywhere but where something is written or chosen.
-
 import {enter} from "./rove.js";
 import {at} from "./show.js";
 

@@ -1,7 +1,7 @@
 // The words of scenes and listings, for the editor: their colours, and what may be completed at the cursor.
 import CodeMirror from "codemirror/lib/codemirror.js";
 import {NAMES} from "./passes.js";
-import {KEYWORDS, isListing} from "./scene.js";
+import {KEYWORDS, isListing, namesIn} from "./scene.js";
 
 const LISTING = ["pxlist", "grid", ...NAMES, "end"];
 const WORDS = new Set([...KEYWORDS, ...LISTING]);
@@ -29,8 +29,6 @@ CodeMirror.defineMode("pxplanes", () => ({
     return kindOf(word, state.first, state.at++);
   }
 }));
-
-const namesIn = text => [...text.matchAll(/^[ \t]*solid[ \t]+(\w+)/gm)].map(match => match[1]);
 
 // What may be written at the cursor and begins as the word there does: the first word of a line, or in an expression the name of a solid.
 export function completions(editor) {

@@ -1,7 +1,7 @@
 // The whole life of the pixel that is kept: its enable as bars over the passes, what put it out in each, and which faces win there.
 import {ask, latest} from "./ask.js";
 import {rove} from "./rove.js";
-import {at, made} from "./show.js";
+import {at, fitted, made, passChip} from "./show.js";
 
 export class PixelLife {
   // `go` is called with a clock.
@@ -51,10 +51,7 @@ export class PixelLife {
 
   drawBars() {
     const canvas = at("life"), {course, life: {enable}} = this;
-    canvas.width = canvas.clientWidth * devicePixelRatio;
-    canvas.height = canvas.clientHeight * devicePixelRatio;
-    const [first, last] = course.view, scale = canvas.width / Math.max(1, last - first);
-    const pen = canvas.getContext("2d"), style = getComputedStyle(document.documentElement);
+    const [first, last] = course.view, pen = fitted(canvas), scale = canvas.width / Math.max(1, last - first), style = getComputedStyle(document.documentElement);
     pen.fillStyle = style.getPropertyValue("--mark");
     for (let place = 0; place < enable.length; place++) {
       const from = course.startOf(place), until = course.startOf(place + 1);
@@ -77,7 +74,7 @@ export class PixelLife {
 
   rowOf({pass, operation, face}) {
     const {course} = this, [, , words] = course.operations[operation], {said, kind} = course.pass(pass), clock = course.startOf(operation + 1);
-    const button = made("button", "event" + (face ? " wins" : ""), "", made("i", "chip pass-" + kind),
+    const button = made("button", "event" + (face ? " wins" : ""), "", passChip(kind),
       made("span", "", face ? `face ${face} wins here` : said.replaceAll("`", "")), made("span", "quiet", face ? "" : `out: not ${words.replaceAll("`", "").replace(/^keep the pixels /, "")}`),
       made("span", "number", String(clock)));
     button.addEventListener("click", () => this.go(clock));

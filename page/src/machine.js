@@ -9,7 +9,7 @@ import {NAMES, formOf} from "./passes.js";
 import {Inside} from "./inside.js";
 import {Player} from "./play.js";
 import {Predict} from "./predict.js";
-import {Screen, at, made} from "./show.js";
+import {Screen, at, made, passChip} from "./show.js";
 import {fieldsOf, onesOf, viewsOf} from "./state.js";
 import {Strip} from "./strip.js";
 import {isShown, treeOf} from "./tree.js";
@@ -49,19 +49,16 @@ export class Machine {
       if (event.key === "Escape") at("until").value = this.wanted;
       if (event.key === "Escape" || event.key === "Enter") at("until").blur();
     });
-    for (const button of document.querySelectorAll("[data-move]"))
-      button.addEventListener("click", () => this.move(button.dataset.move.replace("pace", at("pace").value)));
     at("stop").addEventListener("keydown", event => {
       if (event.key === "Enter") this.stopAt(event.shiftKey ? -1 : 1).catch(tell);
       if (event.key === "Escape" || event.key === "Enter") at("stop").blur();
     });
     at("stops").append(...["enable", "face", ...NAMES].map(name => new Option(name)));
-    for (const button of document.querySelectorAll("[data-stop]"))
-      button.addEventListener("click", () => this.stopAt(Number(button.dataset.stop)).catch(tell));
-    for (const button of document.querySelectorAll("[data-zoom]"))
-      button.addEventListener("click", () => this.zoom(Number(button.dataset.zoom)));
+    const calls = {move: name => this.move(name.replace("pace", at("pace").value)), stop: way => this.stopAt(Number(way)).catch(tell), zoom: way => this.zoom(Number(way))};
+    for (const [word, call] of Object.entries(calls))
+      for (const button of document.querySelectorAll(`[data-${word}]`)) button.addEventListener("click", () => call(button.dataset[word]));
     for (const [kind, words] of Object.entries(KINDS))
-      at("legend").append(made("span", "", "", made("i", "chip pass-" + kind), words + " "));
+      at("legend").append(made("span", "", "", passChip(kind), words + " "));
     new ResizeObserver(() => { this.strip.drawPasses(); this.life.draw(); this.inside(); }).observe(at("machine"));
     new ResizeObserver(() => { if (this.state) this.arrange(); }).observe(at("stages"));
   }
@@ -96,7 +93,6 @@ export class Machine {
   goTo(clock) {
     if (!this.course) return;
     this.wanted = Math.max(0, Math.min(this.course.clocks, clock));
-    at("clock").value = this.wanted;
     this.fetchState();
   }
 
@@ -163,6 +159,8 @@ export class Machine {
     const unknown = [this.view, this.beside].filter(name => name && !this.viewNamed(name));
     if (unknown.length) this.tell(new Trouble(`There is nothing named ${unknown.join(" or ")} to show of this text.`));
     at("until").value = state.clock;
+    // (the slider goes with the array, so that both are painted at once; it stays under a hand that moved on)
+    if (this.isShown) at("clock").value = state.clock;
     this.paint();
     this.onShow();
     this.showWall();
@@ -200,10 +198,10 @@ export class Machine {
     const operation = isDone ? count - 1 : state.operation;
     const [pass, line, words, first] = course.operations[operation] ?? [0, "", "", 0], {said, kind} = course.pass(pass);
     const end = this.head.layout ? "all is done: key B has the picture" : "all is done";
-    const place = isDone ? `${count} operations in ${state.clocks} clocks`
+    const place = isDone ? `${count.toLocaleString("en")} operations in ${state.clocks.toLocaleString("en")} clocks`
       : `operation ${operation} (of 0 to ${count - 1}), next its clock ${state.operationClock} (of 0 to ${course.startOf(operation + 1) - first - 1})`;
     const number = made("span", "label", `pass ${pass + 1} of ${course.passes.length}`);
-    at("pass").replaceChildren(made("i", "chip pass-" + kind), number, ...worded(said));
+    at("pass").replaceChildren(passChip(kind), number, ...worded(said));
     at("operation").replaceChildren(...worded(isDone ? end : words));
     at("line").replaceChildren(made("code", "", isDone ? "" : line), made("span", "quiet", place));
     at("micro").replaceChildren(made("span", "label", "next"), made("code", "", state.micro ?? "nothing"),

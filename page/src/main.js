@@ -276,7 +276,7 @@ async function askForFilm() {
   machine.stop();
   at("film-first").value = machine.wanted === machine.course.clocks ? 0 : machine.wanted;
   at("film-last").value = machine.course.clocks;
-  if (!film.hasWebm()) throw new Trouble("this browser records no WebM, so it makes no film");
+  if (!film.webmForm()) throw new Trouble("this browser records no WebM, so it makes no film");
   at("film").returnValue = "";
   at("film").showModal();
 }
@@ -326,14 +326,18 @@ function letters(way) {
 }
 
 function theme() {
-  const root = document.documentElement, system = matchMedia("(prefers-color-scheme: dark)").matches ? "dark" : "light";
-  root.dataset.theme = (root.dataset.theme ?? system) === "dark" ? "light" : "dark";
-  remember({theme: root.dataset.theme});
+  showTheme(document.documentElement.dataset.theme === "dark" ? "light" : "dark");
+  remember({theme: document.documentElement.dataset.theme});
+}
+
+// Shows a theme, or the system's.
+function showTheme(name = isDark.matches ? "dark" : "light") {
+  document.documentElement.dataset.theme = name;
   machine.strip.drawPasses();
 }
 
 // Theme and size of letters stay, where the browser keeps anything for the page.
-const LOOK = "pxplanes look";
+const LOOK = "pxplanes look", isDark = matchMedia("(prefers-color-scheme: dark)");
 
 const remembered = () => stored(store => JSON.parse(store.getItem(LOOK))) ?? {};
 
@@ -396,7 +400,8 @@ function showStep({scene: name, exercise, place}) {
 async function start() {
   document.body.classList.toggle("embed", new URLSearchParams(location.search).has("embed"));
   const look = remembered();
-  if (look.theme) document.documentElement.dataset.theme = look.theme;
+  showTheme(look.theme);
+  isDark.addEventListener("change", () => showTheme(remembered().theme));
   if (look.letters) document.documentElement.style.fontSize = look.letters;
   let given = null;
   try {
@@ -444,9 +449,7 @@ document.addEventListener("click", event => {
   for (const menu of ["take", "gallery"]) if (!at(menu).contains(event.target)) at(menu).open = false;
 });
 document.addEventListener("dragover", event => { event.preventDefault(); document.body.classList.add("dragging"); });
-document.addEventListener("dragleave", event => {
-  if (!event.relatedTarget) document.body.classList.remove("dragging");
-});
+document.addEventListener("dragleave", event => { if (!event.relatedTarget) document.body.classList.remove("dragging"); });
 document.addEventListener("drop", event => {
   event.preventDefault();
   document.body.classList.remove("dragging");

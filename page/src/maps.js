@@ -137,14 +137,20 @@ function imagesOf(bytes) {
 
 // A PNG file of 8 or 16 bits a sample, without a palette.
 async function readPng(bytes) {
-  const view = viewOf(bytes), parts = [];
-  for (let at = 8; at + 8 <= bytes.length; at += 12 + view.getUint32(at))
-    if (lettersOf(bytes.subarray(at + 4, at + 8)) === "IDAT") parts.push(bytes.subarray(at + 8, at + 8 + view.getUint32(at)));
+  // (in a worker WebKit reads no blob of the parts)
+  const view = viewOf(bytes), packed = new Uint8Array(bytes.length);
+  let size = 0;
+  for (let at = 8; at + 8 <= bytes.length; at += 12 + view.getUint32(at)) {
+    const part = bytes.subarray(at + 8, at + 8 + view.getUint32(at));
+    if (lettersOf(bytes.subarray(at + 4, at + 8)) !== "IDAT") continue;
+    packed.set(part, size);
+    size += part.length;
+  }
   if (bytes.length < 29) throw new Bad("the PNG file is damaged");
   const width = view.getUint32(16), height = view.getUint32(20), [bits, kind, , , isWoven] = bytes.subarray(24), channels = OF_PNG[kind];
   if (!channels || isWoven || bits < 8) throw new Bad(`the page reads no PNG that is interlaced, has a palette, or has fewer than 8 bits: ${CONVERT}`);
   sized(width, height, "PNG file");
-  const body = await unpacked(new Uint8Array(await new Blob(parts).arrayBuffer()), "deflate").catch(() => { throw new Bad("the PNG file is damaged"); });
+  const body = await unpacked(packed.subarray(0, size), "deflate").catch(() => { throw new Bad("the PNG file is damaged"); });
   const step = channels * bits / 8, length = width * step, lines = new Uint8Array(height * length);
   if (body.length < height * (length + 1)) throw new Bad("the PNG file ends early");
   for (let y = 0, to = 0; y < height; y++) {

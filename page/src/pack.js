@@ -1,5 +1,6 @@
 // Packs bytes and unpacks them, by the browser's own streams, or by hand if it has none (Firefox before 113, Chromium before 103).
-const through = async (bytes, stream) => new Uint8Array(await new Response(new Blob([bytes]).stream().pipeThrough(stream)).arrayBuffer());
+// (WebKit reads no stream of a blob in a worker)
+const through = async (bytes, stream) => new Uint8Array(await new Response(new Response(bytes).body.pipeThrough(stream)).arrayBuffer());
 const RAW = "deflate-raw", BLOCK = 65535;
 
 // The stream of a form; null if the browser lacks it.

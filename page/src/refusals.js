@@ -1,6 +1,6 @@
 // What a refusal of the library says of a text: the words of its cause, the columns of what is wrong, and the change that mends the line if
 // exactly one known word is near and the library then accepts the line. `pxplanes explain` says more.
-import {KEYWORDS, wordsOf} from "./scene.js";
+import {KEYWORDS, namesIn} from "./scene.js";
 
 const NUMBER = /^-?[0-9]+$/, KEYS = 2;
 // A number that has more digits is found as one of 19.
@@ -23,8 +23,6 @@ const CAUSES = {
   "bad-expression": ["Each operation has its own brackets: ((block - hole) + post).", places => whole(places.length > 1 ? places.slice(1) : places)],
   "unknown-name": ["No solid has this name.", (places, names) => word(places, places.findIndex(([each], at) => at && /\w/.test(each) && !names.has(each)))],
   "missing-end": ["The last line is end.", () => null]};
-
-const namesIn = text => new Set(text.split("\n").map(wordsOf).filter(([first]) => first === "solid").map(([, name]) => name));
 
 // The words of a line, or of an expression its names and signs, each with the column where it begins.
 function placesOf(row) {
@@ -75,7 +73,7 @@ function fixOf(px, text, line, span, names) {
 }
 
 export function refusalOf(px, text, {message, line, cause}) {
-  const row = text.split("\n")[line - 1] ?? "", places = placesOf(row), names = namesIn(text), [says, find] = CAUSES[cause] ?? ["This is past a limit: docs/SCENES.md has them all.", ofLimit];
+  const row = text.split("\n")[line - 1] ?? "", places = placesOf(row), names = new Set(namesIn(text)), [says, find] = CAUSES[cause] ?? ["This is past a limit: docs/SCENES.md has them all.", ofLimit];
   const span = line && places.length ? find(places, cause ? names : message) ?? null : null;
   const isWord = ["unexpected", "unknown-name"].includes(cause) && span;
   return {note: message, line, span, says: typeof says === "string" ? says : says(places[0][0]), fix: isWord ? fixOf(px, text, line, span, names) : null};

@@ -7,6 +7,9 @@ export const isListing = text => /^[ \t\r]*pxlist(?![^ \t\r\n#])/.test(text.repl
 
 export const wordsOf = row => row.split("#")[0].split(/[ \t\r]+/).filter(Boolean);
 
+// The names of its solids.
+export const namesIn = text => text.split("\n").map(wordsOf).filter(([first, name]) => first === "solid" && name).map(([, name]) => name);
+
 // Its sizes, its solids with their planes, its shown expression, and its faces in the order of their numbers.
 export function readScene(text) {
   const scene = {width: 0, height: 0, depthBits: 0, fractionBits: 0, solids: [], faces: [], show: ""};

@@ -2,6 +2,8 @@
 // one of them.
 import {packed} from "./palette.js";
 
+// Where arrow keys lead.
+export const STEPS = {ArrowLeft: [-1, 0], ArrowRight: [1, 0], ArrowUp: [0, -1], ArrowDown: [0, 1]};
 const SCALES = [1, 2, 3, 4, 6, 8, 12, 16, 24, 32, 48, 64], DRAGGED = 4, LINED = 12, LIT = 0xb000d6ff;
 
 export class Screen {
@@ -106,15 +108,11 @@ export class Screen {
     const {stage, canvas} = this, from = [event.clientX, event.clientY], [left, top] = [stage.scrollLeft, stage.scrollTop];
     this.wasDragged = false;
     if (!stage.classList.contains("zoomed")) return;
-    const moved = ({clientX, clientY}) => {
+    follow(canvas, event, ({clientX, clientY}) => {
       const [x, y] = [clientX - from[0], clientY - from[1]];
       this.wasDragged ||= Math.abs(x) + Math.abs(y) > DRAGGED;
       if (this.wasDragged) Object.assign(stage, {scrollLeft: left - x, scrollTop: top - y});
-    };
-    const stop = new AbortController(), {signal} = stop;
-    canvas.setPointerCapture(event.pointerId);
-    canvas.addEventListener("pointermove", moved, {signal});
-    for (const end of ["pointerup", "pointercancel"]) canvas.addEventListener(end, () => stop.abort(), {signal});
+    });
   }
 
   // Where the image begins in the window: inside the border of its canvas.
@@ -156,7 +154,7 @@ export class Screen {
   }
 
   key(event) {
-    const way = {ArrowLeft: [-1, 0], ArrowRight: [1, 0], ArrowUp: [0, -1], ArrowDown: [0, 1]}[event.key];
+    const way = STEPS[event.key];
     if (!way || event.ctrlKey || event.altKey || event.metaKey) return;
     const {width, height} = this.canvas, middle = [width >> 1, height >> 1], [x, y] = this.kept ?? middle;
     this.keep([(x + way[0] + width) % width, (y + way[1] + height) % height]);
@@ -169,11 +167,26 @@ export class Screen {
 
 const same = (one, other) => one && other && one[0] === other[0] && one[1] === other[1];
 
+// Follows a pointer that is pressed on an element until it is let go.
+export function follow(element, {pointerId}, moved, ended = () => {}) {
+  const stop = new AbortController(), {signal} = stop;
+  element.setPointerCapture(pointerId);
+  element.addEventListener("pointermove", moved, {signal});
+  for (const end of ["pointerup", "pointercancel"]) element.addEventListener(end, () => { ended(); stop.abort(); }, {signal});
+}
+
 // The colours of an image, where `paint(at)` is red, green and blue of the pixel at that place.
 export function painted(width, height, paint) {
   const pixels = new Uint32Array(width * height);
   for (let at = 0; at < pixels.length; at++) pixels[at] = packed(paint(at));
   return pixels;
+}
+
+// A canvas with as many pixels as the screen has for it, and its pen.
+export function fitted(canvas) {
+  canvas.width = canvas.clientWidth * devicePixelRatio;
+  canvas.height = canvas.clientHeight * devicePixelRatio;
+  return canvas.getContext("2d");
 }
 
 // Gives a canvas an image of its size, of colours as `packed` gives them.
@@ -197,8 +210,9 @@ export function made(name, kind = "", text = "", ...inside) {
   return element;
 }
 
-// A small square of a colour, as CSS writes it.
+// A small square of a colour, as CSS writes it; and of the colour of a kind of passes.
 export const chip = colour => Object.assign(made("i", "chip"), {style: `background: ${colour}`});
+export const passChip = kind => chip(`var(--pass-${kind})`);
 
 const SVG = "http://www.w3.org/2000/svg";
 

@@ -23,8 +23,8 @@ export function fieldsOf(layout) {
 }
 
 // What there is to show of the array: each has a name, a label, a group, the planes that it is made of, and `fill(state, pixels)`, which
-// gives each place its colour, row by row, as an image holds them; one of bits has its plane. `layout` is null for a listing, and
-// `faces` has the colour of each face of a scene.
+// gives each place its colour, row by row, as an image holds them, or with a third word `SMALL` a place for as many columns and rows; one
+// of bits has its plane. `layout` is null for a listing, and `faces` has the colour of each face of a scene.
 export function viewsOf(layout, bits, faces) {
   const fields = fieldsOf(layout);
   const registers = REGISTERS.map((name, number) => bitView(name, name, "registers", bits + number));
@@ -38,10 +38,26 @@ export function viewsOf(layout, bits, faces) {
 }
 
 function bitView(name, label, group, plane, field = "") {
-  return {name, label, group, plane, planes: [plane, plane + 1], field, fill: (state, pixels) => fillBits(state, plane, pixels)};
+  return {name, label, group, plane, planes: [plane, plane + 1], field, 
+    fill: (state, pixels, step = 1) => (step === SMALL ? fillShares : fillBits)(state, plane, pixels)};
 }
 
 const [ONE, ZERO] = [ON, OFF].map(packed);
+export const SMALL = 4;
+// How many of four bits are 1; and the colours of 16 bits, of which none are 1, one, and so on.
+const ONES = Array.from({length: 2 ** SMALL}, (_, bits) => [...bits.toString(2)].filter(bit => bit === "1").length);
+const SHARES = Array.from({length: SMALL * SMALL + 1}, (_, count) => packed(OFF.map((off, part) => Math.round(off + (ON[part] - off) * count / (SMALL * SMALL)))));
+
+// A small image of a plane, with a place for each four columns and rows.
+function fillShares({words, width, height, perRow, perPlane}, plane, pixels) {
+  for (let y = 0, to = 0; y < height; y += SMALL) {
+    for (let x = 0; x < width; x += SMALL) {
+      let count = 0;
+      for (let row = y; row < y + SMALL; row++) count += ONES[words[plane * perPlane + row * perRow + (x >> 5)] >>> (x & 31) & 15];
+      pixels[to++] = SHARES[count];
+    }
+  }
+}
 
 // An image of a plane.
 export function fillBits({words, width, height, perRow, perPlane}, plane, pixels) {
@@ -57,16 +73,19 @@ function keyViews(fields, key, label, faces) {
   const view = (what, field, colour) => {
     const {at, length} = fields.find(each => each.name === `${key} ${field}`);
     return {name: `${key} ${what}`, label: `${label} ${what}`, group: "numbers", planes: [at, at + length], field: `${key} ${field}`,
-      fill: (state, pixels) => fillNumbers(state.numbers(at, length), colour, 2 ** length - 1, pixels)};
+      fill: (state, pixels, step = 1) => fillNumbers(state.numbers(at, length), colour, 2 ** length - 1, pixels, state.width, step)};
   };
   return [view("colours", "face", () => number => faces[number] ?? OFF), view("depth", "depth", greys), view("face", "face", () => hue)];
 }
 
-function fillNumbers(numbers, colour, far, pixels) {
+// Of a small image each place has the number of the first of its pixels.
+function fillNumbers(numbers, colour, far, pixels, width, step) {
   const of = colour(numbers, far), known = new Map();
-  numbers.forEach((number, at) => {
-    let own = known.get(number);
-    if (own === undefined) known.set(number, own = packed(of(number)));
-    pixels[at] = own;
-  });
+  for (let first = 0, to = 0; first < numbers.length; first += step * width) {
+    for (let at = first; at < first + width; at += step, to++) {
+      let own = known.get(numbers[at]);
+      if (own === undefined) known.set(numbers[at], own = packed(of(numbers[at])));
+      pixels[to] = own;
+    }
+  }
 }

@@ -6,22 +6,21 @@ import {at, made} from "./show.js";
 const STEPS = [
   {scene: "letters", place: {share: 0.55, view: "best colours", pixel: [60, 180], isPlayed: "pass"}, lit: "#stages",
     title: "A processor in every pixel",
-    words: "Pixel-Planes was designed and built at the University of North Carolina at Chapel Hill, and described in 1985. Its frame buffer "
-      + "has a processor of one bit in every pixel, and all of them take the same step in the same clock. This page runs such a machine: "
-      + "here it is drawing the letters UNC."},
+    words: "This page simulates Pixel-Planes, a graphics machine that was built at the University of North Carolina, and described in 1985. "
+      + "Every pixel has a processor of one bit, and all of them take the same step in each clock. Here they draw the words PIXEL PLANES."},
   {scene: "triangle", place: {clock: 321, view: "enable", pixel: [7, 8]}, lit: "#stages", title: "One edge",
-    words: "An edge asks every pixel at once on which side of a line it lies. Those on the wrong side are switched off. Here 207 of the 256 "
-      + "pixels are still enabled, which are white."},
+    words: "An edge asks every pixel at once on which side of a line it lies. Those on the wrong side are switched off. Of the 256 pixels 207 "
+      + "are still enabled: the white ones."},
   {scene: "triangle", place: {clock: 419, view: "enable", pixel: [7, 8]}, lit: "#stages", title: "Three edges make a triangle",
     words: "Two more edges follow, and 112 pixels are left: a triangle. Each edge takes 49 clocks on this array, however "
       + "long it is and however many pixels it switches off."},
   {exercise: 1, place: {clock: 210, view: "leaf", pixel: [2, 1]}, lit: "#tree-part", title: "One tree gives every pixel its depth",
-    words: "A depth is A·x + B·y + C. The tree of one-bit adders takes A, B and C bit by bit from above, and in each clock brings every pixel one "
-      + "bit of its own sum. It serves edges and depths alike."},
+    words: "A depth is A·x + B·y + C. A tree of one-bit adders takes A, B and C from above, bit by bit. Each clock brings every pixel one "
+      + "bit of its own sum."},
   {scene: "first", place: {clock: 2283, view: "par", beside: "alive", pixel: [24, 16]}, lit: "#stages", title: "A solid cut out by counting",
-    words: "A shaft is taken out of a pyramid. The second image has the pixels with a face of the pyramid as candidate. In the first, each pixel "
-      + "turned one bit over for each face of the shaft in front of its candidate. Where the bit is 1 the candidate is inside the shaft, and "
-      + "is dropped (Goldfeather, Hultquist and Fuchs, 1986)."},
+    words: "A shaft is cut out of a pyramid. Each white pixel of the second image holds a point of the pyramid. It turns one bit over, shown in "
+      + "the first image, for each face of the shaft in front of that point. Where the bit is 1 the point is inside the shaft, and is dropped "
+      + "(Goldfeather, Hultquist and Fuchs, 1986)."},
   {scene: "letters", place: {clock: Infinity, view: "best colours", pixel: [60, 180]}, lit: ".transport", title: "The letters",
     words: "They take {operations} operations, which are {clocks} clocks. Move the slider to see the machine at any of them, or write a scene of your own "
       + "under Picture."}];

@@ -3,7 +3,7 @@ import {ask, latest} from "./ask.js";
 import {KINDS} from "./course.js";
 import {rove} from "./rove.js";
 import {css} from "./palette.js";
-import {at, made, put} from "./show.js";
+import {at, fitted, made, passChip, put} from "./show.js";
 
 const MOST = 40, FEW = 10, WIDE = 30, PAUSE = 150, SMALL = 64, LARGER = 160, GAP = 4, ROWS = 5, CLOSER = .8;
 // An operation or a clock is drawn if it has at least so many pixels.
@@ -98,7 +98,7 @@ export class Strip {
   over(clock, x) {
     this.wanted = clock;
     const {said, kind, face} = this.course.pass(this.course.passAt(Math.max(0, clock - 1)));
-    at("under-words").replaceChildren(made("i", "chip pass-" + kind), `clock ${clock}: ${said.replaceAll("`", "")}`);
+    at("under-words").replaceChildren(passChip(kind), `clock ${clock}: ${said.replaceAll("`", "")}`);
     this.onFace(face);
     at("under").hidden = false;
     this.placed(x);
@@ -159,9 +159,7 @@ export class Strip {
     const canvas = at("line-of-passes"), {course} = this;
     if (!course || !canvas.clientWidth) return;
     this.arrange();
-    canvas.width = canvas.clientWidth * devicePixelRatio;
-    canvas.height = canvas.clientHeight * devicePixelRatio;
-    const rows = new Rows(canvas, course.view), {passStarts, operations} = course;
+    const rows = new Rows(canvas, fitted(canvas), course.view), {passStarts, operations} = course;
     const ink = rows.named("--ink"), colours = Object.fromEntries(Object.keys(KINDS).map(kind => [kind, rows.named("--pass-" + kind)]));
     const shades = ["--shade", "--line"].map(name => rows.named(name)), begun = [0, 0];
     passStarts.forEach((start, number) => {
@@ -194,9 +192,8 @@ export class Strip {
 
 // The rows of the time line, which show a stretch of clocks.
 class Rows {
-  constructor(canvas, [from, to]) {
-    Object.assign(this, {canvas, from, scale: canvas.width / Math.max(1, to - from), high: canvas.height / ROWS});
-    this.pen = canvas.getContext("2d");
+  constructor(canvas, pen, [from, to]) {
+    Object.assign(this, {canvas, pen, from, scale: canvas.width / Math.max(1, to - from), high: canvas.height / ROWS});
     this.pen.font = `${Math.floor(this.high * .78)}px system-ui, "DejaVu Sans", sans-serif`;
     this.pen.textBaseline = "middle";
   }

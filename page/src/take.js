@@ -1,13 +1,17 @@
 // What may be taken away as a file by the browser.
 
-// The image of a canvas, each of its pixels as large as fits into 1024.
-export function png(canvas) {
-  const factor = Math.max(1, Math.floor(1024 / Math.max(canvas.width, canvas.height)));
-  const size = {width: canvas.width * factor, height: canvas.height * factor};
-  const large = Object.assign(document.createElement("canvas"), size), pen = large.getContext("2d");
+// A canvas for an image of a size, each of its pixels as large as fits into a side, and `draw`, which draws such an image of another canvas on it.
+export function enlarging({width, height}, side) {
+  const factor = Math.max(1, Math.floor(side / Math.max(width, height)));
+  const canvas = Object.assign(document.createElement("canvas"), {width: width * factor, height: height * factor}), pen = canvas.getContext("2d");
   pen.imageSmoothingEnabled = false;
-  pen.drawImage(canvas, 0, 0, large.width, large.height);
-  return new Promise(done => large.toBlob(done, "image/png"));
+  return {canvas, draw: image => pen.drawImage(image, 0, 0, canvas.width, canvas.height)};
+}
+
+export function png(image) {
+  const {canvas, draw} = enlarging(image, 1024);
+  draw(image);
+  return new Promise(done => canvas.toBlob(done, "image/png"));
 }
 
 export function away(blob, name) {

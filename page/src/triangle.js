@@ -1,8 +1,8 @@
 // A triangle to drag on the array: the library makes enable of its three edges at each move, and it can become a scene.
 import {ask, latest} from "./ask.js";
-import {at, drawn, made} from "./show.js";
+import {STEPS, at, drawn, follow, made} from "./show.js";
 
-const PLACES = [[.2, .8], [.45, .15], [.85, .7]], STEPS = {ArrowLeft: [-1, 0], ArrowRight: [1, 0], ArrowUp: [0, -1], ArrowDown: [0, 1]};
+const PLACES = [[.2, .8], [.45, .15], [.85, .7]];
 
 export class Triangle {
   // `machine` shows the array in `screen`; `open` is called with the text of a scene.
@@ -22,8 +22,7 @@ export class Triangle {
 
   handle(corner) {
     const own = this.screen.stage.appendChild(made("button", "corner"));
-    own.addEventListener("pointerdown", event => own.setPointerCapture(event.pointerId));
-    own.addEventListener("pointermove", event => { if (own.hasPointerCapture(event.pointerId)) this.move(corner, this.screen.near(event)); });
+    own.addEventListener("pointerdown", event => follow(own, event, moved => this.move(corner, this.screen.near(moved))));
     own.addEventListener("keydown", event => {
       const [x, y] = this.corners[corner], [right, down] = STEPS[event.key] ?? [0, 0];
       if (!STEPS[event.key]) return;

@@ -2,6 +2,7 @@
 // changed is framed, and only that is drawn again. All images are parts of one canvas, as a browser takes long to lay many over each other.
 import {rove} from "./rove.js";
 import {made, put} from "./show.js";
+import {SMALL} from "./state.js";
 
 const CAPTION = 13, LEAST = 33, GAP = 4, COARSE = 64;
 // The groups of planes, each with a heading; a caption below a plane says only what the heading does not.
@@ -10,8 +11,8 @@ const GROUPS = ["", "key B", "key T", "rest"];
 export class Wall {
   // `onChoose` is called with the name of a view, and whether it is shown next to the large one.
   constructor(root, onChoose) {
-    // (each image is drawn on `page` at the array's size, and from there on the wall's sheet)
-    Object.assign(this, {root, onChoose, tiles: [], of: null, shown: null, page: made("canvas"), sheet: made("canvas", "sheet")});
+    // (each image is drawn on `page` at the array's size, or if that is much larger in small, and from there on the wall's sheet)
+    Object.assign(this, {root, onChoose, tiles: [], of: null, shown: null, step: 1, page: made("canvas"), sheet: made("canvas", "sheet")});
     this.sheet.setAttribute("aria-hidden", "true");
     root.addEventListener("keydown", event => this.key(event));
     rove(root, ".tile");
@@ -62,15 +63,13 @@ export class Wall {
 
   size({width, height}) {
     this.of = `${width} ${height}`;
-    this.pixels = new Uint32Array(width * height);
-    Object.assign(this.page, {width, height});
     this.root.style.setProperty("--shape", `${width} / ${height}`);
     this.fit();
   }
 
   draw({view, box}, state) {
     if (!box) return;
-    view.fill(state, this.pixels);
+    view.fill(state, this.pixels, this.step);
     put(this.page, this.pixels);
     this.pen.drawImage(this.page, ...box);
   }
@@ -78,15 +77,20 @@ export class Wall {
   // Gives the sheet the size of the wall, and draws all of it.
   lay() {
     const {root, sheet, tiles, shown} = this, times = devicePixelRatio;
-    sheet.width = sheet.height = 0;
+    // (the sheet itself must not be what makes the wall as wide and high as it was)
+    Object.assign(sheet.style, {width: 0, height: 0});
     Object.assign(sheet, {width: root.scrollWidth * times, height: root.scrollHeight * times});
     Object.assign(sheet.style, {width: root.scrollWidth + "px", height: root.scrollHeight + "px"});
-    this.pen = Object.assign(sheet.getContext("2d"), {imageSmoothingEnabled: this.page.width > COARSE, imageSmoothingQuality: "medium"});
+    const [width, height] = this.of.split(" ").map(Number), isFine = width > COARSE;
+    this.pen = Object.assign(sheet.getContext("2d"), {imageSmoothingEnabled: isFine, imageSmoothingQuality: "medium"});
     for (const tile of tiles) {
       const {offsetLeft, offsetTop, offsetWidth, offsetHeight} = tile.place;
       tile.box = [offsetLeft, offsetTop, offsetWidth, offsetHeight].map(each => each * times);
-      if (shown) this.draw(tile, shown);
     }
+    this.step = isFine && height >= SMALL && tiles[0].box[2] <= width / SMALL ? SMALL : 1;
+    Object.assign(this.page, {width: width / this.step, height: height / this.step});
+    this.pixels = new Uint32Array(this.page.width * this.page.height);
+    if (shown) for (const tile of tiles) this.draw(tile, shown);
   }
 
   // Marks the tiles that are shown large.

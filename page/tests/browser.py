@@ -156,6 +156,10 @@ class Browser:
         with open(path, "wb") as file:
             file.write(base64.b64decode(self.call("Page.captureScreenshot", format="png")["data"]))
 
+    def forget(self) -> None:
+        """Drops the faults that there were."""
+        self.events.clear()
+
     def faults(self) -> list[str]:
         """What went wrong in the page: exceptions, and errors that it wrote."""
         found = []

@@ -43,7 +43,7 @@ const WRONG = [
 
 const state = px.state(text, 3000), machine = px.machine(text), packed = px.packed(text, 3000, 5);
 const CALLS = {
-  check: [text], render: [text, {isFloat: true}], window: [text, 1, 2, 3, 4, {isFromBottom: true}], colour: [text], imageData: [text], products: [text], counts: [text], state: [text, 9], micros: [text, 4, 3], packed: [text, 4, 3], course: [text, 2, 3],
+  check: [text], render: [text, {isFloat: true}], window: [text, 1, 2, 3, 4, {isFromBottom: true}], colour: [text], imageData: [text], products: [text], counts: [text], state: [text, 9, 0], micros: [text, 4, 3], packed: [text, 4, 3], course: [text, 2, 3],
   run: [text, "cost"], clocks: [state, packed], machine: [text, null]};
 const OTHERS = [[state, "bit", ["enable", 3, 4]], [state, "pixel", [3, 4]], [state, "number", [3, 9, 3, 4]], [state, "numbers", [3, 9]], [state, "node", [2, 1]],
   [state, "planeOf", [7]], [machine, "state", [9]], [machine, "micros", [4, 3]], [machine, "prepare", [900]]];

@@ -8,9 +8,9 @@ from typing import Any
 from pxplanes.errors import Trouble
 from pxplanes import ends
 from browser import Browser
-from firefox import Firefox
+from webdriver import Driven
 
-AnyBrowser = Browser | Firefox
+AnyBrowser = Browser | Driven
 PAGE = os.path.join(ends.TOP, "page", "pxplanes.html")
 FIRST = os.path.join(ends.TOP, "docs", "scenes", "first.scene")
 

@@ -9,12 +9,12 @@ from browser import Browser
 from pages import choose, source, written
 
 TABS = "[...document.querySelectorAll('.text-tab')].map(each => each.textContent)"
-SAVED = """globalThis.disk = %r; globalThis.showSaveFilePicker = async () => ({name: "first.scene",
+SAVED = """(globalThis.disk = %r, globalThis.showSaveFilePicker = async () => ({name: "first.scene",
   getFile: async () => new Blob([disk]),
   createWritable: async () => {
     let text = null;
     return {write: async given => { text = given; }, close: async () => { disk = text; }};
-  }});"""
+  }}), 0)"""
 
 
 class Tab:
@@ -84,7 +84,7 @@ def test_an_open_tabs_draft_is_its_own(browser: Browser) -> None:
 
 
 def test_a_file_that_another_program_wrote_is_not_overwritten(page: Browser, first: str) -> None:
-    page.run("void eval(%r)" % (SAVED % first))
+    page.run(SAVED % first)
     choose(page, "- shaft)")
     written(page, "+ shaft)")
     page.press("s", modifiers=2)

@@ -107,7 +107,7 @@ def host(place: Path) -> Iterator[str]:
 
 
 @pytest.mark.parametrize("with_wasm", [True, False], ids=["in the bundle", "next to it"])
-def test_a_bundle_in_a_page_and_in_a_worker(chromium: Browser, place: Path, host: str, with_wasm: bool) -> None:
+def test_a_bundle_in_a_page_and_in_a_worker(opened: Browser, place: Path, host: str, with_wasm: bool) -> None:
     bytes_of = 'import wasm from "pxplanes/pxplanes.wasm";' if with_wasm else "const wasm = undefined;"
     fetched = "said(wasm, await (await fetch('first.scene')).text())"
     (place / "page.mjs").write_text('import {load} from "pxplanes";' + bytes_of + SAID + "document.body.dataset.said = await %s;" % fetched)
@@ -118,26 +118,26 @@ def test_a_bundle_in_a_page_and_in_a_worker(chromium: Browser, place: Path, host
     if not with_wasm:
         shutil.copy(place / "node_modules" / "pxplanes" / "pxplanes.wasm", place / "host")
     (place / "host" / "page.html").write_text('<!DOCTYPE html><body><script type="module" src="page.mjs"></script>')
-    chromium.open(host + "page.html")
-    assert chromium.until("document.body?.dataset.said") == EXPECTED
+    opened.open(host + "page.html")
+    assert opened.until("document.body?.dataset.said") == EXPECTED
     worker = "new Promise(done => { new Worker('worker.mjs', {type: 'module'}).onmessage = event => done(event.data); })"
-    assert chromium.run(worker) == EXPECTED
+    assert opened.run(worker) == EXPECTED
 
 
 THREE = Path("/usr/share/javascript/three/build/three.module.js")
 
 
 @pytest.mark.skipif(not THREE.exists(), reason="there is no three.js; Debian's libjs-three has it")
-def test_a_scene_in_three(chromium: Browser, place: Path, host: str) -> None:
+def test_a_scene_in_three(opened: Browser, place: Path, host: str) -> None:
     for path in (Path(TOP, "examples", "three", "index.html"), THREE, *(place / "node_modules" / "pxplanes").glob("pxplanes.*")):
         shutil.copy(path, place / "host")
-    chromium.open(host + "index.html")
+    opened.open(host + "index.html")
     pixel = """(() => {
       const gl = document.querySelector("canvas").getContext("webgl2"), bytes = new Uint8Array(4);
       return [[24, 16], [11, 2], [11, 29]].map(([x, y]) => (gl.readPixels(x, 31 - y, 1, 1, gl.RGBA, gl.UNSIGNED_BYTE, bytes), bytes.join()));
     })()"""
-    chromium.until("document.querySelector('canvas')?.width === 48 && %s[0] !== '0,0,0,0'" % pixel)
-    assert chromium.run(pixel) == ["200,60,40,255", "0,0,51,255", "120,105,90,255"] and chromium.faults() == []
+    opened.until("document.querySelector('canvas')?.width === 48 && %s[0] !== '0,0,0,0'" % pixel)
+    assert opened.run(pixel) == ["200,60,40,255", "0,0,51,255", "120,105,90,255"] and opened.faults() == []
 
 
 @pytest.mark.parametrize("seed", [1, 2, 3])

@@ -69,6 +69,7 @@ OLDER = """(() => {
     for (const name of ["showModal", "show", "close"]) if (globalThis.HTMLDialogElement) delete HTMLDialogElement.prototype[name];
     if (globalThis.Element) delete Element.prototype.checkVisibility;
     if (globalThis.crypto) delete Crypto.prototype.randomUUID;
+    if (globalThis.Navigator) delete Navigator.prototype.locks;
   };
   take();
   const Own = Blob;

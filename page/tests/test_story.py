@@ -36,6 +36,7 @@ def test_a_page_opens_with_the_story(page: Browser) -> None:
     assert page.run("location.hash") == "#story-2"
 
 
+@pytest.mark.everywhere
 @pytest.mark.parametrize("step, clock, ones", [(2, 321, 207), (3, 419, 112)])
 def test_the_pixels_that_a_step_names(page: Browser, step: int, clock: int, ones: int) -> None:
     """207 and 112: counted by hand from 2x - y + 2 >= 0, and with -2x - y + 30 >= 0 and y - 2 >= 0, over 16 by 16
@@ -57,6 +58,7 @@ def test_every_edge_of_the_triangle_takes_49_clocks(page: Browser) -> None:
     assert {length for name, length in lengths if name == "keep-sign"} == {49}
 
 
+@pytest.mark.everywhere
 def test_the_tree_is_shown_and_lit(page: Browser) -> None:
     opened(page, "#story-4")
     at_clock(page, 210)
@@ -64,6 +66,7 @@ def test_the_tree_is_shown_and_lit(page: Browser) -> None:
     assert page.run("document.querySelectorAll('#tree .node').length") == 2 + 4 + 8 + 16
 
 
+@pytest.mark.everywhere
 def test_where_the_bit_is_1_the_candidate_is_inside_the_shaft(page: Browser) -> None:
     """The shaft is x from 19 to 29 and y from 11 to 21, and from the eye to the back; the pyramid covers all of it."""
     opened(page, "#story-5")

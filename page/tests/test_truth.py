@@ -155,6 +155,7 @@ def plain() -> bytes:
 MAPS = {"depth.npy": npy(), "depth.pfm": pfm(), "depth.png": png(0, 1, 2), "depth.pgm": pgm(), "plain.pgm": plain()}
 
 
+@pytest.mark.everywhere
 @pytest.mark.parametrize("name", MAPS)
 def test_maps_are_dropped_on_compare(page: Browser, name: str) -> None:
     page.run("delete document.body.dataset.compared")
@@ -199,7 +200,7 @@ def test_other_forms_are_refused_by_name(page: Browser, name: str, content: byte
 @pytest.mark.parametrize("clipboard", ["undefined", "{writeText: () => Promise.reject(new DOMException('no', "
                                                     "'NotAllowedError'))}"])
 def test_a_link_that_was_not_copied_is_shown(page: Browser, clipboard: str) -> None:
-    page.run("Object.defineProperty(navigator, 'clipboard', {value: %s, configurable: true})" % clipboard)
+    page.run("void Object.defineProperty(navigator, 'clipboard', {value: %s, configurable: true})" % clipboard)
     click(page, "[data-take=link]")
     page.until("document.getElementById('copy').open")
     assert page.run("document.getElementById('copy-link').value") == page.run("document.body.dataset.link")
@@ -207,7 +208,7 @@ def test_a_link_that_was_not_copied_is_shown(page: Browser, clipboard: str) -> N
 
 
 def test_success_does_not_look_like_trouble(page: Browser) -> None:
-    page.run("Object.defineProperty(navigator, 'clipboard', {value: {writeText: async () => {}}, configurable: true})")
+    page.run("void Object.defineProperty(navigator, 'clipboard', {value: {writeText: async () => {}}, configurable: true})")
     click(page, "[data-take=link]")
     assert page.until(NOTICE) == "The link is copied."
     look = "[document.getElementById('notice').className, document.getElementById('notice').role]"
@@ -248,6 +249,7 @@ def test_a_damaged_link_is_named(page: Browser, fragment: str) -> None:
     assert page.until(DRAWN) == "yes"
 
 
+@pytest.mark.everywhere
 def test_a_readable_link(page: Browser) -> None:
     page.open("about:blank")
     page.open("file://" + pages.PAGE + "#s=house&c=40000&v=enable&p=20,20")
@@ -263,13 +265,16 @@ def test_a_film_does_not_take_the_pictures_name(page: Browser) -> None:
     machine(page)
     page.until("document.body.dataset.shown")
     click(page, "[data-take=film]")
-    page.until("document.getElementById('film').open")
+    if page.until("document.getElementById('film').open || " + NOTICE) is not True:
+        assert "records no WebM" in page.run(NOTICE) and not isinstance(page, Browser)
+        return
     page.run("(document.getElementById('film-first').value = 0, document.getElementById('film-last').value = 2, "
              "document.getElementById('film-pace').value = 'clock', document.getElementById('film-webm').click())")
     page.until("taken.length === 2")
     assert page.run("taken") == ["first.png", "first-film.webm"]
 
 
+@pytest.mark.everywhere
 def test_a_cure_is_an_action(page: Browser, first: str) -> None:
     refuse(page)
     assert text_of(page, ".cure button") == "Write shaft"
@@ -283,6 +288,7 @@ def test_a_cure_is_an_action(page: Browser, first: str) -> None:
     ("fron 0 0 320", "fron", "in this order", "Write front"), ("front 0 0 3.5", "3.5", "whole number", None),
     ("front 0 0", "front 0 0", "front A B C", None), ("front 9999999 0 0", "9999999", "", None),
     ("gont 0 0 320", "gont", "in this order", "Write front"),
+    ("fron 0 0 320\nsolid", "fron", "in this order", "Write front"),
     ("xyznt 0 0 320", "xyznt", "in this order", None)])
 def test_a_refusal_has_its_place_and_at_most_one_change(page: Browser, typed: str, marked: str, says: str, action: str | None) -> None:
     """There is an action only if exactly one word is near that the library takes there: `gont` is two keys from `front`, `xyznt` three."""

@@ -31,7 +31,8 @@ GALLERY = os.path.join(ends.TOP, "docs", "GALLERY.md")
 TAUGHT = re.compile(r"(?m)^!\[its colours\]\(\.\./gallery/(\w+)\.png\).*\n\n((?:- .+\n)+)$")
 POLICY = ("default-src 'none'; script-src 'wasm-unsafe-eval' blob: '%s'; style-src %s; img-src blob: data:; worker-src blob:; "
           "connect-src 'self'")
-# (a Chromium before 97 knows no word for WebAssembly alone)
+# (a Chromium before 97 knows no word for WebAssembly alone; Safari does from 16 on, and Firefox from 102 on, before
+# which it asks for none)
 POLICED = ("document.write(`<meta http-equiv=\"Content-Security-Policy\" content=\"%s\">`"
            ".replace('wasm-', /Chrom\\w+\\/9[1-6]\\./.test(navigator.userAgent) ? '' : 'wasm-'))")
 LIBRARY = re.compile(r'<script type="text/plain" id="library" data-of="(\w+)">\n([A-Za-z0-9+/=\n]*)</script>')

@@ -19,14 +19,14 @@ TAKEN = """() => { const own = URL.createObjectURL; globalThis.taken = []; URL.c
   HTMLAnchorElement.prototype.click = function () { taken.push(this.download); }; }"""
 BYTES = """async () => { const bytes = new Uint8Array(await taken.at(-2).arrayBuffer()); let out = "";
   for (let at = 0; at < bytes.length; at += 8192) out += String.fromCharCode(...bytes.subarray(at, at + 8192)); return btoa(out); }"""
-# Notes the colours of places of each picture that is put on the canvas of a film.
+# Notes the colours of places of each picture that is drawn on the canvas of a film.
 RECORDED = """(places, factor, width, height) => {
   globalThis.films = [];
-  const put = CanvasRenderingContext2D.prototype.putImageData;
-  CanvasRenderingContext2D.prototype.putImageData = function (image, ...more) {
-    if (image.width === width && image.height === height)
-      films.push(places.map(([x, y]) => [...image.data.slice(4 * ((factor * y + 4) * width + factor * x + 4)).slice(0, 3)]));
-    return put.call(this, image, ...more);
+  const draw = CanvasRenderingContext2D.prototype.drawImage;
+  CanvasRenderingContext2D.prototype.drawImage = function (...words) {
+    draw.apply(this, words);
+    if (this.canvas.width === width && this.canvas.height === height)
+      films.push(places.map(([x, y]) => [...this.getImageData(factor * x + 4, factor * y + 4, 1, 1).data.slice(0, 3)]));
   };
 }"""
 # The size of a film, and the colours of places of its last picture, as the browser plays it.
