@@ -175,7 +175,7 @@ PLANTS: dict[str, tuple[str | None, Renderer]] = {
     "background 0": ("the background is 0", Renderer(after=lambda d, f, s: (np.where(f == 0, 0, d), f))),
     "gamma 2.2 to 255": ("from 0 to 255 with a gamma of 2.2", Renderer(after=lambda d, f, s: (np.rint(255 * (d / s.far) ** (1 / 2.2)), f))),
     "16 bits of depth": ("lowest 16 bits", Renderer(after=lambda d, f, s: (d % 65536, f))),
-    "only 3 fraction bits": ("keep 3 fraction", Renderer(plane=lambda a, b, c, x, y, k, s: (
+    "only 3 fraction bits": ("only 3 fraction bits", Renderer(plane=lambda a, b, c, x, y, k, s: (
         lambda n: (a >> n << n) * x + (b >> n << n) * y + (c >> n << n))(max(s.fraction - 3, 0) if k != "side" else 0))),
     "faces by solid": ("faces are the numbers of solids", Renderer(after=lambda d, f, s: (d, np.searchsorted([o.near for o in s.solids], f, "right")))),
     # -- what no cause is written for
