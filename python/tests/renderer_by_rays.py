@@ -326,4 +326,18 @@ CAUSES = {
     "x leftward, from width": "the columns are from the right, counted from 1",
     "C of 24 bits without a sign": "24 bits without a sign",
     "gamma the other way": "from 0 to 65535 with a gamma of 1 / 2.2",
+    # causes that were added when both tables had been tried
+    "six planes a solid": "the first 6 planes of a solid",
+    "the cell of a back is inside": "solids end a cell later",
+    "the last hit is kept": "the farthest surface",
+    "the last column is at width": "the last is at the size of the picture",
+    "sides have numbers": "sides have face numbers too",
+    "y upward, and cells by floor": "the rows are from the bottom up, and values are rounded down",
+    "middles of pixels, and faces from 0": "samples are +0.5 columns and +0.5 rows aside, and faces are counted from 0",
+    "* binds before the others": "* first",
+    "boxes are a column short": "of each solid: the last column",
+    "solids that reach far are culled": "reach the far limit",
+    "a quarter of a pixel": "+0.25 columns and +0.25 rows aside",
+    "values of 24 bits": "values of planes are cut to 24 bits",
+    "the first row and column are not drawn": "the first row and the first column",
 }

@@ -36,7 +36,7 @@ NAMED = 4                  # so many of causes that are as good are listed
 PRODUCTS = 200             # so many products of an expression are looked at
 FEW, SOME = 8, 30          # in so many scenes, of so many pixels that differ in each, all causes are tried first, and
 ROUGH = 0.25               # those left out that have more errors than this share
-FIRST = 6                  # so many causes, the best alone, may be one of two
+FIRST, OF_A_KIND = 8, 2    # so many causes, the best alone, may be one of two, and so many of a kind
 MADE = ("change", "how", "place", "write")
 NUMBERS, POWERS = (1, 2, 3, 4, 5, 6, 8, 10, 16), (1, 2, 4, 8, 16, 32)
 FIRST_SOLIDS = "only the first %d solids are drawn"
@@ -157,44 +157,26 @@ class Found:
 
 def together(names: Sequence[str]) -> list[str]:
     """Names of causes, in one those that differ in a number alone."""
-    groups: dict[str, list[str]] = {}
+    groups: dict[tuple[str, ...], list[int]] = {}
     for name in names:
-        groups.setdefault(re.sub(r"\d+", "#", name), []).append(name)
-    out = []
-    for group in groups.values():
-        rows = [re.findall(r"\d+", name) for name in group]
-        other = [at for at, own in enumerate(zip(*rows)) if len(set(own)) > 1]
-        if len(other) != 1:
-            out += group
-            continue
-        parts = re.split(r"(\d+)", group[0])
-        parts[2 * other[0] + 1] = " or ".join(sorted((own[other[0]] for own in rows), key=int))
-        out.append("".join(parts))
-    return out
+        parts = re.split(r"(\d+)", name)
+        own = next(((*parts[:at], "#", *parts[at + 1:]) for at in range(1, len(parts), 2) if (*parts[:at], "#", *parts[at + 1:]) in groups),
+                   (*parts[:-2], "#", *parts[-1:]) if len(parts) > 1 else (name,))
+        groups.setdefault(own, []).append(int(parts[own.index("#")]) if "#" in own else 0)
+    return ["".join(group).replace("#", " or ".join(map(str, sorted(numbers)))) for group, numbers in groups.items()]
 
 
-@dataclass
-class Judged:
-    """A cause, with the pixels that it explains, and its errors: what it does not explain, and what it contradicts."""
-
-    cause: Cause
-    explained: int = 0
-    errors: float = 0
-
-    def add(self, sample: Sample) -> None:
-        fits, known = self.cause.fits(sample)
-        self.explained += int((known & fits & sample.differs).sum())
-        self.errors += int((known & ~fits & sample.differs).sum()) + sample.weight * int((known & ~fits & sample.right).sum())
-
-
-def judged(cause: Cause, samples: Sequence[Sample], most: float = np.inf) -> Judged:
-    """A cause with its pixels. It ends where the errors are more than `most`."""
-    found = Judged(cause)
+def judged(cause: Cause, samples: Sequence[Sample], most: float = np.inf) -> tuple[float, int]:
+    """The errors of a cause, what it does not explain and what it contradicts; and the pixels that it explains. It ends where the
+    errors are more than `most`."""
+    explained, errors = 0, 0.0
     for sample in samples:
-        found.add(sample)
-        if found.errors > most:
+        fits, known = cause.fits(sample)
+        explained += int((known & fits & sample.differs).sum())
+        errors += int((known & ~fits & sample.differs).sum()) + sample.weight * int((known & ~fits & sample.right).sum())
+        if errors > most:
             break
-    return found
+    return errors, explained
 
 
 def find(samples: Sequence[Sample]) -> Found:
@@ -217,26 +199,26 @@ def chosen(causes: Sequence[Cause], few: Sequence[Sample], samples: Sequence[Sam
     """What of some causes is named. Some pixels of a few scenes leave most causes out."""
     total, where = (sum(numbers) for numbers in zip(*((int(each.differs.sum()), bool(each.differs.any())) for each in samples)))
     most = ROUGH * sum(int(each.differs.sum()) for each in few)
-    rows = [judged(cause, order, ASIDE * total) for cause in causes if judged(cause, few, most).errors <= most]
-    rows = sorted((row for row in rows if row.explained >= EXPLAINED * total), key=lambda row: row.errors)
+    rows = [(*judged(cause, order, ASIDE * total), cause) for cause in causes if judged(cause, few, most)[0] <= most]
+    rows = sorted((row for row in rows if row[1] >= EXPLAINED * total), key=lambda row: row[0])
     if not rows:
         return Found([], total, where, 0, 0)
-    best = rows[0]
-    close = min(max(MARGIN * best.errors, PIXELS), ASIDE * total)
-    alike = [row.cause for row in rows if row.errors < close] or [best.cause]
-    enough = total >= PIXELS and where >= SCENES or total >= ALONE and best.errors == 0 and pairs(samples) >= PAIRS
-    is_named = enough and best.errors <= ERRORS * total and all(cause.kind == best.cause.kind for cause in alike)
-    equals = [row.cause.said for row in rows if row.errors == 0] if enough and not is_named else []
-    return Found([cause.said for cause in alike] if is_named else [], total, where, best.explained, int(best.errors), equals[:NAMED])
+    errors, explained, best = rows[0]
+    close = min(max(MARGIN * errors, PIXELS), ASIDE * total)
+    alike = [cause for wrong, _, cause in rows if wrong < close] or [best]
+    enough = total >= PIXELS and where >= SCENES or total >= ALONE and errors == 0 and pairs(samples) >= PAIRS
+    is_named = enough and errors <= ERRORS * total and all(cause.kind == best.kind for cause in alike)
+    equals = [cause.said for wrong, _, cause in rows if wrong == 0] if enough and not is_named else []
+    return Found([cause.said for cause in alike] if is_named else [], total, where, explained, int(errors), equals[:NAMED])
 
 
 def two_at_once(causes: Sequence[Cause], few: Sequence[Sample]) -> list[Cause]:
     """The pairs of causes one of which alone explains most in a few scenes."""
-    first: dict[str, Cause] = {}
-    for row in sorted((judged(cause, few) for cause in causes), key=lambda row: row.errors):
-        if len(first) < FIRST:
-            first.setdefault(row.cause.kind, row.cause)
-    made = (one.and_also(other) for one in first.values() for other in causes if first.get(other.kind) != other or other.kind > one.kind)
+    first: list[Cause] = []
+    for cause in sorted(causes, key=lambda cause: judged(cause, few)[0]):
+        if len(first) < FIRST and sum(cause.kind == each.kind for each in first) < OF_A_KIND:
+            first.append(cause)
+    made = (one.and_also(other) for at, one in enumerate(first) for other in causes if other not in first[:at])
     return [each for each in made if each]
 
 
@@ -492,12 +474,16 @@ def rows_of(scene: Scene) -> list[tuple[int, int, int]]:
         ([solid.near], [n for _, n in solid.fronts], [n for _, n in solid.backs])) for number in numbers]
 
 
-def table_of(scene: Scene, new: dict[int, int]) -> Whole:
-    return np.array([0] + [new.get(n, 0) for n in range(1, FACES)])
+def looked_up(new: dict[int, int], faces: Whole) -> Whole:
+    """New numbers of faces, 0 for those that have none."""
+    table = np.zeros(FACES, np.int64)
+    table[list(new)] = list(new.values())
+    found: Whole = np.where(faces < FACES, table[np.clip(faces, 0, FACES - 1)], 0)
+    return found
 
 
 def renumbered(order: Callable[[list[tuple[int, int, int]]], dict[int, int]]) -> Write:
-    return lambda shown, scene: Picture(shown.depths, table_of(scene, order(rows_of(scene)))[shown.faces])
+    return lambda shown, scene: Picture(shown.depths, looked_up(order(rows_of(scene)), shown.faces))
 
 
 def with_sides_counted(shown: Picture, scene: Scene) -> Picture:
@@ -507,15 +493,13 @@ def with_sides_counted(shown: Picture, scene: Scene) -> Picture:
         own = [0] + [at for at, kind in enumerate(solid.order, 1) if kind != "side"]
         new.update((solid.near + which, solid.near + before + at) for which, at in enumerate(own))
         before += len(solid.sides)
-    return Picture(shown.depths, table_of(scene, new)[shown.faces])
+    return Picture(shown.depths, looked_up(new, shown.faces))
 
 
 def on_kind(kind: int, gap: float) -> Write:
     """The depths of faces of a kind written that much greater."""
-    def write(shown: Picture, scene: Scene) -> Picture:
-        own = table_of(scene, {n: 1 for _, k, n in rows_of(scene) if k == kind})
-        return Picture(shown.depths + gap * own[shown.faces], shown.faces)
-    return write
+    return lambda shown, scene: Picture(
+        shown.depths + gap * looked_up({n: 1 for _, k, n in rows_of(scene) if k == kind}, shown.faces), shown.faces)
 
 
 def from_0_to(top: float, gamma: float, more: int = 0) -> Write:
@@ -614,8 +598,8 @@ def rare() -> Iterator[Cause]:
     yield from counted()
     yield from planes_counted()
     yield from terms()
-    yield from family("the first %d cells are not drawn", "near", NUMBERS, how=lambda most: Reading(near=most))
-    yield from family("the last %d cells are not drawn", "far", NUMBERS, how=lambda most: Reading(far=-most))
+    yield from family("the first %d cells are not drawn", "near", NUMBERS[1:], how=lambda most: Reading(near=most))
+    yield from family("the last %d cells are not drawn", "far", NUMBERS[1:], how=lambda most: Reading(far=-most))
     yield from family("values of planes are cut to %d bits", "bits of values", range(8, 48), how=lambda bits: Reading(bits=bits))
     yield from family("the lowest %d bits of depths are 0", "steps", range(1, 13), write=lambda bits: by(lambda v: v // 2 ** bits * 2 ** bits))
     yield from family("the lowest %d bits of depths of faces are 0", "steps", range(1, 13),
@@ -836,18 +820,18 @@ def commonest(numbers: Reals) -> float:
 
 def facts(samples: Sequence[Sample]) -> list[str]:
     """What the pixels that differ have in common: where, how much, near or far, which faces, which signs."""
-    rows = [each for each in samples if not each.right.all()]
-    shown = np.concatenate([(each.ours.faces > 0)[~each.right] for each in rows])
+    rows = [each for each in samples if each.differs.any()]
+    shown = np.concatenate([(each.ours.faces > 0)[each.differs] for each in rows])
     out = ["%d where ours shows a face, %d in our background, %d beside an edge of one of our faces" % (
-        shown.sum(), (~shown).sum(), sum(int((edges(each) & ~each.right).sum()) for each in rows))]
+        shown.sum(), (~shown).sum(), sum(int((edges(each) & each.differs).sum()) for each in rows))]
     empty = np.concatenate([np.zeros(0)] + [
-        each.depths[(each.ours.faces == 0) & ~each.right] for each in rows if each.depths is not None])
+        each.depths[(each.ours.faces == 0) & each.differs] for each in rows if each.depths is not None])
     if empty.size > 1 and (empty == empty[0]).all():
         is_all = not any((each.right & (each.ours.faces == 0)).any() for each in rows)
         out.append("theirs is %.9g at all of those in our background%s" % (
             empty[0], " (--far %.9g)" % empty[0] if is_all else ", and right at the rest of it"))
     off = np.concatenate([np.zeros(0)] + [
-        (each.depths - each.ours.depths)[~each.right] for each in rows if each.depths is not None])
+        (each.depths - each.ours.depths)[each.differs] for each in rows if each.depths is not None])
     if off.size:
         out.append("%d nearer, %d farther, %d of the same depth; half of them are off by %.6g or less, the most by %.6g" % (
             (off < 0).sum(), (off > 0).sum(), (off == 0).sum(), np.median(abs(off)), abs(off).max()))
@@ -855,13 +839,13 @@ def facts(samples: Sequence[Sample]) -> list[str]:
         return out + by_solids(rows[0])
     for sign in "+-*^":
         own = [each for each in samples if sign in each.scene.show]
-        bad = sum(not each.right.all() for each in own)
+        bad = sum(bool(each.differs.any()) for each in own)
         if own:
             out.append("scenes that differ: %d of %d with %s, %d of %d without" % (
                 bad, len(own), sign, len(rows) - bad, len(samples) - len(own)))
     sizes = sorted(len(each.scene.solids) for each in rows)
     return out + ["solids of the scenes that differ: %d to %d; of the others: %s" % (
-        sizes[0], sizes[-1], ranged([len(each.scene.solids) for each in samples if each.right.all()]))]
+        sizes[0], sizes[-1], ranged([len(each.scene.solids) for each in samples if not each.differs.any()]))]
 
 
 def ranged(numbers: Sequence[int]) -> str:
@@ -870,7 +854,7 @@ def ranged(numbers: Sequence[int]) -> str:
 
 def by_solids(sample: Sample) -> list[str]:
     """The faces of ours where most pixels differ, by number."""
-    faces, counts = np.unique(sample.ours.faces[~sample.right], return_counts=True)
+    faces, counts = np.unique(sample.ours.faces[sample.differs], return_counts=True)
     most = sorted(zip(counts.tolist(), faces.tolist()), key=lambda row: (-row[0], row[1]))[:5]
     return ["most differ where our face is " + ", ".join("%d (%d)" % (face, count) for count, face in most)]
 
