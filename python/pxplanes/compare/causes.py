@@ -47,7 +47,7 @@ Change = Callable[[Scene], Scene]
 Place = Callable[[Whole, Whole, Scene], tuple[Whole, Whole]]
 Write = Callable[[Picture, Scene], Picture]
 Rows = Callable[[list[Row]], list[Row]]
-Term = Callable[[int, int], int]      # a term of a plane changed, and the fraction bits
+Term = Callable[[int, int], Any]      # a term of a plane changed, and the fraction bits
 
 
 @dataclass(frozen=True)
@@ -186,7 +186,7 @@ def find(samples: Sequence[Sample]) -> Found:
     if total == 0:
         return Found([], 0, 0, 0, 0)
     # Those scenes come first that show most in least time.
-    order = sorted(samples, key=lambda each: len(each.scene.solids) * each.x.size / (1 + each.differs.sum()))
+    order = sorted(samples, key=lambda each: float(len(each.scene.solids) * each.x.size / (1 + each.differs.sum())))
     few = sorted([each.some(SOME) for each in order if each.differs.any()][:FEW], key=lambda each: len(each.scene.solids))
     found = chosen([*usual(), *rare(), *fitted(samples)], few, samples, order)
     if found.causes or found.equals or where < SCENES or total < PIXELS:
@@ -208,14 +208,14 @@ def chosen(causes: Sequence[Cause], few: Sequence[Sample], samples: Sequence[Sam
     alike = [cause for wrong, _, cause in rows if wrong < close] or [best]
     enough = total >= PIXELS and where >= SCENES or total >= ALONE and errors == 0 and pairs(samples) >= PAIRS
     is_named = enough and errors <= ERRORS * total and all(cause.kind == best.kind for cause in alike)
-    equals = [cause.said for wrong, _, cause in rows if wrong == 0] if enough and not is_named else []
-    return Found([cause.said for cause in alike] if is_named else [], total, where, explained, int(errors), equals[:NAMED])
+    equals = {cause.kind: cause.said for wrong, _, cause in rows[::-1] if wrong == 0} if enough and not is_named else {}
+    return Found([cause.said for cause in alike] if is_named else [], total, where, explained, int(errors), list(equals.values())[::-1][:NAMED])
 
 
 def two_at_once(causes: Sequence[Cause], few: Sequence[Sample]) -> list[Cause]:
     """The pairs of causes one of which alone explains most in a few scenes."""
     first: list[Cause] = []
-    for cause in sorted(causes, key=lambda cause: judged(cause, few)[0]):
+    for cause in [causes[at] for at in np.argsort([judged(cause, few)[0] for cause in causes], kind="stable")]:
         if len(first) < FIRST and sum(cause.kind == each.kind for each in first) < OF_A_KIND:
             first.append(cause)
     made = (one.and_also(other) for at, one in enumerate(first) for other in causes if other not in first[:at])
@@ -313,9 +313,9 @@ def with_sides(scene: Scene, sides: Sequence[list[Plane]]) -> Scene:
                                   for solid, own in zip(scene.solids, sides)]) if any(sides) else scene
 
 
-def hidden(out: Callable[[int, int], bool]) -> Change:
+def hidden(out: Callable[[int, int], Any]) -> Change:
     """Solids left out by their place, from 0, and the count of them all."""
-    return lambda scene: with_sides(scene, [[(0, 0, -1)] * out(at, len(scene.solids)) for at in range(len(scene.solids))])
+    return lambda scene: with_sides(scene, [[(0, 0, -1)] * bool(out(at, len(scene.solids))) for at in range(len(scene.solids))])
 
 
 def planes_at(part: Rows, kinds: Sequence[str] = KINDS) -> Change:
@@ -436,7 +436,7 @@ def swapped(size: int, numbers: Whole) -> Whole:
     return out
 
 
-def depths(value: Callable[[Reals, Scene], Reals], background: bool = True) -> Write:
+def depths(value: Callable[[Reals, Scene], Any], background: bool = True) -> Write:
     """Depths written otherwise, the background among them or not."""
     def write(shown: Picture, scene: Scene) -> Picture:
         new = value(shown.depths, scene)
@@ -444,7 +444,7 @@ def depths(value: Callable[[Reals, Scene], Reals], background: bool = True) -> W
     return write
 
 
-def by(function: Callable[[Reals], Reals]) -> Write:
+def by(function: Callable[[Reals], Any]) -> Write:
     return depths(lambda v, scene: function(v))
 
 
@@ -482,13 +482,14 @@ def looked_up(new: dict[int, int], faces: Whole) -> Whole:
     return found
 
 
-def renumbered(order: Callable[[list[tuple[int, int, int]]], dict[int, int]]) -> Write:
+def renumbered(order: Callable[[list[tuple[int, int, int]]], Any]) -> Write:
     return lambda shown, scene: Picture(shown.depths, looked_up(order(rows_of(scene)), shown.faces))
 
 
 def with_sides_counted(shown: Picture, scene: Scene) -> Picture:
     """Faces numbered as if sides had numbers too, in the order of the text."""
-    new, before = {}, 0
+    new: dict[int, int] = {}
+    before = 0
     for solid in scene.solids:
         own = [0] + [at for at, kind in enumerate(solid.order, 1) if kind != "side"]
         new.update((solid.near + which, solid.near + before + at) for which, at in enumerate(own))
@@ -556,7 +557,7 @@ def aside(*parts: tuple[int, int], kinds: tuple[str, ...] = KINDS) -> Iterator[C
     which = "" if kinds == KINDS else " for %ss alone" % "s and ".join(kinds)
     for part, of in parts:
         for dx, dy in AROUND:
-            yield Cause("samples are %+.3g columns and %+.3g rows aside%s" % (dx * part / of, dy * part / of, which), "sample" + which,
+            yield Cause("samples are %+.3g columns and %+.3g rows aside%s" % (dx * part / of, dy * part / of, which), "sample",
                         how=Reading(dx * part, dy * part, of, kinds=kinds))
 
 
@@ -630,16 +631,25 @@ def places() -> Iterator[Cause]:
     yield from family("the map is moved by %d columns and %d rows", "place", ((n * dx, n * dy) for dx, dy in AROUND for n in (2, 3, 4)), place=moved)
 
 
+EDGES: dict[str, Callable[[Scene, int], Plane]] = {
+    "last row": lambda s, n: (0, -1, s.height - 1 - n), "last column": lambda s, n: (-1, 0, s.width - 1 - n),
+    "first row": lambda s, n: (0, 1, -n), "first column": lambda s, n: (1, 0, -n)}
+
+
 def frames() -> Iterator[Cause]:
-    edges: dict[str, Callable[[Scene, int], Plane]] = {
-        "last row": lambda s, n: (0, -1, s.height - 1 - n), "last column": lambda s, n: (-1, 0, s.width - 1 - n),
-        "first row": lambda s, n: (0, 1, -n), "first column": lambda s, n: (1, 0, -n)}
-    for names in (*((each,) for each in edges), *itertools.combinations(edges, 2), tuple(edges)):
+    for names in (*((each,) for each in EDGES), *itertools.combinations(EDGES, 2), tuple(EDGES)):
         for most in NUMBERS:
-            said = " and ".join("the %s" % name if most == 1 else "the %s %d %ss" % (*name.split()[:1], most, *name.split()[1:]) for name in names)
-            yield Cause("not drawn of the picture: %s" % said, "frame",
-                        only(lambda s, names=names, most=most: [edges[each](s, most) for each in names]))
+            yield Cause("not drawn of the picture: %s" % " and ".join(edge_said(each, most) for each in names), "frame", framed(names, most))
         yield Cause("left out of each solid: the %s" % " and the ".join(names), "box", short_boxes(" and the ".join(names)))
+
+
+def framed(names: Sequence[str], most: int) -> Change:
+    return only(lambda scene: [EDGES[each](scene, most) for each in names])
+
+
+def edge_said(name: str, most: int) -> str:
+    which, what = name.split()
+    return "the %s" % name if most == 1 else "the %s %d %ss" % (which, most, what)
 
 
 def counted() -> Iterator[Cause]:
@@ -703,6 +713,10 @@ def terms() -> Iterator[Cause]:
                 to(bits), own, kinds))
 
 
+def without_kind(own: int) -> Callable[[list[tuple[int, int, int]]], Any]:
+    return lambda rows: {n: n for _, k, n in rows if k != own}
+
+
 def numbers_written() -> Iterator[Cause]:
     yield from family("the %d bytes of both maps are lowest first", "bytes", (2, 3), write=bytes_of_both)
     yield from family("the %d bytes of depths are lowest first", "bytes", (2, 3), write=bytes_of_depths)
@@ -725,7 +739,7 @@ def numbers_written() -> Iterator[Cause]:
         lambda v, s: (v * (1 << s.fraction)).round(), False))
     yield Cause("depths are half floats", "half floats", write=by(
         lambda v: np.where(v > 65504, 65504, v).astype(np.float16).astype(np.float64)))
-    orders: dict[str, Callable[[list[tuple[int, int, int]]], dict[int, int]]] = {
+    orders: dict[str, Callable[[list[tuple[int, int, int]]], Any]] = {
         "faces are counted from 0": lambda rows: {n: n - 1 for _, _, n in rows},
         "faces are counted from 2": lambda rows: {n: n + 1 for _, _, n in rows},
         "faces are counted from the last one": lambda rows: {n: len(rows) + 1 - n for _, _, n in rows},
@@ -737,7 +751,7 @@ def numbers_written() -> Iterator[Cause]:
         "backs have the face of their solid": lambda rows: {
             n: n if kind != 2 else next(m for own, k, m in rows if own == at and k == 0) for at, kind, n in rows},
         "faces are numbered by kind": lambda rows: {n: i for i, (_, n) in enumerate(sorted((k, n) for _, k, n in rows), 1)},
-        **{"%s are face 0" % word: lambda rows, own=own: {n: n for _, k, n in rows if k != own} for own, word in enumerate(FACE_KINDS)}}
+        **{"%s are face 0" % word: without_kind(own) for own, word in enumerate(FACE_KINDS)}}
     yield from tables("faces", "write", {said: renumbered(order) for said, order in orders.items()})
     yield Cause("sides have face numbers too", "faces", write=with_sides_counted)
 
@@ -771,14 +785,14 @@ def fitted(samples: Sequence[Sample]) -> Iterator[Cause]:
             gap = float("%.5g" % np.median(theirs - base))
             for also, word in ((False, ""), (True, ", the background too")) if gap else ():
                 yield Cause("depths are off by %g%s%s" % (gap, word, ", from whole cells" * (real is False)), "off",
-                            write=depths(lambda v, s, gap=gap: v + gap, also), slack=1e-5 * abs(gap), real=real)
+                            write=added(gap, also), slack=1e-5 * abs(gap), real=real)
         yield from scaled(theirs[ours > 0], ours[ours > 0])
         far = np.concatenate([np.full(int(there.sum()), s.scene.far) for s, there, _ in shown])
         inner = (ours > 0) & (ours < far) & (theirs > 0) & (theirs < far)
         power = float(np.median(np.log(theirs[inner] / far[inner]) / np.log(ours[inner] / far[inner]))) if inner.any() else 1.0
         for power in {float("%.3g" % power), round(2 * power) / 2} - {0.0, 1.0}:
             yield Cause("depths are bent by a power of %g of their share of far" % power, "scale", rounding=UNIT, slack=1e-6,
-                        write=depths(lambda v, s, power=power: s.far * np.clip(v / s.far, 0, 1) ** power))
+                        write=bent_by(power))
         ends_at, begins_at = float(theirs.max()), float(theirs.min())
         yield Cause("depths end at %g" % ends_at, "ends", write=depths(lambda v, s: np.minimum(v, ends_at), False))
         yield Cause("depths begin at %g" % begins_at, "near", write=by(lambda v: np.maximum(v, begins_at)))
@@ -790,9 +804,9 @@ def fitted(samples: Sequence[Sample]) -> Iterator[Cause]:
             most = float(ours[gone].max())
             yield Cause("depths up to %g are the background" % most, "range", write=unseen(lambda v, s: v <= most))
     for kind, word in enumerate(FACE_KINDS):
-        own = [theirs[at] - s.ours.depths[at] for s, theirs in rows for at in [
+        gaps = [theirs[at] - s.ours.depths[at] for s, theirs in rows for at in [
             np.isin(s.ours.faces, [n for _, k, n in rows_of(s.scene) if k == kind])]]
-        gap = commonest(np.concatenate(own)) if sum(each.size for each in own) else 0.0
+        gap = commonest(np.concatenate(gaps)) if sum(each.size for each in gaps) else 0.0
         if gap:
             yield Cause("depths of %s are off by %g" % (word, gap), "off", write=on_kind(kind, gap), slack=1e-5 * abs(gap))
     empty = [(theirs[s.ours.faces == 0], s.scene.far) for s, theirs in rows if (s.ours.faces == 0).any()]
@@ -802,6 +816,14 @@ def fitted(samples: Sequence[Sample]) -> Iterator[Cause]:
         more = commonest(np.concatenate([theirs - far for theirs, far in empty]))
         if more:
             yield Cause("the background is far %+.9g" % more, "background", write=behind(lambda s: s.far + more))
+
+
+def added(gap: float, also: bool) -> Write:
+    return depths(lambda v, s: v + gap, also)
+
+
+def bent_by(power: float) -> Write:
+    return depths(lambda v, s: s.far * np.clip(v / s.far, 0, 1) ** power)
 
 
 def scaled(theirs: Reals, ours: Reals) -> Iterator[Cause]:

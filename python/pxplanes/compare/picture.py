@@ -37,7 +37,8 @@ class Solid:
 
     def with_rows(self, change: Callable[[list[Row], str], list[Row]]) -> Solid:
         """The solid with its planes of each kind changed."""
-        return Solid(self.near, *(change(self.rows(kind), kind) for kind in KINDS), self.order)
+        fronts, backs, sides = (change(self.rows(kind), kind) for kind in KINDS)
+        return Solid(self.near, fronts, backs, sides, self.order)
 
 
 @dataclass(frozen=True)

@@ -113,14 +113,15 @@ class Sample:
         if not self.whole and not self.right.all():
             beside = np.zeros_like(self.right)
             for dx, dy in ((-1, -1), (-1, 1), (1, -1), (1, 1)):
-                beside |= self.fits_faces(picture(self.scene, Reading(dx, dy, EDGE, True), self.x, self.y).faces)
+                beside |= self.fits_faces(picture(self.scene, Reading(dx, dy, EDGE, real=True), self.x, self.y).faces)
             found[beside & ~self.right] = NEAR_EDGE
         return found
 
     @cached_property
     def differs(self) -> Bools:
         """Pixels that are wrong; those near an edge are neither right nor wrong to a cause."""
-        return self.state == WRONG
+        found: Bools = self.state == WRONG
+        return found
 
     def some(self, most: int) -> Sample:
         """So many of the pixels that differ, and half as many of the right ones, evenly over the picture."""

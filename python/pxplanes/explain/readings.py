@@ -220,12 +220,11 @@ def steps(order: tuple[int, ...], kinds: dict[int, str]) -> Iterator[tuple[tuple
     for word, due in [*zip(firsts, range(3)), *zip(lasts, range(len(order) - len(lasts), len(order)))]:
         at = own.index(word)
         if own.count(word) == 1 and at != due:
-            new = list(order)
-            new[at], new[due] = new[due], new[at]
-            yield tuple(new), "exchange line %d and line %d" % (order[at] + 1, order[due] + 1)
-            new = list(order)
-            new.insert(due, new.pop(at))
-            yield tuple(new), "put line %d %s line %d" % (order[at] + 1, "above" if at > due else "below", order[due] + 1)
+            exchanged, moved = list(order), list(order)
+            exchanged[at], exchanged[due] = order[due], order[at]
+            yield tuple(exchanged), "exchange line %d and line %d" % (order[at] + 1, order[due] + 1)
+            moved.insert(due, moved.pop(at))
+            yield tuple(moved), "put line %d %s line %d" % (order[at] + 1, "above" if at > due else "below", order[due] + 1)
 
 
 class Search:
