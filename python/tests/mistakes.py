@@ -27,12 +27,13 @@ def samples_of(draw):
 
 
 def outcome(draw, word):
-    """What is said of a mistake whose cause has this word, or None; and the causes that are named."""
+    """What is said of a mistake whose cause has this word, or these with & between, or None; and the causes that are named."""
     samples = samples_of(draw)
     if not any(each.differs.any() for each in samples):
         return RIGHT, []
     found = causes.find(samples).causes
-    return (NONE if not found else NAMED if word and any(word in each for each in found) else WRONG), found
+    is_named = word and any(all(part in each for part in word.split(" & ")) for each in found)
+    return (NONE if not found else NAMED if is_named else WRONG), found
 
 
 def planted():

@@ -199,9 +199,9 @@ PLANTS: dict[str, tuple[str | None, Renderer]] = {
     "- within - forgotten": (None, Renderer(join={"-": lambda p, q: p & ~q | (p & q & (np.indices(p.shape)[-1] % 2 > 0))})),
     "slopes doubled": ("A and B of fronts twice as great", Renderer(plane=lambda a, b, c, x, y, k, s: 2 * a * x + 2 * b * y + c if k == "front" else a * x + b * y + c)),
     "x sampled mirrored in B": ("B of fronts and backs with the other sign", Renderer(plane=lambda a, b, c, x, y, k, s: a * x - b * y + c if k != "side" else a * x + b * y + c)),
-    "bottom up, and - ignored": ("the rows are from the bottom up, and - is taken for its left", Renderer(join={"-": "left"}, after=lambda d, f, s: (d[::-1], f[::-1]))),
-    "bottom up, and rounding down": ("the rows are from the bottom up, and values are rounded down", Renderer(cell=lambda v, s: v >> s.fraction, after=lambda d, f, s: (d[::-1], f[::-1]))),
-    "half a pixel, and rounding down": ("rounded down to cells before they are compared, and samples are +0.5", Renderer(plane=shifted_plane(.5, .5), cell=lambda v, s: np.floor(v / (1 << s.fraction)).astype(np.int64))),
+    "bottom up, and - ignored": ("the rows are from the bottom up & - is taken for its left", Renderer(join={"-": "left"}, after=lambda d, f, s: (d[::-1], f[::-1]))),
+    "bottom up, and rounding down": ("the rows are from the bottom up & values are rounded down", Renderer(cell=lambda v, s: v >> s.fraction, after=lambda d, f, s: (d[::-1], f[::-1]))),
+    "half a pixel, and rounding down": ("values are rounded down & samples are +0.5 columns and +0.5 rows", Renderer(plane=shifted_plane(.5, .5), cell=lambda v, s: np.floor(v / (1 << s.fraction)).astype(np.int64))),
     "half a pixel of depths alone": ("for fronts and backs alone", Renderer(plane=lambda a, b, c, x, y, k, s: a * (x + .5) + b * (y + .5) + c if k != "side" else a * x + b * y + c, cell=ceiled)),
     "first three bits of fraction of C alone": ("C of fronts and backs: only 3 fraction bits", Renderer(plane=lambda a, b, c, x, y, k, s: a * x + b * y + (
         c if k == "side" else c >> max(s.fraction - 3, 0) << max(s.fraction - 3, 0)))),

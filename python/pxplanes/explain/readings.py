@@ -80,6 +80,15 @@ class Judge(scenes.Reader):
             new.take(line)
         return new
 
+    def completed(self, lines: Lines) -> Any:
+        """The scene that the text is with the rest of its lines; None if it is none."""
+        try:
+            rest = self.after(lines)
+            scenes.pixel_memory(rest.scene)
+            return rest.scene if rest.step == 7 else None
+        except scenes.Refusal:
+            return None
+
 
 def meaning(scene: Any, named: bool = False) -> tuple[Any, ...]:
     """What a scene means: equal for two texts of one scene."""
@@ -227,6 +236,16 @@ def steps(order: tuple[int, ...], kinds: dict[int, str]) -> Iterator[tuple[tuple
             yield tuple(moved), "put line %d %s line %d" % (order[at] + 1, "above" if at > due else "below", order[due] + 1)
 
 
+def any_step(order: tuple[int, ...], kinds: dict[int, str]) -> Iterator[tuple[int, ...]]:
+    """The orders that come of one exchange of any two lines, or of one that is put anywhere else, at the first one out of order."""
+    for one in range(1 + (misplaced([kinds[place] for place in order]) or 0)):
+        for other in range(one + 1, len(order)):
+            before, between, after = order[:one], order[one + 1:other], order[other + 1:]
+            yield before + order[other:other + 1] + between + order[one:one + 1] + after
+            yield before + between + order[other:other + 1] + order[one:one + 1] + after
+            yield before + order[other:other + 1] + order[one:one + 1] + between + after
+
+
 class Search:
     """Finds the readings of one refused line."""
 
@@ -321,7 +340,9 @@ class Search:
         orders: dict[tuple[int, ...], str] = {tuple(self.statements): ""}
         if self.cause not in OF_ORDER or misplaced(list(kinds.values())) is None:
             return []
-        for _ in range(MOST_STEPS):
+        for at in range(MOST_STEPS):
+            if at and any(misplaced([kinds[place] for place in order]) is None for order in any_step(tuple(self.statements), kinds)):
+                return []       # one line may have come from several places
             orders = {new: "; ".join(filter(None, (told, more))) for order, told in orders.items() for new, more in steps(order, kinds)}
             found = [self.ordered(order, told) for order, told in orders.items() if misplaced([kinds[place] for place in order]) is None]
             if found:
@@ -349,20 +370,16 @@ class Search:
         wholes: dict[Any, Change] = {}
         parts: dict[Any, Change] = {}
         for change in changes:
-            stop = change.first + len(change.lines)
-            passed = max(stop, self.at + len(change.lines) - (change.end - change.first) + 1)
             new = change.applied(self.lines)
+            stop = change.first + len(change.lines)
+            if change.first != self.at or change.end > self.at + 1:
+                stop = min(len(new), max(stop, self.at + 1 + stop - change.end))
             try:
-                if change.first == self.at and change.end <= self.at + 1:
-                    state = self.before.after(list(change.lines))
-                else:
-                    state = Judge().after(new[:min(passed, len(new))])
+                state = self.before.after(new[self.at:stop]) if change.first == self.at else Judge().after(new[:stop])
             except scenes.Refusal:
                 continue
-            if first_mistake(new)[0] is None:
-                key, found = meaning(scenes.read(joined(new))), wholes
-            else:
-                key, found = meaning(state.scene, self.cause != "unknown-name"), parts
+            whole = state.completed(new[stop:])
+            key, found = (meaning(whole), wholes) if whole else (meaning(state.scene, self.cause != "unknown-name"), parts)
             if key not in found or change.is_safe and not found[key].is_safe:
                 found[key] = change
         return wholes, parts
