@@ -327,7 +327,6 @@ CAUSES = {
     "C of 24 bits without a sign": "24 bits without a sign",
     "gamma the other way": "from 0 to 65535 with a gamma of 1 / 2.2",
     # causes that were added when both tables had been tried
-    "six planes a solid": "the first 6 planes of a solid",
     "the cell of a back is inside": "solids end a cell later",
     "the last hit is kept": "the farthest surface",
     "the last column is at width": "the last is at the size of the picture",

@@ -808,7 +808,7 @@ def fitted(samples: Sequence[Sample]) -> Iterator[Cause]:
             np.isin(s.ours.faces, [n for _, k, n in rows_of(s.scene) if k == kind])]]
         gap = commonest(np.concatenate(gaps)) if sum(each.size for each in gaps) else 0.0
         if gap:
-            yield Cause("depths of %s are off by %g" % (word, gap), "off", write=on_kind(kind, gap), slack=1e-5 * abs(gap))
+            yield Cause("depths of %s are off by %g" % (word, gap), "off" if kind else "near", write=on_kind(kind, gap), slack=1e-5 * abs(gap))
     empty = [(theirs[s.ours.faces == 0], s.scene.far) for s, theirs in rows if (s.ours.faces == 0).any()]
     if empty:
         own = commonest(np.concatenate([theirs for theirs, _ in empty]))
