@@ -320,7 +320,7 @@ CAUSES = {
     "twelve solids": "the first 12 solids",
     "the last solid is lost": "the last solid is not drawn",
     "three sides a solid": "the first 3 sides",
-    "the first side is skipped": "all but the first 1 sides",
+    "the first side is skipped": "all sides but the first",
     "fronts by floor": "values of fronts are rounded down",
     "rows from 1": "moved by 0 columns and -1 rows",
     "x leftward, from width": "the columns are from the right, counted from 1",
