@@ -7,6 +7,7 @@ import numpy as np
 
 TOP = os.path.dirname(os.path.dirname(os.path.dirname(os.path.abspath(__file__))))
 sys.path[:0] = [os.path.join(TOP, "python")]
+import mistakes_later
 import renderer_by_events
 import renderer_by_products
 import renderer_by_rays
@@ -26,12 +27,13 @@ def samples_of(draw):
 
 
 def outcome(draw, word):
-    """What is said of a mistake whose cause has this word, or None; and the causes that are named."""
+    """What is said of a mistake whose cause has this word, or these with & between, or None; and the causes that are named."""
     samples = samples_of(draw)
-    if all(each.right.all() or not (each.state == verdict.WRONG).any() for each in samples):
+    if not any(each.differs.any() for each in samples):
         return RIGHT, []
     found = causes.find(samples).causes
-    return (NONE if not found else NAMED if word and any(word in each for each in found) else WRONG), found
+    is_named = word and any(all(part in each for part in word.split(" & ")) for each in found)
+    return (NONE if not found else NAMED if is_named else WRONG), found
 
 
 def planted():
@@ -44,6 +46,8 @@ def planted():
         for name, renderer in rows.items():
             word = renderer_by_rays.CAUSES.get(name)
             yield kind, name, word, lambda case, renderer=renderer: renderer.draw(case.text.decode())
+    for name, (word, renderer) in mistakes_later.LATER.items():
+        yield "later", name, word, lambda case, renderer=renderer: renderer.draw(case.text.decode())
 
 
 def main(words):

@@ -175,52 +175,52 @@ PLANTS: dict[str, tuple[str | None, Renderer]] = {
     "background 0": ("the background is 0", Renderer(after=lambda d, f, s: (np.where(f == 0, 0, d), f))),
     "gamma 2.2 to 255": ("from 0 to 255 with a gamma of 2.2", Renderer(after=lambda d, f, s: (np.rint(255 * (d / s.far) ** (1 / 2.2)), f))),
     "16 bits of depth": ("lowest 16 bits", Renderer(after=lambda d, f, s: (d % 65536, f))),
-    "only 3 fraction bits": ("keep 3 fraction", Renderer(plane=lambda a, b, c, x, y, k, s: (
+    "only 3 fraction bits": ("only 3 fraction bits", Renderer(plane=lambda a, b, c, x, y, k, s: (
         lambda n: (a >> n << n) * x + (b >> n << n) * y + (c >> n << n))(max(s.fraction - 3, 0) if k != "side" else 0))),
     "faces by solid": ("faces are the numbers of solids", Renderer(after=lambda d, f, s: (d, np.searchsorted([o.near for o in s.solids], f, "right")))),
     # -- what no cause is written for
     "float32, 1e-6 noise": (None, Renderer(real=True, after=noise(1e-6))),
     "float32, 1e-5 noise": (None, Renderer(real=True, after=noise(1e-5))),
     "whole depths, single ones + 1": (None, Renderer(after=depth(lambda d, s: d + (np.random.default_rng(3).random(d.shape) < .1)))),
-    "odd rows a column left": (None, Renderer(after=lambda d, f, s: (np.where(np.arange(s.height)[:, None] % 2, np.roll(d, -1, 1), d),
+    "odd rows a column left": ("odd rows are moved by 1 column to the left", Renderer(after=lambda d, f, s: (np.where(np.arange(s.height)[:, None] % 2, np.roll(d, -1, 1), d),
                                                                    np.where(np.arange(s.height)[:, None] % 2, np.roll(f, -1, 1), f)))),
-    "0.3 of a pixel": (None, Renderer(plane=shifted_plane(.3, 0), cell=ceiled)),
+    "0.3 of a pixel": ("samples are +0.3 columns and +0 rows aside", Renderer(plane=shifted_plane(.3, 0), cell=ceiled)),
     "side beyond 8 pixels strict": (None, Renderer(plane=lambda a, b, c, x, y, k, s: a * x + b * y + c - (k == "side" and c < -8))),
     "culled at the left edge": ("touch the left edge", Renderer(entry=near_cull)),
     "culled behind the middle": (None, Renderer(entry=depth_cull)),
-    "every third solid left out": (None, Renderer(solid=lambda o, at, s: hidden(o) if at % 3 == 2 else o)),
-    "the last solid left out": (None, Renderer(solid=lambda o, at, s: hidden(o) if at and at == len(s.solids) - 1 else o)),
-    "the last plane of a kind left out": (None, Renderer(solid=lambda o, at, s: Solid(o.near, o.fronts[:-1] or o.fronts, o.backs[:-1] or o.backs, o.sides))),
-    "negative A dropped": (None, Renderer(plane=lambda a, b, c, x, y, k, s: max(a, 0) * x + b * y + c if k == "front" else a * x + b * y + c)),
+    "every third solid left out": ("of each 3 solids number 3", Renderer(solid=lambda o, at, s: hidden(o) if at % 3 == 2 else o)),
+    "the last solid left out": ("unless it is the only one", Renderer(solid=lambda o, at, s: hidden(o) if at and at == len(s.solids) - 1 else o)),
+    "the last plane of a kind left out": ("all fronts and backs but the last, where there are more", Renderer(solid=lambda o, at, s: Solid(o.near, o.fronts[:-1] or o.fronts, o.backs[:-1] or o.backs, o.sides))),
+    "negative A dropped": ("A of fronts 0 for what is below 0", Renderer(plane=lambda a, b, c, x, y, k, s: max(a, 0) * x + b * y + c if k == "front" else a * x + b * y + c)),
     "depth 1 nearer on backs": (None, Renderer(after=None)),
-    "the right 4 columns missing": (None, Renderer(after=lambda d, f, s: (np.where(np.arange(s.width) >= s.width - 4, s.far, d),
+    "the right 4 columns missing": ("the last 4 columns", Renderer(after=lambda d, f, s: (np.where(np.arange(s.width) >= s.width - 4, s.far, d),
                                                                         np.where(np.arange(s.width) >= s.width - 4, 0, f)))),
-    "one cell thicker backs": (None, Renderer(entry=lambda f, e, h, s, at: (f, np.minimum(e + 1, s.far), h & (f < e)))),
+    "one cell thicker backs": ("solids end a cell later", Renderer(entry=lambda f, e, h, s, at: (f, np.minimum(e + 1, s.far), h & (f < e)))),
     "- within - forgotten": (None, Renderer(join={"-": lambda p, q: p & ~q | (p & q & (np.indices(p.shape)[-1] % 2 > 0))})),
-    "slopes doubled": (None, Renderer(plane=lambda a, b, c, x, y, k, s: 2 * a * x + 2 * b * y + c if k == "front" else a * x + b * y + c)),
-    "x sampled mirrored in B": (None, Renderer(plane=lambda a, b, c, x, y, k, s: a * x - b * y + c if k != "side" else a * x + b * y + c)),
-    "bottom up, and - ignored": (None, Renderer(join={"-": "left"}, after=lambda d, f, s: (d[::-1], f[::-1]))),
-    "bottom up, and rounding down": (None, Renderer(cell=lambda v, s: v >> s.fraction, after=lambda d, f, s: (d[::-1], f[::-1]))),
-    "half a pixel, and rounding down": (None, Renderer(plane=shifted_plane(.5, .5), cell=lambda v, s: np.floor(v / (1 << s.fraction)).astype(np.int64))),
-    "half a pixel of depths alone": (None, Renderer(plane=lambda a, b, c, x, y, k, s: a * (x + .5) + b * (y + .5) + c if k != "side" else a * x + b * y + c, cell=ceiled)),
-    "first three bits of fraction of C alone": (None, Renderer(plane=lambda a, b, c, x, y, k, s: a * x + b * y + (
+    "slopes doubled": ("A and B of fronts twice as great", Renderer(plane=lambda a, b, c, x, y, k, s: 2 * a * x + 2 * b * y + c if k == "front" else a * x + b * y + c)),
+    "x sampled mirrored in B": ("B of fronts and backs with the other sign", Renderer(plane=lambda a, b, c, x, y, k, s: a * x - b * y + c if k != "side" else a * x + b * y + c)),
+    "bottom up, and - ignored": ("the rows are from the bottom up & - is taken for its left", Renderer(join={"-": "left"}, after=lambda d, f, s: (d[::-1], f[::-1]))),
+    "bottom up, and rounding down": ("the rows are from the bottom up & values are rounded down", Renderer(cell=lambda v, s: v >> s.fraction, after=lambda d, f, s: (d[::-1], f[::-1]))),
+    "half a pixel, and rounding down": ("values are rounded down & samples are +0.5 columns and +0.5 rows", Renderer(plane=shifted_plane(.5, .5), cell=lambda v, s: np.floor(v / (1 << s.fraction)).astype(np.int64))),
+    "half a pixel of depths alone": ("for fronts and backs alone", Renderer(plane=lambda a, b, c, x, y, k, s: a * (x + .5) + b * (y + .5) + c if k != "side" else a * x + b * y + c, cell=ceiled)),
+    "first three bits of fraction of C alone": ("C of fronts and backs: only 3 fraction bits", Renderer(plane=lambda a, b, c, x, y, k, s: a * x + b * y + (
         c if k == "side" else c >> max(s.fraction - 3, 0) << max(s.fraction - 3, 0)))),
     "backs rounded down, fronts up": ("values of backs are rounded down", Renderer(plane=lambda a, b, c, x, y, k, s: (
         a * x + b * y + c if k != "back" else (a * x + b * y + c) >> s.fraction << s.fraction))),
-    "least 3 bits of depth lost": (None, Renderer(after=depth(lambda d, s: np.floor(d / 8) * 8))),
-    "deeper than 200 is background": (None, Renderer(after=lambda d, f, s: (np.where(d > 200 * s.far // 255, s.far, d), np.where(d > 200 * s.far // 255, 0, f)))),
-    "C of 20 bits": (None, Renderer(plane=lambda a, b, c, x, y, k, s: a * x + b * y + (c + 2**19) % 2**20 - 2**19)),
+    "least 3 bits of depth lost": ("the lowest 3 bits of depths", Renderer(after=depth(lambda d, s: np.floor(d / 8) * 8))),
+    "deeper than 200 is background": ("of far on are the background", Renderer(after=lambda d, f, s: (np.where(d > 200 * s.far // 255, s.far, d), np.where(d > 200 * s.far // 255, 0, f)))),
+    "C of 20 bits": ("is cut to 20 bits", Renderer(plane=lambda a, b, c, x, y, k, s: a * x + b * y + (c + 2**19) % 2**20 - 2**19)),
     "C ends at 2^31": ("at the limits of 32 bits", Renderer(plane=lambda a, b, c, x, y, k, s: a * x + b * y + max(-2**31, min(c, 2**31 - 1)))),
-    "11 solids": (None, Renderer(solid=lambda o, at, s: o if at < 11 else hidden(o))),
+    "11 solids": ("the first 11 solids", Renderer(solid=lambda o, at, s: o if at < 11 else hidden(o))),
     "7 planes, the last kept": ("only the last 1 fronts", Renderer(solid=lambda o, at, s: Solid(o.near, o.fronts[-1:], o.backs, o.sides))),
-    "solids in two lots, sides of the first": (None, Renderer(solid=lambda o, at, s: Solid(o.near, o.fronts, o.backs, s.solids[0].sides))),
+    "solids in two lots, sides of the first": ("sides of a solid are those of the first solid", Renderer(solid=lambda o, at, s: Solid(o.near, o.fronts, o.backs, s.solids[0].sides))),
     "* by the nearer front": (None, Renderer(after=lambda d, f, s: (d + (f % 7 == 3), f))),
     "face 0 of the last solid": (None, Renderer(after=lambda d, f, s: (d, np.where(f >= s.solids[-1].near, 0, f)))),
-    "faces mod 4": (None, Renderer(after=lambda d, f, s: (d, f % 4))),
+    "faces mod 4": ("faces are cut to 2 bits", Renderer(after=lambda d, f, s: (d, f % 4))),
     "real, 1.0005 times": ("1.0005 times", Renderer(real=True, after=depth(lambda d, s: d * 1.0005))),
     "real, the depth of a perspective": (None, Renderer(real=True, after=depth(lambda d, s: d / (1 + d / s.far)))),
     "whole, with a dither of 1": (None, Renderer(after=depth(lambda d, s: d + (np.indices(d.shape).sum(0) % 2)))),
-    "depth squared scale": (None, Renderer(after=depth(lambda d, s: d * d // s.far))),
+    "depth squared scale": ("a power of 2 ", Renderer(after=depth(lambda d, s: d * d // s.far))),
 }
 
 
@@ -230,7 +230,7 @@ def completed() -> dict[str, tuple[str | None, Renderer]]:
         numbers = {n for o in s.solids for _, n in o.backs}
         return np.where(np.isin(f, list(numbers)), d - 1, d), f
     out = dict(PLANTS)
-    out["depth 1 nearer on backs"] = (None, Renderer(after=backs))
+    out["depth 1 nearer on backs"] = ("depths of backs are off by -1", Renderer(after=backs))
     return out
 
 

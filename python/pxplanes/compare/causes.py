@@ -11,13 +11,15 @@ Why these thresholds (docs/COMPARE.md, "Causes", has the measurements):
 - Causes of one kind may be as good as one another ("the first 7 solids", "8"); they are named together, the best first."""
 from __future__ import annotations
 
-from dataclasses import dataclass, field, replace
-from typing import Callable, Iterator, Optional, Sequence
+import itertools
+import re
+from dataclasses import dataclass, field, fields, replace
+from typing import Any, Callable, Iterable, Iterator, Optional, Sequence
 
 import numpy as np
 
 from pxplanes.compare.picture import (
-    BEFORE, KINDS, RIGHT, Bools, Node, Picture, Plane, Reading, Reals, Scene, Solid, Whole, ends, grid,
+    BEFORE, KINDS, RIGHT, Bools, Node, Picture, Plane, Reading, Reals, Row, Scene, Solid, Whole, ends, grid,
     picture)
 from pxplanes.compare.verdict import FACES, Sample
 from pxplanes.scene.rays import folded
@@ -30,11 +32,22 @@ EXPLAINED = 0.9            # the least share of what differs that is explained; 
 MARGIN = 10                # every cause of another kind has so many times the errors, and PIXELS of them at least
 ASIDE = MARGIN * ERRORS    # a cause with more errors than this share is followed no further
 UNIT = 0.999               # less than a whole number
+NAMED = 4                  # so many of causes that are as good are listed
 PRODUCTS = 200             # so many products of an expression are looked at
+FEW, SOME = 8, 30          # in so many scenes, of so many pixels that differ in each, all causes are tried first, and
+ROUGH = 0.25               # those left out that have more errors than this share
+FIRST, OF_A_KIND = 8, 2    # so many causes, the best alone, may be one of two, and so many of a kind
+MADE = ("change", "how", "place", "write")
+NUMBERS, POWERS = (1, 2, 3, 4, 5, 6, 8, 10, 16), (1, 2, 4, 8, 16, 32)
+FIRST_SOLIDS = "only the first %d solids are drawn"
+FACE_KINDS = ("near faces", "fronts", "backs")
+AROUND = ((1, 0), (-1, 0), (0, 1), (0, -1), (1, 1), (-1, -1), (1, -1), (-1, 1))
 
 Change = Callable[[Scene], Scene]
 Place = Callable[[Whole, Whole, Scene], tuple[Whole, Whole]]
 Write = Callable[[Picture, Scene], Picture]
+Rows = Callable[[list[Row]], list[Row]]
+Term = Callable[[int, int], Any]      # a term of a plane changed, and the fraction bits
 
 
 @dataclass(frozen=True)
@@ -45,13 +58,32 @@ class Cause:
     said: str
     kind: str
     change: Optional[Change] = None
-    how: Reading = RIGHT
+    how: Callable[[Scene], Reading] | Reading = RIGHT
     place: Optional[Place] = None
     write: Optional[Write] = None
     slack: float = 0.0
     rounding: float = 0.0
     paint: Optional[Callable[[Whole], Whole]] = None     # what is shown in place of a face's colour
     real: Optional[bool] = None      # depths as real numbers, or as cells, whatever the maps have
+
+    def reading(self, scene: Scene) -> Reading:
+        return self.how(scene) if callable(self.how) else self.how
+
+    def and_also(self, other: Cause) -> Optional[Cause]:
+        """Both mistakes at once; None if they are of one kind, or about one thing."""
+        def both(one: Any, after: Any, join: Callable[[Any, Any], Any]) -> Any:
+            return join(one, after) if one and after else one or after
+        if self.kind == other.kind or self.real is not None and other.real is not None:
+            return None
+        return Cause(
+            "%s, and %s" % (self.said, other.said), "%s, and %s" % (self.kind, other.kind),
+            both(self.change, other.change, lambda one, after: lambda s: after(one(s))),
+            lambda s: merged(self.reading(s), other.reading(s)),
+            both(self.place, other.place, lambda one, after: lambda x, y, s: one(*after(x, y, s), s)),
+            both(self.write, other.write, lambda one, after: lambda shown, s: after(one(shown, s), s)),
+            self.slack + other.slack, self.rounding + other.rounding,
+            both(self.paint, other.paint, lambda one, after: lambda rgb: after(one(rgb))),
+            other.real if self.real is None else self.real)
 
     def fits(self, sample: Sample) -> tuple[Bools, Bools]:
         """Where theirs is as predicted, and where anything is predicted."""
@@ -61,10 +93,10 @@ class Cause:
         if self.place:
             x, y = self.place(x, y, scene)
             known = (x >= 0) & (x < scene.width) & (y >= 0) & (y < scene.height)
-        if scene is sample.scene and self.how == RIGHT and not self.place:
+        if scene is sample.scene and self.reading(scene) == RIGHT and not self.place:
             shown = sample.real if real else sample.cells
         else:
-            shown = picture(scene, replace(self.how, real=real), x, y)
+            shown = picture(scene, replace(self.reading(scene), real=real), x, y)
         if self.paint and sample.labels is not None:
             sample = replace(sample, labels=self.paint(sample.labels))
         depths, faces, off = self.predicted(sample, scene, shown, x, y)
@@ -87,6 +119,13 @@ class Cause:
         return written.depths, written.faces, off + slack
 
 
+def merged(one: Reading, other: Reading) -> Reading:
+    """A reading with the mistakes of both; where both have one, that of the other."""
+    own = {each.name: getattr(other, each.name) for each in fields(Reading)
+           if getattr(other, each.name) != getattr(RIGHT, each.name)}
+    return replace(one, **own)
+
+
 @dataclass(frozen=True)
 class Found:
     """The causes that were found, best first, or none: what they were tested with, and how much the best explains. In
@@ -105,8 +144,10 @@ class Found:
             return ["no cause found: these explain all %d pixels equally well: %s" % (self.differ, "; ".join(self.equals))]
         if not self.causes:
             return ["no cause found"]
+        names = together(self.causes)
+        names = names[:NAMED] + ["%d more of this kind" % (len(names) - NAMED)] * (len(names) > NAMED)
         return ["%s: %s; it explains %d of %d pixels that differ in %d scene%s, with %d error%s" % (
-            "cause" if self.is_sure else "possible cause", " or ".join(self.causes), self.explained, self.differ, self.scenes,
+            "cause" if self.is_sure else "possible cause", " or ".join(names), self.explained, self.differ, self.scenes,
             "s"[self.scenes == 1:], self.errors, "s"[self.errors == 1:])]
 
     @property
@@ -114,44 +155,78 @@ class Found:
         return bool(self.causes) and self.scenes >= SCENES
 
 
-def judged(cause: Cause, samples: Sequence[Sample], most: float) -> tuple[float, float]:
-    """Pixels explained, and errors: what is not explained, and what is contradicted. It ends where the errors are more
-    than `most`."""
-    explained = errors = 0.0
+def together(names: Sequence[str]) -> list[str]:
+    """Names of causes, in one those that differ in a number alone."""
+    groups: dict[tuple[str, ...], list[int]] = {}
+    for name in names:
+        parts = re.split(r"(\d+)", name)
+        own = next(((*parts[:at], "#", *parts[at + 1:]) for at in range(1, len(parts), 2) if (*parts[:at], "#", *parts[at + 1:]) in groups),
+                   (*parts[:-2], "#", *parts[-1:]) if len(parts) > 1 else (name,))
+        groups.setdefault(own, []).append(int(parts[own.index("#")]) if "#" in own else 0)
+    return ["".join(group).replace("#", " or ".join(map(str, sorted(numbers)))) for group, numbers in groups.items()]
+
+
+def judged(cause: Cause, samples: Sequence[Sample], most: float = np.inf) -> tuple[float, int]:
+    """The errors of a cause, what it does not explain and what it contradicts; and the pixels that it explains. It ends where the
+    errors are more than `most`."""
+    explained, errors = 0, 0.0
     for sample in samples:
         fits, known = cause.fits(sample)
-        explained += int((known & fits & ~sample.right).sum())
-        errors += int((known & ~fits & ~sample.right).sum()) + sample.weight * int((known & ~fits & sample.right).sum())
+        explained += int((known & fits & sample.differs).sum())
+        errors += int((known & ~fits & sample.differs).sum()) + sample.weight * int((known & ~fits & sample.right).sum())
         if errors > most:
             break
-    return explained, errors
+    return errors, explained
 
 
 def find(samples: Sequence[Sample]) -> Found:
     """The cause of all that differs, where there is one that the thresholds let be named."""
-    total = sum(int((~each.right).sum()) for each in samples)
-    where = sum(not each.right.all() for each in samples)
+    total = sum(int(each.differs.sum()) for each in samples)
+    where = sum(bool(each.differs.any()) for each in samples)
     if total == 0:
         return Found([], 0, 0, 0, 0)
-    order = sorted(samples, key=lambda each: len(each.scene.solids) * each.x.size)
-    rows = [(*judged(cause, order, ASIDE * total), cause) for cause in [*fixed(), *fitted(samples)]]
-    rows = sorted((row for row in rows if row[0] >= EXPLAINED * total), key=lambda row: row[1])
+    # Those scenes come first that show most in least time.
+    order = sorted(samples, key=lambda each: float(len(each.scene.solids) * each.x.size / (1 + each.differs.sum())))
+    few = sorted([each.some(SOME) for each in order if each.differs.any()][:FEW], key=lambda each: len(each.scene.solids))
+    found = chosen([*usual(), *rare(), *fitted(samples)], few, samples, order)
+    if found.causes or found.equals or where < SCENES or total < PIXELS:
+        return found
+    pairs = chosen(two_at_once([*usual(), *fitted(samples)], few), few, samples, order)
+    return pairs if pairs.causes else found
+
+
+def chosen(causes: Sequence[Cause], few: Sequence[Sample], samples: Sequence[Sample], order: Sequence[Sample]) -> Found:
+    """What of some causes is named. Some pixels of a few scenes leave most causes out."""
+    total, where = (sum(numbers) for numbers in zip(*((int(each.differs.sum()), bool(each.differs.any())) for each in samples)))
+    most = ROUGH * sum(int(each.differs.sum()) for each in few)
+    rows = [(*judged(cause, order, ASIDE * total), cause) for cause in causes if judged(cause, few, most)[0] <= most]
+    rows = sorted((row for row in rows if row[1] >= EXPLAINED * total), key=lambda row: row[0])
     if not rows:
         return Found([], total, where, 0, 0)
-    explained, errors, first = rows[0]
+    errors, explained, best = rows[0]
     close = min(max(MARGIN * errors, PIXELS), ASIDE * total)
-    alike = [cause for _, wrong, cause in rows if wrong < close] or [first]
+    alike = [cause for wrong, _, cause in rows if wrong < close] or [best]
     enough = total >= PIXELS and where >= SCENES or total >= ALONE and errors == 0 and pairs(samples) >= PAIRS
-    is_named = enough and errors <= ERRORS * total and all(cause.kind == first.kind for cause in alike)
-    equals = [cause.said for _, wrong, cause in rows if wrong == 0] if enough and not is_named else []
-    return Found([cause.said for cause in alike[:4]] if is_named else [], total, where, int(explained), int(errors), equals[:4])
+    is_named = enough and errors <= ERRORS * total and all(cause.kind == best.kind for cause in alike)
+    equals = {cause.kind: cause.said for wrong, _, cause in rows[::-1] if wrong == 0} if enough and not is_named else {}
+    return Found([cause.said for cause in alike] if is_named else [], total, where, explained, int(errors), list(equals.values())[::-1][:NAMED])
+
+
+def two_at_once(causes: Sequence[Cause], few: Sequence[Sample]) -> list[Cause]:
+    """The pairs of causes one of which alone explains most in a few scenes."""
+    first: list[Cause] = []
+    for cause in [causes[at] for at in np.argsort([judged(cause, few)[0] for cause in causes], kind="stable")]:
+        if len(first) < FIRST and sum(cause.kind == each.kind for each in first) < OF_A_KIND:
+            first.append(cause)
+    made = (one.and_also(other) for at, one in enumerate(first) for other in causes if other not in first[:at])
+    return [each for each in made if each]
 
 
 def pairs(samples: Sequence[Sample]) -> int:
     """How many different pairs of a depth and a face theirs has where it differs."""
     found: set[tuple[float, int]] = set()
     for each in samples:
-        at = ~each.right
+        at = each.differs
         depths = each.ours.depths if each.depths is None else each.depths
         found |= set(zip(depths[at].tolist(), (each.ours.faces if each.faces is None else each.faces)[at].tolist()))
     return len(found)
@@ -172,7 +247,8 @@ def sign_as(sign: str, other: str) -> Change:
     return lambda scene: replace(scene, show=folded(scene.show, alone, join)) if sign in scene.show else scene
 
 
-Products = list[tuple[frozenset[int], frozenset[int]]]
+Product = tuple[frozenset[int], frozenset[int]]
+Products = list[Product]
 Both = tuple[Products, Products]      # those of an expression, and of all that is outside of it
 
 
@@ -199,29 +275,36 @@ def products(show: list[Node]) -> Products:
     return folded(show, leaf, join)[0]
 
 
-def without_product(which: int) -> Change:
-    def change(scene: Scene) -> Scene:
+def on_products(change: Callable[[Products], Products]) -> Change:
+    """The sum of products changed; not if nothing is left of it."""
+    def of_scene(scene: Scene) -> Scene:
         found = products(scene.show)
-        if len(found) <= max(which, 1):
-            return scene
-        del found[which]
+        new = change(found)
         out: list[Node] = []
-        for at, (plain, barred) in enumerate(found):
+        for at, (plain, barred) in enumerate(new):
             own = sorted(plain)
             out += own[:1]
             for sign, numbers in (("*", own[1:]), ("-", sorted(barred))):
                 for number in numbers:
                     out += [number, sign]
             out += ["+"] if at else []
-        return replace(scene, show=out)
-    return change
+        return scene if new == found or not new else replace(scene, show=out)
+    return of_scene
 
 
-def unnested(scene: Scene) -> Scene:
-    """All signs from left to right, without parentheses."""
+def unnested(first: str = "", backwards: bool = False) -> Change:
+    """All signs from left to right, or from right to left, without parentheses; some bind first."""
     join: Callable[[str, list[Node], list[Node]], list[Node]] = lambda sign, left, right: left + [sign] + right
-    row = folded(scene.show, alone, join)
-    return replace(scene, show=row[:1] + [node for sign, at in zip(row[1::2], row[2::2]) for node in (at, sign)])
+
+    def change(scene: Scene) -> Scene:
+        row = folded(scene.show, alone, join)
+        if backwards:
+            return replace(scene, show=row[::2] + row[1::2][::-1])
+        out, held = row[:1], row[:0]
+        for sign, at in zip(row[1::2], row[2::2]):
+            out, held = (out + [at, sign], held) if sign in list(first) else (out + held + [at], [sign])
+        return replace(scene, show=out + held)
+    return change
 
 
 def with_sides(scene: Scene, sides: Sequence[list[Plane]]) -> Scene:
@@ -230,52 +313,64 @@ def with_sides(scene: Scene, sides: Sequence[list[Plane]]) -> Scene:
                                   for solid, own in zip(scene.solids, sides)]) if any(sides) else scene
 
 
-def hidden(scene: Scene, out: Sequence[bool]) -> Scene:
-    return with_sides(scene, [[(0, 0, -1)] * bool(each) for each in out])
+def hidden(out: Callable[[int, int], Any]) -> Change:
+    """Solids left out by their place, from 0, and the count of them all."""
+    return lambda scene: with_sides(scene, [[(0, 0, -1)] * bool(out(at, len(scene.solids))) for at in range(len(scene.solids))])
 
 
-def solids_at(part: slice) -> Change:
+def planes_at(part: Rows, kinds: Sequence[str] = KINDS) -> Change:
+    """Some of the planes of each kind of a solid."""
     def change(scene: Scene) -> Scene:
-        kept = range(len(scene.solids))[part]
-        return hidden(scene, [at not in kept for at in range(len(scene.solids))])
-    return change
-
-
-def planes_at(part: slice, kinds: Sequence[str] = KINDS) -> Change:
-    def change(scene: Scene) -> Scene:
-        new = [Solid(solid.near, *(solid.rows(kind)[part if kind in kinds else slice(None)] for kind in KINDS))
-               for solid in scene.solids]
+        new = [solid.with_rows(lambda rows, kind: part(rows) if kind in kinds else rows) for solid in scene.solids]
         return scene if new == scene.solids else replace(scene, solids=new)
     return change
 
 
-def only(side: Callable[[Scene], Plane]) -> Change:
-    """Only the pixels on one side of a line are drawn."""
-    return lambda scene: with_sides(scene, [[side(scene)]] * len(scene.solids))
+def first_planes(most: int) -> Change:
+    """The first planes of a solid in the order of the text."""
+    return lambda scene: replace(scene, solids=[
+        solid.with_rows(lambda rows, kind: rows[:solid.order[:most].count(kind)]) for solid in scene.solids])
 
 
-def short_boxes(scene: Scene) -> Scene:
-    """The last row and column of each solid are left out."""
-    x, y = grid(scene)
-    return with_sides(scene, [[(-1, 0, int(x[own].max()) - 1), (0, -1, int(y[own].max()) - 1)] if own.any() else []
-                              for own in ends(scene, RIGHT, x, y).has])
+def planes_of_others(others: Callable[[list[Solid], int], list[Solid]], kinds: Sequence[str]) -> Change:
+    """The planes of other solids in the place of a solid's own."""
+    return lambda scene: replace(scene, solids=[
+        solid.with_rows(lambda rows, kind: [row for each in others(scene.solids, at) for row in each.rows(kind)] if kind in kinds else rows)
+        for at, solid in enumerate(scene.solids)])
 
 
-def culled(edges: str) -> Change:
-    """Solids left out whole that touch an edge of the picture, or the eye, by the pixels there."""
+def only(sides: Callable[[Scene], list[Plane]]) -> Change:
+    """Only the pixels on one side of some lines are drawn."""
+    return lambda scene: with_sides(scene, [sides(scene)] * len(scene.solids))
+
+
+def short_boxes(edges: str) -> Change:
+    """Some of the outermost rows and columns of each solid are left out."""
     def change(scene: Scene) -> Scene:
-        across, down = np.arange(scene.width), np.arange(scene.height)
-        lines = {"left": (0 * down, down), "right": (0 * down + scene.width - 1, down), "top": (across, 0 * across),
-                 "bottom": (across, 0 * across + scene.height - 1), "eye": grid(scene)}
-        touch = np.zeros(len(scene.solids), bool)
-        for each in edges.split():
-            found = ends(scene, RIGHT, *lines[each])
-            touch |= (found.has & ((each != "eye") | (found.first <= 0))).any(1)
-        return hidden(scene, touch.tolist())
+        x, y = grid(scene)
+        return with_sides(scene, [[plane for edge, plane in {
+            "last column": (-1, 0, int(x[own].max()) - 1), "last row": (0, -1, int(y[own].max()) - 1),
+            "first column": (1, 0, -1 - int(x[own].min())), "first row": (0, 1, -1 - int(y[own].min()))}.items()
+            if edge in edges.split(" and the ")] if own.any() else [] for own in ends(scene, RIGHT, x, y).has])
     return change
 
 
-def on_planes(change: Callable[[int, int], int], terms: str = "abc", kinds: Sequence[str] = ("front", "back")) -> Change:
+def culled(edges: str) -> Change:
+    """Solids left out whole that touch an edge of the picture, the eye or the far limit, by the pixels there."""
+    def change(scene: Scene) -> Scene:
+        across, down = np.arange(scene.width), np.arange(scene.height)
+        lines = {"left": (0 * down, down), "right": (0 * down + scene.width - 1, down), "top": (across, 0 * across),
+                 "bottom": (across, 0 * across + scene.height - 1), "eye": grid(scene), "far": grid(scene)}
+        touch = np.zeros(len(scene.solids), bool)
+        for each in edges.split(" or "):
+            found = ends(scene, RIGHT, *lines[each])
+            is_there = found.first <= 0 if each == "eye" else found.end >= scene.far if each == "far" else found.has
+            touch |= (found.has & is_there).any(1)
+        return hidden(lambda at, _: bool(touch[at]))(scene)
+    return change
+
+
+def on_planes(change: Term, terms: str = "abc", kinds: Sequence[str] = ("front", "back")) -> Change:
     """Terms of planes changed; `change` gets the term and the fraction bits."""
     def of_scene(scene: Scene) -> Scene:
         def of_plane(plane: Plane, kind: str) -> Plane:
@@ -290,24 +385,34 @@ def exchanged(*kinds: str) -> Change:
     return lambda scene: scene.planes(lambda plane, own: (plane[1], plane[0], plane[2]) if own in kinds else plane)
 
 
-def wrapped(bits: int) -> Callable[[int, int], int]:
+def half_float(v: int, _: int) -> int:
+    return int(np.float16(v)) if abs(v) <= 65504 else v
+
+
+def wrapped(bits: int) -> Term:
     return lambda v, _: (v + (1 << bits - 1)) % (1 << bits) - (1 << bits - 1)
 
 
-def unsigned(bits: int) -> Callable[[int, int], int]:
+def unsigned(bits: int) -> Term:
     return lambda v, _: v % (1 << bits)
 
 
-def limited(bits: int) -> Callable[[int, int], int]:
+def limited(bits: int) -> Term:
     return lambda v, _: max(-1 << bits - 1, min(v, (1 << bits - 1) - 1))
 
 
-def dropped(keep: int) -> Callable[[int, int], int]:
+def dropped(keep: int) -> Term:
     return lambda v, fraction: v >> max(fraction - keep, 0) << max(fraction - keep, 0)
 
 
-def rounded(keep: int) -> Callable[[int, int], int]:
+def rounded(keep: int) -> Term:
     return lambda v, fraction: v if fraction <= keep else (v + (1 << fraction - keep - 1)) >> fraction - keep << fraction - keep
+
+
+def wider(more: float) -> Change:
+    """Sides so many pixels farther outside, along the greater of A and B."""
+    return lambda scene: scene.planes(lambda plane, kind: plane if kind != "side" else (
+        2 * plane[0], 2 * plane[1], 2 * plane[2] + int(2 * more) * max(abs(plane[0]), abs(plane[1]))))
 
 
 # ---- where a pixel's numbers come from
@@ -331,7 +436,7 @@ def swapped(size: int, numbers: Whole) -> Whole:
     return out
 
 
-def depths(value: Callable[[Reals, Scene], Reals], background: bool = True) -> Write:
+def depths(value: Callable[[Reals, Scene], Any], background: bool = True) -> Write:
     """Depths written otherwise, the background among them or not."""
     def write(shown: Picture, scene: Scene) -> Picture:
         new = value(shown.depths, scene)
@@ -339,25 +444,19 @@ def depths(value: Callable[[Reals, Scene], Reals], background: bool = True) -> W
     return write
 
 
-def by(function: Callable[[Reals], Reals]) -> Write:
+def by(function: Callable[[Reals], Any]) -> Write:
     return depths(lambda v, scene: function(v))
-
-
-def lowest(bits: int) -> Write:
-    return depths(lambda v, scene: v % (1 << bits))
-
-
-def ending_at(top: int) -> Write:
-    return by(lambda v: np.where(v > top, top, v))
-
-
-def turned_to(top: int) -> Write:
-    return depths(lambda v, scene: v if scene.far == top else top - top * v / scene.far)
 
 
 def behind(value: Callable[[Scene], float]) -> Write:
     """Another number for the background."""
     return lambda shown, scene: Picture(np.where(shown.faces == 0, value(scene), shown.depths), shown.faces)
+
+
+def unseen(out: Callable[[Reals, Scene], Bools]) -> Write:
+    """Some depths taken for the background."""
+    return lambda shown, scene: Picture(np.where(out(shown.depths, scene), scene.far, shown.depths),
+                                        np.where(out(shown.depths, scene), 0, shown.faces))
 
 
 def bytes_of_depths(size: int) -> Write:
@@ -375,11 +474,33 @@ def rows_of(scene: Scene) -> list[tuple[int, int, int]]:
         ([solid.near], [n for _, n in solid.fronts], [n for _, n in solid.backs])) for number in numbers]
 
 
-def renumbered(order: Callable[[list[tuple[int, int, int]]], dict[int, int]]) -> Write:
-    def write(shown: Picture, scene: Scene) -> Picture:
-        new = order(rows_of(scene))
-        return Picture(shown.depths, np.array([0] + [new.get(n, 0) for n in range(1, FACES)])[shown.faces])
-    return write
+def looked_up(new: dict[int, int], faces: Whole) -> Whole:
+    """New numbers of faces, 0 for those that have none."""
+    table = np.zeros(FACES, np.int64)
+    table[list(new)] = list(new.values())
+    found: Whole = np.where(faces < FACES, table[np.clip(faces, 0, FACES - 1)], 0)
+    return found
+
+
+def renumbered(order: Callable[[list[tuple[int, int, int]]], Any]) -> Write:
+    return lambda shown, scene: Picture(shown.depths, looked_up(order(rows_of(scene)), shown.faces))
+
+
+def with_sides_counted(shown: Picture, scene: Scene) -> Picture:
+    """Faces numbered as if sides had numbers too, in the order of the text."""
+    new: dict[int, int] = {}
+    before = 0
+    for solid in scene.solids:
+        own = [0] + [at for at, kind in enumerate(solid.order, 1) if kind != "side"]
+        new.update((solid.near + which, solid.near + before + at) for which, at in enumerate(own))
+        before += len(solid.sides)
+    return Picture(shown.depths, looked_up(new, shown.faces))
+
+
+def on_kind(kind: int, gap: float) -> Write:
+    """The depths of faces of a kind written that much greater."""
+    return lambda shown, scene: Picture(
+        shown.depths + gap * looked_up({n: 1 for _, k, n in rows_of(scene) if k == kind}, shown.faces), shown.faces)
 
 
 def from_0_to(top: float, gamma: float, more: int = 0) -> Write:
@@ -389,54 +510,68 @@ def from_0_to(top: float, gamma: float, more: int = 0) -> Write:
 
 # ---- the causes
 
-def fixed() -> Iterator[Cause]:
-    """The causes that have no number to be found."""
-    yield Cause("the rows are from the bottom up", "place", place=lambda x, y, s: (x, s.height - 1 - y))
-    yield Cause("the columns are from the right", "place", place=lambda x, y, s: (s.width - 1 - x, y))
-    yield Cause("rows and columns are turned about", "place", place=lambda x, y, s: (s.width - 1 - x, s.height - 1 - y))
-    yield Cause("the rows are from the bottom up, counted from 1", "place", place=lambda x, y, s: (x, s.height - y))
-    yield Cause("the columns are from the right, counted from 1", "place", place=lambda x, y, s: (s.width - x, y))
-    yield Cause("the data is transposed under a right header", "place", place=transposed)
-    for dx, dy in ((1, 0), (-1, 0), (0, 1), (0, -1), (1, 1), (-1, -1)):
-        yield Cause("the map is moved by %d columns and %d rows" % (dx, dy), "place", place=moved(dx, dy))
-        yield Cause("samples are %+.1f columns and %+.1f rows aside" % (dx / 2, dy / 2), "sample", how=Reading(dx, dy, 2))
+def family(said: str, kind: str, values: Iterable[Any], **made: Any) -> Iterator[Cause]:
+    """A cause for each value, or tuple of values, which is in its name; what else it has is the same or a function of these."""
+    for value in values:
+        own = value if isinstance(value, tuple) else (value,)
+        yield Cause(said % own[:said.count("%")], kind, **{name: make(*own) if name in MADE else make for name, make in made.items()})
+
+
+def tables(kind: str, what: str, rows: dict[str, Any], **more: Any) -> Iterator[Cause]:
+    """A cause for each name, by what it does."""
+    return (Cause(said, kind or said, **{what: how}, **more) for said, how in rows.items())
+
+
+def usual() -> Iterator[Cause]:
+    """The causes that have no number to be found, two of which may come together."""
+    yield from tables("place", "place", {
+        "the rows are from the bottom up": lambda x, y, s: (x, s.height - 1 - y),
+        "the columns are from the right": lambda x, y, s: (s.width - 1 - x, y),
+        "rows and columns are turned about": lambda x, y, s: (s.width - 1 - x, s.height - 1 - y),
+        "the rows are from the bottom up, counted from 1": lambda x, y, s: (x, s.height - y),
+        "the columns are from the right, counted from 1": lambda x, y, s: (s.width - x, y),
+        "the data is transposed under a right header": transposed})
+    yield from family("the map is moved by %d columns and %d rows", "place", AROUND, place=moved)
+    yield from aside((1, 2))
     yield from roundings()
-    yield from readings()
+    yield from tables("", "how", {
+        "sides are strict": Reading(strict_sides=True), "fronts are strict": Reading(fronts="next"),
+        "backs belong to their solid": Reading(ends="next"), "solids end a cell later": Reading(thick=1),
+        "nothing is cut off at the eye": Reading(near=BEFORE), "backs of cuts are left out": Reading(backs=False),
+        "the cell far - 1 is not drawn": Reading(far=-1), "the cell far is drawn": Reading(far=1),
+        "the highest face shows in a tie": Reading(highest=True), "the farthest surface shows": Reading(farthest=True)})
+    yield from tables("float32", "how", {"planes are in float32, (Ax + By) + C": Reading(single="abc"),
+                                         "planes are in float32, (C + Ax) + By": Reading(single="cab")})
+    yield Cause("the cell 0 is not drawn", "near", how=Reading(near=1))
     yield from signs()
-    yield from counted()
-    yield from constants()
+    for kind in KINDS:
+        yield Cause("%ss are left out" % kind, "no " + kind, planes_at(lambda rows: [], (kind,)))
+        yield Cause("A and B of %ss are exchanged" % kind, "turned " + kind, exchanged(kind))
+    yield Cause("x and y are exchanged", "turned", exchanged(*KINDS))
+    yield from family(FIRST_SOLIDS, "solids", POWERS, change=lambda most: hidden(lambda at, count: at >= most))
     yield from numbers_written()
     yield from painted()
 
 
+def aside(*parts: tuple[int, int], kinds: tuple[str, ...] = KINDS) -> Iterator[Cause]:
+    which = "" if kinds == KINDS else " for %ss alone" % "s and ".join(kinds)
+    for part, of in parts:
+        for dx, dy in AROUND:
+            yield Cause("samples are %+.3g columns and %+.3g rows aside%s" % (dx * part / of, dy * part / of, which), "sample",
+                        how=Reading(dx * part, dy * part, of, kinds=kinds))
+
+
 def roundings() -> Iterator[Cause]:
-    for rounds in ("down", "half_up", "half_down", "half_even"):
-        for said, how in (("values", Reading(fronts=rounds, ends=rounds)), ("values of fronts", Reading(fronts=rounds)),
-                          ("values of backs", Reading(ends=rounds))):
-            yield Cause("%s are rounded %s to cells before they are compared" % (said, rounds.replace("_", " ")),
-                        "round", how=how, real=False)
+    ways = ("down", "half up", "half down", "half even")
+    said = " are rounded %s to cells before they are compared"
+    yield from family("values" + said, "round", ways, how=lambda way: Reading(fronts=way, ends=way), real=False)
+    yield from family("values of fronts" + said, "round", ways, how=lambda way: Reading(fronts=way), real=False)
+    yield from family("values of backs" + said, "round", ways, how=lambda way: Reading(ends=way), real=False)
     yield Cause("surfaces show at the next cell", "off", how=Reading(fronts="next", ends="next"), real=False)
-    ways: list[tuple[str, Callable[[Reals], Reals]]] = [("down", np.floor), ("to the nearest, halves to even", np.rint),
-                                                        ("to the nearest, halves up", lambda v: (v + 0.5) // 1)]
-    for said, rounding in ways:
-        yield Cause("depths are rounded %s at the end" % said, "round", write=by(rounding), real=True)
-    yield Cause("there are no cells: what passes between two depths is drawn", "round", write=by(np.ceil), real=True)
-
-
-def readings() -> Iterator[Cause]:
-    for said, how in (("sides are strict", Reading(strict_sides=True)), ("fronts are strict", Reading(fronts="next")),
-                      ("backs belong to their solid", Reading(ends="next")),
-                      ("solids end a cell later", Reading(ends="later")),
-                      ("nothing is cut off at the eye", Reading(near=BEFORE)),
-                      ("the cell 0 is not drawn", Reading(near=1)),
-                      ("values of planes are cut to 32 bits", Reading(bits=32)),
-                      ("values of planes are cut to 16 bits", Reading(bits=16)),
-                      ("the cell far - 1 is not drawn", Reading(far=-1)), ("the cell far is drawn", Reading(far=1)),
-                      ("backs of cuts are left out", Reading(backs=False)),
-                      ("the highest face shows in a tie", Reading(highest=True)),
-                      ("planes are in float32, (Ax + By) + C", Reading(single="abc")),
-                      ("planes are in float32, (C + Ax) + By", Reading(single="cab"))):
-        yield Cause(said, "float32" if how.single else said, how=how)
+    yield from tables("round", "write", {
+        "depths are rounded down at the end": by(np.floor), "depths are rounded to the nearest, halves to even at the end": by(np.rint),
+        "depths are rounded to the nearest, halves up at the end": by(lambda v: (v + 0.5) // 1),
+        "there are no cells: what passes between two depths is drawn": by(np.ceil)}, real=True)
 
 
 def signs() -> Iterator[Cause]:
@@ -444,60 +579,147 @@ def signs() -> Iterator[Cause]:
     for sign in "+-*^":
         for other in [*"+-*^".replace(sign, ""), "left", "right"] + ["turned"] * (sign == "-"):
             yield Cause("%s is taken for %s" % (sign, sides.get(other, other)), "sign " + sign, sign_as(sign, other))
-    yield Cause("signs are taken from left to right, without parentheses", "nesting", unnested)
-    for which, said in ((0, "first"), (-1, "last"), (1, "second")):
-        yield Cause("the %s product is left out" % said, "product", without_product(which))
+    yield Cause("signs are taken from left to right, without parentheses", "nesting", unnested())
+    yield Cause("signs are taken from right to left, without parentheses", "nesting", unnested(backwards=True))
+    yield from family("signs are taken without parentheses, %s first", "nesting", ("*", "-", "*-", "+", "^"), change=unnested)
+    yield from tables("product", "change", {
+        "the first product is left out": on_products(lambda found: found[1:]),
+        "the second product is left out": on_products(lambda found: found[:1] + found[2:]),
+        "the last product is left out": on_products(lambda found: found[:-1]),
+        "only the first product is drawn": on_products(lambda found: found[:1]),
+        "only the last product is drawn": on_products(lambda found: found[-1:]),
+        "of each product only one solid is cut, the first": on_products(lambda found: [(own, frozenset(sorted(out)[:1])) for own, out in found]),
+        "of each product only one solid is cut, the last": on_products(lambda found: [(own, frozenset(sorted(out)[-1:])) for own, out in found])})
+
+
+def rare() -> Iterator[Cause]:
+    """Causes that come alone."""
+    yield from places()
+    yield from frames()
+    yield from counted()
+    yield from planes_counted()
+    yield from terms()
+    yield from family("the first %d cells are not drawn", "near", NUMBERS[1:], how=lambda most: Reading(near=most))
+    yield from family("the last %d cells are not drawn", "far", NUMBERS[1:], how=lambda most: Reading(far=-most))
+    yield from family("values of planes are cut to %d bits", "bits of values", range(8, 48), how=lambda bits: Reading(bits=bits))
+    yield from family("the lowest %d bits of depths are 0", "steps", range(1, 13), write=lambda bits: by(lambda v: v // 2 ** bits * 2 ** bits))
+    yield from family("the lowest %d bits of depths of faces are 0", "steps", range(1, 13),
+                      write=lambda bits: depths(lambda v, s: v // 2 ** bits * 2 ** bits, False))
+    yield from family("faces are cut to %d bits", "faces", range(1, 13),
+                      write=lambda bits: renumbered(lambda rows: {n: n % 2 ** bits for _, _, n in rows}))
+
+
+def places() -> Iterator[Cause]:
+    yield from aside((1, 4), (1, 3), (3, 10), (1, 8), (1, 10), (1, 5), (2, 5), (3, 4), (1, 16))
+    for kinds in (KINDS[:2], *((kind,) for kind in KINDS)):
+        yield from aside((1, 2), (1, 1), kinds=kinds)
+    axes = [("columns", 1, 0), ("rows", 0, 1), ("columns and rows", 1, 1)]
+    yield from family("samples of %s are apart so that the last is at the size of the picture", "stretch", axes, how=lambda _, x, y: lambda s: Reading(
+        grid=(s.width - 1) * (s.height - 1), wide=x * (s.height - 1), high=y * (s.width - 1)))
+    yield from family("samples of %s are apart so that all are one less", "stretch", axes, how=lambda _, x, y: lambda s: Reading(
+        grid=s.width * s.height, wide=-x * s.height, high=-y * s.width))
+    yield from tables("place", "place", {
+        "every second row repeats the one before": lambda x, y, s: (x, y - y % 2),
+        "every second column repeats the one before": lambda x, y, s: (x - x % 2, y),
+        "every second row and column repeats the one before": lambda x, y, s: (x - x % 2, y - y % 2),
+        "odd rows are moved by 1 column to the left": lambda x, y, s: (x + y % 2, y),
+        "odd rows are moved by 1 column to the right": lambda x, y, s: (x - y % 2, y),
+        "the left and the right half are exchanged": lambda x, y, s: ((x + s.width // 2) % s.width, y),
+        "the upper and the lower half are exchanged": lambda x, y, s: (x, (y + s.height // 2) % s.height),
+        "the quarters are exchanged across": lambda x, y, s: ((x + s.width // 2) % s.width, (y + s.height // 2) % s.height),
+        "each two rows are exchanged": lambda x, y, s: (x, y ^ 1), "each two columns are exchanged": lambda x, y, s: (x ^ 1, y)})
+    yield from family("the map is moved by %d columns and %d rows", "place", ((n * dx, n * dy) for dx, dy in AROUND for n in (2, 3, 4)), place=moved)
+
+
+EDGES: dict[str, Callable[[Scene, int], Plane]] = {
+    "last row": lambda s, n: (0, -1, s.height - 1 - n), "last column": lambda s, n: (-1, 0, s.width - 1 - n),
+    "first row": lambda s, n: (0, 1, -n), "first column": lambda s, n: (1, 0, -n)}
+
+
+def frames() -> Iterator[Cause]:
+    for names in (*((each,) for each in EDGES), *itertools.combinations(EDGES, 2), tuple(EDGES)):
+        for most in NUMBERS:
+            yield Cause("not drawn of the picture: %s" % " and ".join(edge_said(each, most) for each in names), "frame", framed(names, most))
+        yield Cause("left out of each solid: the %s" % " and the ".join(names), "box", short_boxes(" and the ".join(names)))
+
+
+def framed(names: Sequence[str], most: int) -> Change:
+    return only(lambda scene: [EDGES[each](scene, most) for each in names])
+
+
+def edge_said(name: str, most: int) -> str:
+    which, what = name.split()
+    return "the %s" % name if most == 1 else "the %s %d %ss" % (which, most, what)
 
 
 def counted() -> Iterator[Cause]:
-    for most in (1, 2, 3, 4, 5, 6, 7, 8, 10, 12, 16, 24, 32, 64, 128):
-        yield Cause("only the first %d solids are drawn" % most, "solids", solids_at(slice(most)))
-    yield Cause("the first solid is not drawn", "solids", solids_at(slice(1, None)))
-    yield Cause("the last solid is not drawn", "solids", solids_at(slice(-1)))
-    parts = [("only the first %d" % most, slice(most)) for most in (1, 2, 3, 4, 5, 6, 8, 16)] + [
-        ("only the last 1", slice(-1, None)), ("all but the last 1", slice(-1)),
-        ("all but the first 1", slice(1, None))]
-    for kinds, word in ((KINDS, "planes of a kind"), *(((kind,), kind + "s of a solid") for kind in KINDS)):
-        for said, part in parts:
-            yield Cause("%s %s are taken" % (said, word), "planes", planes_at(part, kinds))
-    for kind in KINDS:
-        yield Cause("%ss are left out" % kind, "no " + kind, planes_at(slice(0), (kind,)))
-        yield Cause("A and B of %ss are exchanged" % kind, "turned " + kind, exchanged(kind))
-    yield Cause("x and y are exchanged", "turned", exchanged(*KINDS))
+    yield from family(FIRST_SOLIDS, "solids", (n for n in range(3, 129) if n not in POWERS), change=lambda most: hidden(lambda at, count: at >= most))
+    yield from family("only the last %d solids are drawn", "solids", range(1, 12), change=lambda most: hidden(lambda at, count: at < count - most))
+    yield from family("solid %d is not drawn", "solid", range(1, 12), change=lambda own: hidden(lambda at, count: at == own - 1))
+    yield from family("of each %d solids number %d is not drawn", "solids", ((n, k + 1) for n in (2, 3, 4) for k in range(n)),
+                      change=lambda n, own: hidden(lambda at, count: at % n == own - 1))
+    yield from tables("solid", "change", {
+        "the last solid is not drawn": hidden(lambda at, count: at == count - 1),
+        "the last solid is not drawn, unless it is the only one": hidden(lambda at, count: 0 < at == count - 1)})
+    yield from family("solids that touch the %s edge of the picture are left out", "cull", (
+        "left", "right", "top", "bottom", "left or right", "top or bottom", "left or right or top or bottom"), change=culled)
     yield Cause("solids that begin at the eye are left out", "cull", culled("eye"))
-    yield Cause("the last row and column of each solid are left out", "box", short_boxes)
-    lines: list[tuple[str, Callable[[Scene], Plane]]] = [
-        ("last row", lambda s: (0, -1, s.height - 2)), ("last column", lambda s: (-1, 0, s.width - 2)),
-        ("first row", lambda s: (0, 1, -1)), ("first column", lambda s: (1, 0, -1))]
-    for said, side in lines:
-        yield Cause("the %s of the picture is not drawn" % said, "frame", only(side))
-    for edges in ("left", "right", "top", "bottom", "left right", "top bottom", "left right top bottom"):
-        yield Cause("solids that touch the %s edge of the picture are left out" % edges.replace(" ", " or "), "cull", culled(edges))
+    yield Cause("solids that reach the far limit are left out", "cull", culled("far"))
 
 
-def constants() -> Iterator[Cause]:
-    for bits in (32, 24, 16):
-        yield Cause("C of fronts and backs is cut to %d bits" % bits, "bits", on_planes(wrapped(bits), "c"))
-        yield Cause("C of all planes is cut to %d bits" % bits, "bits", on_planes(wrapped(bits), "c", KINDS))
-        yield Cause("A, B and C are cut to %d bits" % bits, "bits", on_planes(wrapped(bits), "abc", KINDS))
-        yield Cause("C is read as %d bits without a sign" % bits, "bits", on_planes(unsigned(bits), "c", KINDS))
-        yield Cause("C ends at the limits of %d bits" % bits, "bits", on_planes(limited(bits), "c", KINDS))
-    changes: list[tuple[str, Callable[[int, int], int]]] = [
-        ("%s is left out", lambda v, _: 0), ("minus signs of %s are lost", lambda v, _: abs(v)),
-        ("%s has the other sign", lambda v, _: -v)]
-    for term in "abc":
-        for said, change in changes:
-            yield Cause(said % term.upper(), "terms", on_planes(change, term, KINDS))
-    for keep in (0, 1, 2, 3):
-        yield Cause("coefficients keep %d fraction bits, the rest is dropped" % keep, "fraction", on_planes(dropped(keep)))
-        yield Cause("coefficients are rounded to %d fraction bits" % keep, "fraction", on_planes(rounded(keep)))
+def planes_counted() -> Iterator[Cause]:
+    parts: dict[str, Rows] = {
+        "all %s but the last": lambda rows: rows[:-1], "all %s but the first": lambda rows: rows[1:],
+        "all %s but the second": lambda rows: rows[:1] + rows[2:], "every second one of %s": lambda rows: rows[::2],
+        "all %s but the last, where there are more,": lambda rows: rows[:-1] or rows,
+        "all %s but the first, where there are more,": lambda rows: rows[1:] or rows}
+    others: dict[str, Callable[[list[Solid], int], list[Solid]]] = {
+        "those of the first solid": lambda solids, at: solids[:1], "those of the last solid": lambda solids, at: solids[-1:],
+        "those of the solid before": lambda solids, at: solids[max(at - 1, 0):][:1],
+        "those of all solids before, too": lambda solids, at: solids[:at + 1],
+        "those of the solid before, too": lambda solids, at: solids[max(at - 1, 0):at + 1]}
+    for kinds, word in ((KINDS, "planes of a kind"), (KINDS[:2], "fronts and backs"), *(((kind,), kind + "s") for kind in KINDS)):
+        yield from tables("planes", "change", {said % word + " of a solid are taken": planes_at(part, kinds) for said, part in parts.items()})
+        yield from family("only the first %%d %s of a solid are taken" % word, "planes", range(1, 17),
+                          change=lambda most, kinds=kinds: planes_at(lambda rows: rows[:most], kinds))
+        yield from family("only the last %%d %s of a solid are taken" % word, "planes", (1, 2),
+                          change=lambda most, kinds=kinds: planes_at(lambda rows: rows[-most:], kinds))
+        yield from tables("others", "change", {"%s of a solid are %s" % (word, said): planes_of_others(which, kinds) for said, which in others.items()})
+    yield from family("only the first %d planes of a solid are taken, in the order of the text", "planes", range(1, 33), change=first_planes)
+
+
+def terms() -> Iterator[Cause]:
+    changes: dict[str, tuple[Term, str]] = {
+        "left out": (lambda v, _: 0, "a b c ab"), "without minus signs": (lambda v, _: abs(v), "a b c ab"),
+        "with the other sign": (lambda v, _: -v, "a b c ab abc"), "0 for what is below 0": (lambda v, _: max(v, 0), "a b c ab"),
+        "0 for what is above 0": (lambda v, _: min(v, 0), "a b c ab"), "twice as great": (lambda v, _: 2 * v, "a b c ab"),
+        "halved": (lambda v, _: v // 2, "a b c ab"), "as half floats": (half_float, "a b c ab abc")}
+    for kinds, word in ((KINDS, "planes"), (KINDS[:2], "fronts and backs"), *(((kind,), kind + "s") for kind in KINDS)):
+        for said, (change, owns) in changes.items():
+            for own in owns.split():
+                yield Cause("%s of %s %s" % (" and ".join(own.upper()), word, said), "terms", on_planes(change, own, kinds))
+    yield from family("C of fronts and backs is %+d", "off", (-2, -1, 1, 2), change=lambda more: on_planes(lambda v, _: v + more, "c"))
+    # C - 1 of sides is the same as strict sides.
+    yield from family("C of sides is %+d", "outline", (-2, 1, 2), change=lambda more: on_planes(lambda v, _: v + more, "c", ("side",)))
+    yield from family("sides are %+g pixels farther outside", "outline", (-1, -0.5, 0.5, 1), change=wider)
+    for own, word in (("abc", "coefficients"), ("c", "C of fronts and backs"), ("ab", "A and B of fronts and backs")):
+        yield from family(word + ": only %d fraction bits, the rest is dropped", "fraction", range(8),
+                          change=lambda keep, own=own: on_planes(dropped(keep), own))
+        yield from family(word + ": rounded to %d fraction bits", "fraction", range(8), change=lambda keep, own=own: on_planes(rounded(keep), own))
     yield Cause("fraction bits are taken for cells", "fraction", lambda s: replace(s, fraction=0) if s.fraction else s)
+    for word, own, kinds in (("C of fronts and backs", "c", KINDS[:2]), ("C of all planes", "c", KINDS), ("each of A, B and C", "abc", KINDS)):
+        for said, to in (("is cut to %d bits", wrapped), ("is read as %d bits without a sign", unsigned), ("ends at the limits of %d bits", limited)):
+            yield from family("%s %s" % (word, said), "bits", range(8, 41), change=lambda bits, to=to, own=own, kinds=kinds: on_planes(
+                to(bits), own, kinds))
+
+
+def without_kind(own: int) -> Callable[[list[tuple[int, int, int]]], Any]:
+    return lambda rows: {n: n for _, k, n in rows if k != own}
 
 
 def numbers_written() -> Iterator[Cause]:
-    for size in (2, 3):
-        yield Cause("the %d bytes of both maps are lowest first" % size, "bytes", write=bytes_of_both(size))
-        yield Cause("the %d bytes of depths are lowest first" % size, "bytes", write=bytes_of_depths(size))
+    yield from family("the %d bytes of both maps are lowest first", "bytes", (2, 3), write=bytes_of_both)
+    yield from family("the %d bytes of depths are lowest first", "bytes", (2, 3), write=bytes_of_depths)
     for top in (255, 65535, (1 << 24) - 1, 1):
         for said, gamma in (("", 1.0), (" with a gamma of 2.2", 1 / 2.2), (" with a gamma of 1 / 2.2", 2.2)):
             yield Cause("depths are from 0 to %d%s" % (top, said), "scale", write=from_0_to(top, gamma), slack=1e-6,
@@ -508,24 +730,30 @@ def numbers_written() -> Iterator[Cause]:
                     rounding=UNIT * (top > 1), real=real)
     yield Cause("near and far are exchanged", "turned", write=depths(lambda v, s: s.far - v))
     yield Cause("near and far are exchanged, cells counted from far - 1", "turned", write=depths(lambda v, s: s.far - 1 - v, False))
-    for top in (255, 65535):
-        yield Cause("near and far are exchanged, from 0 to %d" % top, "turned", rounding=UNIT, write=turned_to(top))
-    for bits in (8, 16):
-        yield Cause("depths keep the lowest %d bits" % bits, "lowest", write=lowest(bits))
-        yield Cause("depths end at %d" % ((1 << bits) - 1), "ends", write=ending_at((1 << bits) - 1))
+    yield from family("near and far are exchanged, from 0 to %d", "turned", (255, 65535), rounding=UNIT, write=lambda top: depths(
+        lambda v, s: v if s.far == top else top - top * v / s.far))
+    yield from family("depths keep the lowest %d bits", "lowest", (8, 12, 16), write=lambda bits: by(lambda v: v % 2 ** bits))
+    yield from family("depths keep the highest %d bits", "scale", (8, 12, 16), write=lambda bits: depths(lambda v, s: v // 2 ** max(s.bits - bits, 0)))
+    yield from family("depths end at %d", "ends", (255, 4095, 65535), write=lambda top: by(lambda v: np.minimum(v, top)))
     yield Cause("depths are in parts of a cell", "parts", real=True, write=depths(
         lambda v, s: (v * (1 << s.fraction)).round(), False))
     yield Cause("depths are half floats", "half floats", write=by(
         lambda v: np.where(v > 65504, 65504, v).astype(np.float16).astype(np.float64)))
-    for said, order in (("faces are counted from 0", lambda rows: {n: n - 1 for _, _, n in rows}),
-                        ("faces are the numbers of solids", lambda rows: {n: at for at, _, n in rows}),
-                        ("faces are counted from 1 in each solid", lambda rows: {
-                            n: 1 + sum(at == own and m < n for at, _, m in rows) for own, _, n in rows}),
-                        ("faces are cut to 8 bits", lambda rows: {n: n % 256 for _, _, n in rows}),
-                        ("near faces have no number", lambda rows: {n: i for i, n in enumerate(sorted(n for _, k, n in rows if k), 1)}),
-                        ("faces are numbered by kind", lambda rows: {
-                            n: i for i, (_, n) in enumerate(sorted((k, n) for _, k, n in rows), 1)})):
-        yield Cause(said, "faces", write=renumbered(order))
+    orders: dict[str, Callable[[list[tuple[int, int, int]]], Any]] = {
+        "faces are counted from 0": lambda rows: {n: n - 1 for _, _, n in rows},
+        "faces are counted from 2": lambda rows: {n: n + 1 for _, _, n in rows},
+        "faces are counted from the last one": lambda rows: {n: len(rows) + 1 - n for _, _, n in rows},
+        "faces are the numbers of solids": lambda rows: {n: at for at, _, n in rows},
+        "faces are the numbers of solids, from 0": lambda rows: {n: at - 1 for at, _, n in rows},
+        "faces are kinds: 1 near, 2 front, 3 back": lambda rows: {n: 1 + kind for _, kind, n in rows},
+        "faces are counted from 1 in each solid": lambda rows: {n: 1 + sum(at == own and m < n for at, _, m in rows) for own, _, n in rows},
+        "near faces have no number": lambda rows: {n: i for i, n in enumerate(sorted(n for _, k, n in rows if k), 1)},
+        "backs have the face of their solid": lambda rows: {
+            n: n if kind != 2 else next(m for own, k, m in rows if own == at and k == 0) for at, kind, n in rows},
+        "faces are numbered by kind": lambda rows: {n: i for i, (_, n) in enumerate(sorted((k, n) for _, k, n in rows), 1)},
+        **{"%s are face 0" % word: without_kind(own) for own, word in enumerate(FACE_KINDS)}}
+    yield from tables("faces", "write", {said: renumbered(order) for said, order in orders.items()})
+    yield Cause("sides have face numbers too", "faces", write=with_sides_counted)
 
 
 def painted() -> Iterator[Cause]:
@@ -549,18 +777,38 @@ def bent(gamma: float) -> Callable[[Whole], Whole]:
 def fitted(samples: Sequence[Sample]) -> Iterator[Cause]:
     """The causes with one number, which the maps give: the same in all scenes."""
     rows = [(each, each.depths) for each in samples if each.depths is not None]
-    shown = [(theirs[s.ours.faces > 0], s.ours.depths[s.ours.faces > 0]) for s, theirs in rows if s.scene.bits <= 16]
-    if sum(theirs.size for theirs, _ in shown):
-        theirs, ours = (np.concatenate(each) for each in zip(*shown))
-        gap = float("%.5g" % np.median(theirs - ours))
-        for also, word in ((False, ""), (True, ", the background too")) if gap else ():
-            yield Cause("depths are off by %g%s" % (gap, word), "off", write=depths(lambda v, s: v + gap, also),
-                        slack=1e-5 * abs(gap))
-        times = float("%.9g" % np.median(theirs[ours > 0] / ours[ours > 0])) if (ours > 0).any() else 0
-        rounding = UNIT if times != round(times) else 0.0
-        for also, word in ((False, ""), (True, ", the background too")) if times not in (0, 1) else ():
-            yield Cause("depths are %g times as great%s" % (times, word), "scale", rounding=rounding,
-                        write=depths(lambda v, s: v * times, also))
+    shown = [(s, s.ours.faces > 0, theirs) for s, theirs in rows if s.scene.bits <= 16]
+    if any(there.any() for _, there, _ in shown):
+        theirs, ours = (np.concatenate(each) for each in zip(*((own[there], s.ours.depths[there]) for s, there, own in shown)))
+        for real in (None, False):
+            base = ours if real is None else np.concatenate([s.cells.depths[there] for s, there, _ in shown])
+            gap = float("%.5g" % np.median(theirs - base))
+            for also, word in ((False, ""), (True, ", the background too")) if gap else ():
+                yield Cause("depths are off by %g%s%s" % (gap, word, ", from whole cells" * (real is False)), "off",
+                            write=added(gap, also), slack=1e-5 * abs(gap), real=real)
+        yield from scaled(theirs[ours > 0], ours[ours > 0])
+        far = np.concatenate([np.full(int(there.sum()), s.scene.far) for s, there, _ in shown])
+        inner = (ours > 0) & (ours < far) & (theirs > 0) & (theirs < far)
+        power = float(np.median(np.log(theirs[inner] / far[inner]) / np.log(ours[inner] / far[inner]))) if inner.any() else 1.0
+        for power in {float("%.3g" % power), round(2 * power) / 2} - {0.0, 1.0}:
+            yield Cause("depths are bent by a power of %g of their share of far" % power, "scale", rounding=UNIT, slack=1e-6,
+                        write=bent_by(power))
+        ends_at, begins_at = float(theirs.max()), float(theirs.min())
+        yield Cause("depths end at %g" % ends_at, "ends", write=depths(lambda v, s: np.minimum(v, ends_at), False))
+        yield Cause("depths begin at %g" % begins_at, "near", write=by(lambda v: np.maximum(v, begins_at)))
+        gone = (theirs == far) & (ours < far)
+        if gone.any():
+            least, share = float(ours[gone].min()), float((ours[gone] / far[gone]).min())
+            yield Cause("depths from %g on are the background" % least, "range", write=unseen(lambda v, s: v >= least))
+            yield Cause("depths from %.4g of far on are the background" % share, "range", write=unseen(lambda v, s: v / s.far >= share))
+            most = float(ours[gone].max())
+            yield Cause("depths up to %g are the background" % most, "range", write=unseen(lambda v, s: v <= most))
+    for kind, word in enumerate(FACE_KINDS):
+        gaps = [theirs[at] - s.ours.depths[at] for s, theirs in rows for at in [
+            np.isin(s.ours.faces, [n for _, k, n in rows_of(s.scene) if k == kind])]]
+        gap = commonest(np.concatenate(gaps)) if sum(each.size for each in gaps) else 0.0
+        if gap:
+            yield Cause("depths of %s are off by %g" % (word, gap), "off" if kind else "near", write=on_kind(kind, gap), slack=1e-5 * abs(gap))
     empty = [(theirs[s.ours.faces == 0], s.scene.far) for s, theirs in rows if (s.ours.faces == 0).any()]
     if empty:
         own = commonest(np.concatenate([theirs for theirs, _ in empty]))
@@ -570,27 +818,42 @@ def fitted(samples: Sequence[Sample]) -> Iterator[Cause]:
             yield Cause("the background is far %+.9g" % more, "background", write=behind(lambda s: s.far + more))
 
 
+def added(gap: float, also: bool) -> Write:
+    return depths(lambda v, s: v + gap, also)
+
+
+def bent_by(power: float) -> Write:
+    return depths(lambda v, s: s.far * np.clip(v / s.far, 0, 1) ** power)
+
+
+def scaled(theirs: Reals, ours: Reals) -> Iterator[Cause]:
+    """Depths of faces, all above 0, times a number."""
+    times = float("%.9g" % np.median(theirs / ours)) if ours.size else 0
+    for also, word in ((False, ""), (True, ", the background too")) if times not in (0, 1) else ():
+        yield Cause("depths are %g times as great%s" % (times, word), "scale", rounding=UNIT if times != round(times) else 0.0,
+                    write=depths(lambda v, s: v * times, also))
+
+
 def commonest(numbers: Reals) -> float:
     found, counts = np.unique(numbers, return_counts=True)
     return float(found[counts.argmax()])
-
 
 # ---- what can be said without a cause
 
 def facts(samples: Sequence[Sample]) -> list[str]:
     """What the pixels that differ have in common: where, how much, near or far, which faces, which signs."""
-    rows = [each for each in samples if not each.right.all()]
-    shown = np.concatenate([(each.ours.faces > 0)[~each.right] for each in rows])
+    rows = [each for each in samples if each.differs.any()]
+    shown = np.concatenate([(each.ours.faces > 0)[each.differs] for each in rows])
     out = ["%d where ours shows a face, %d in our background, %d beside an edge of one of our faces" % (
-        shown.sum(), (~shown).sum(), sum(int((edges(each) & ~each.right).sum()) for each in rows))]
+        shown.sum(), (~shown).sum(), sum(int((edges(each) & each.differs).sum()) for each in rows))]
     empty = np.concatenate([np.zeros(0)] + [
-        each.depths[(each.ours.faces == 0) & ~each.right] for each in rows if each.depths is not None])
+        each.depths[(each.ours.faces == 0) & each.differs] for each in rows if each.depths is not None])
     if empty.size > 1 and (empty == empty[0]).all():
         is_all = not any((each.right & (each.ours.faces == 0)).any() for each in rows)
         out.append("theirs is %.9g at all of those in our background%s" % (
             empty[0], " (--far %.9g)" % empty[0] if is_all else ", and right at the rest of it"))
     off = np.concatenate([np.zeros(0)] + [
-        (each.depths - each.ours.depths)[~each.right] for each in rows if each.depths is not None])
+        (each.depths - each.ours.depths)[each.differs] for each in rows if each.depths is not None])
     if off.size:
         out.append("%d nearer, %d farther, %d of the same depth; half of them are off by %.6g or less, the most by %.6g" % (
             (off < 0).sum(), (off > 0).sum(), (off == 0).sum(), np.median(abs(off)), abs(off).max()))
@@ -598,13 +861,13 @@ def facts(samples: Sequence[Sample]) -> list[str]:
         return out + by_solids(rows[0])
     for sign in "+-*^":
         own = [each for each in samples if sign in each.scene.show]
-        bad = sum(not each.right.all() for each in own)
+        bad = sum(bool(each.differs.any()) for each in own)
         if own:
             out.append("scenes that differ: %d of %d with %s, %d of %d without" % (
                 bad, len(own), sign, len(rows) - bad, len(samples) - len(own)))
     sizes = sorted(len(each.scene.solids) for each in rows)
     return out + ["solids of the scenes that differ: %d to %d; of the others: %s" % (
-        sizes[0], sizes[-1], ranged([len(each.scene.solids) for each in samples if each.right.all()]))]
+        sizes[0], sizes[-1], ranged([len(each.scene.solids) for each in samples if not each.differs.any()]))]
 
 
 def ranged(numbers: Sequence[int]) -> str:
@@ -613,7 +876,7 @@ def ranged(numbers: Sequence[int]) -> str:
 
 def by_solids(sample: Sample) -> list[str]:
     """The faces of ours where most pixels differ, by number."""
-    faces, counts = np.unique(sample.ours.faces[~sample.right], return_counts=True)
+    faces, counts = np.unique(sample.ours.faces[sample.differs], return_counts=True)
     most = sorted(zip(counts.tolist(), faces.tolist()), key=lambda row: (-row[0], row[1]))[:5]
     return ["most differ where our face is " + ", ".join("%d (%d)" % (face, count) for count, face in most)]
 

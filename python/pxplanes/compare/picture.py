@@ -29,10 +29,16 @@ class Solid:
     fronts: list[Row] = field(default_factory=list)
     backs: list[Row] = field(default_factory=list)
     sides: list[Row] = field(default_factory=list)
+    order: tuple[str, ...] = ()       # the kinds of its planes, in the order of the text
 
     def rows(self, kind: str) -> list[Row]:
         found: list[Row] = getattr(self, kind + "s")
         return found
+
+    def with_rows(self, change: Callable[[list[Row], str], list[Row]]) -> Solid:
+        """The solid with its planes of each kind changed."""
+        fronts, backs, sides = (change(self.rows(kind), kind) for kind in KINDS)
+        return Solid(self.near, fronts, backs, sides, self.order)
 
 
 @dataclass(frozen=True)
@@ -54,25 +60,31 @@ class Scene:
     def planes(self, change: Callable[[Plane, str], Plane]) -> Scene:
         """The scene with each plane changed."""
         def changed(solid: Solid) -> Solid:
-            return Solid(solid.near, *([(change(plane, kind), number) for plane, number in solid.rows(kind)] for kind in KINDS))
+            return solid.with_rows(lambda rows, kind: [(change(plane, kind), number) for plane, number in rows])
         return replace(self, solids=[changed(solid) for solid in self.solids])
 
 
 @dataclass(frozen=True)
 class Reading:
-    """How a scene is read; the values here are right. Samples are `dx / grid` and `dy / grid` of a pixel aside."""
+    """How a scene is read; the values here are right. Samples are `dx / grid` and `dy / grid` of a pixel aside, and
+    `wide / grid` and `high / grid` of a pixel farther apart."""
 
     dx: int = 0
     dy: int = 0
     grid: int = 1
+    wide: int = 0
+    high: int = 0
+    kinds: tuple[str, ...] = KINDS     # the planes that are read at these samples
     real: bool = False           # depths in parts of a cell, and no cells
-    fronts: str = "up"           # a front's value to its cell: up, down, half_up, half_down, half_even, next (after it)
-    ends: str = "up"             # a back's value to the cell that ends its solid; also later (one more than up)
+    fronts: str = "up"           # a front's value to its cell: up, down, half up, half down, half even, next (after it)
+    ends: str = "up"             # a back's value to the cell that ends its solid; also next
+    thick: int = 0               # so many cells more of each solid that has one
     strict_sides: bool = False
     near: int = 0                # the cell at which solids begin
     far: int = 0                 # how far the far limit is from the right one
     backs: bool = True           # the backs of what is cut away can show
     highest: bool = False        # the highest face in a tie
+    farthest: bool = False       # the farthest surface shows
     single: str = ""             # planes in float32, in this order of terms: abc, cab
     bits: int = 64               # values are cut to so many bits
 
@@ -103,8 +115,12 @@ def of_text(text: bytes, name: str) -> tuple[Scene, Any]:
 def of_scene(scene: Any, name: str) -> Scene:
     def rows(faces: Any) -> list[Row]:
         return [(face.plane, face.number or 0) for face in faces]
+
+    def order(solid: Any) -> tuple[str, ...]:
+        return tuple(kind for _, kind in sorted((face.line, kind) for kind in KINDS for face in getattr(solid, kind + "s")))
     return Scene(name, scene.width, scene.height, scene.depth_bits, scene.fraction_bits,
-                 [Solid(solid.near, rows(solid.fronts), rows(solid.backs), rows(solid.sides)) for solid in scene.solids], list(scene.show))
+                 [Solid(solid.near, rows(solid.fronts), rows(solid.backs), rows(solid.sides), order(solid)) for solid in scene.solids],
+                 list(scene.show))
 
 
 def grid(scene: Scene) -> tuple[Whole, Whole]:
@@ -115,7 +131,7 @@ def grid(scene: Scene) -> tuple[Whole, Whole]:
 
 def values(plane: Plane, x: Whole, y: Whole, how: Reading) -> Whole:
     """A plane's value at each sample, in parts of 1 / grid."""
-    x, y = x * how.grid + how.dx, y * how.grid + how.dy
+    x, y = x * (how.grid + how.wide) + how.dx, y * (how.grid + how.high) + how.dy
     a, b, c = plane
     if how.single:
         f = np.float32
@@ -132,11 +148,9 @@ def cells(value: Whole, unit: int, rounds: str) -> Whole:
         return -(-value // unit)
     if rounds in ("down", "next"):
         return value // unit + (rounds == "next")
-    if rounds == "later":
-        return -(-value // unit) + 1
-    if rounds == "half_up":
+    if rounds == "half up":
         return (2 * value + unit) // (2 * unit)
-    if rounds == "half_down":
+    if rounds == "half down":
         return -((unit - 2 * value) // (2 * unit))
     down, twice = value // unit, 2 * (value % unit)
     found: Whole = down + ((twice > unit) | ((twice == unit) & (down % 2 == 1)))
@@ -169,17 +183,19 @@ def ends(scene: Scene, how: Reading, x: Whole, y: Whole) -> Ends:
     unit, count = how.grid << scene.fraction, x.shape
     step = 1 if how.real else unit
     limit = (scene.far + how.far) * unit
+    here = {kind: how if kind in how.kinds else replace(how, dx=0, dy=0, wide=0, high=0) for kind in KINDS}
     found = []
     for solid in scene.solids:
-        def at(plane: Plane) -> Whole:
-            return values(plane, x, y, how)
+        def at(plane: Plane, kind: str) -> Whole:
+            return values(plane, x, y, here[kind])
         near = NONE - solid.near if how.highest else solid.near
-        front, face = bound(solid.fronts, np.full(count, how.near * unit), np.full(count, near), 1, how.highest, at)
-        back, other = bound(solid.backs, np.full(count, limit), np.full(count, NONE), -1, how.highest, at)
+        front, face = bound(solid.fronts, np.full(count, how.near * unit), np.full(count, near), 1, how.highest, lambda p: at(p, "front"))
+        back, other = bound(solid.backs, np.full(count, limit), np.full(count, NONE), -1, how.highest, lambda p: at(p, "back"))
         first, end = cells(front, step, how.fronts), np.minimum(cells(back, step, how.ends), limit // step)
         has = first < end
+        end = np.minimum(end + how.thick, limit // step) if how.thick else end
         for plane, _ in solid.sides:
-            has &= at(plane) >= (1 if how.strict_sides else 0)
+            has &= at(plane, "side") >= (1 if how.strict_sides else 0)
         found.append((first, end, face, other, has))
     return Ends(*(np.stack(each) for each in zip(*found)))
 
@@ -227,8 +243,9 @@ def picture(scene: Scene, how: Reading, x: Whole, y: Whole) -> Picture:
     start = np.full((1, x.size), min(how.near, 0))
     z = np.concatenate([start, found.first] + ([found.end] if how.backs else []))
     end = scene.far * (unit if how.real else 1)
-    first: Whole = np.where(fold(scene.show, found, z, False)[0], z, end + 1).min(0)
-    shown = first <= end
+    inside = fold(scene.show, found, z, False)[0]
+    first: Whole = np.where(inside, z, BEFORE).max(0) if how.farthest else np.where(inside, z, end + 1).min(0)
+    shown = inside.any(0) & (first <= end)
     first = np.where(shown, first, end)
     face = fold(scene.show, found, first, True)[1]
     face = np.where(face == NONE, 0, NONE - face if how.highest else face)

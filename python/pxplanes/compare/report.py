@@ -95,7 +95,7 @@ def said(allowed: Allowed) -> str:
 def why(scene: Scene, theirs: Maps, found: Comparison, allowed: Allowed) -> list[str]:
     """The cause of what differs, with its evidence, or that none was found, with facts."""
     sample = sample_of(scene, theirs, found, allowed)
-    if sample.right.all():
+    if not sample.differs.any():
         return []
     cause = causes.find([sample])
     return cause.said() + ["  " + line for line in causes.facts([sample])]

@@ -9,7 +9,7 @@ wrong, since a steep plane cancels, and a depth near 0 has all of the error. doc
 was measured."""
 from __future__ import annotations
 
-from dataclasses import dataclass, field
+from dataclasses import dataclass, field, replace
 from functools import cached_property
 from typing import Optional, Sequence
 
@@ -113,9 +113,22 @@ class Sample:
         if not self.whole and not self.right.all():
             beside = np.zeros_like(self.right)
             for dx, dy in ((-1, -1), (-1, 1), (1, -1), (1, 1)):
-                beside |= self.fits_faces(picture(self.scene, Reading(dx, dy, EDGE, True), self.x, self.y).faces)
+                beside |= self.fits_faces(picture(self.scene, Reading(dx, dy, EDGE, real=True), self.x, self.y).faces)
             found[beside & ~self.right] = NEAR_EDGE
         return found
+
+    @cached_property
+    def differs(self) -> Bools:
+        """Pixels that are wrong; those near an edge are neither right nor wrong to a cause."""
+        found: Bools = self.state == WRONG
+        return found
+
+    def some(self, most: int) -> Sample:
+        """So many of the pixels that differ, and half as many of the right ones, evenly over the picture."""
+        at = np.sort(np.concatenate([every[::max(1, every.size // many)][:many] for every, many in (
+            (np.flatnonzero(self.differs), most), (np.flatnonzero(self.right), most // 2))]))
+        return replace(self, x=self.x[at], y=self.y[at], depths=None if self.depths is None else self.depths[at],
+                       faces=None if self.faces is None else self.faces[at])
 
     def room(self) -> float:
         """The greatest error, in cells, that single precision has room for at a face of this scene."""

@@ -129,14 +129,17 @@ def run(renderer: str, settings: Settings = Settings(), expected: Sequence[str] 
     if not cases:
         raise Trouble("no scene is chosen: --scenes takes KIND/NAME, where * stands for any, or a level (%s)" % ", ".join(golden.LEVELS))
     built = None if settings.golden else needed(None)
+    rows: list[Row] = []
+
+    def add(row: Row) -> None:
+        rows.append(row)
+        if progress:
+            progress("%d of %d: %s %s" % (len(rows), len(cases), row.case.title, row.note or "drawn"))
+    add(tried(renderer, cases[0], settings, built))       # alone, since a renderer that cannot be started is tried once
     with concurrent.futures.ThreadPoolExecutor(settings.jobs) as pool:
-        tasks = [pool.submit(tried, renderer, case, settings, built) for case in cases]
-        rows = []
         try:
-            for at, task in enumerate(tasks, 1):
-                rows.append(task.result())
-                if progress:
-                    progress("%d of %d: %s %s" % (at, len(tasks), rows[-1].case.title, rows[-1].note or "drawn"))
+            for task in [pool.submit(tried, renderer, case, settings, built) for case in cases[1:]]:
+                add(task.result())
         finally:
             pool.shutdown(wait=True, cancel_futures=True)
     judge(rows, settings)
