@@ -319,9 +319,10 @@ def rows_at(work):
 
 
 def rows_of(programs, meshes, known, jobs):
-    """The rows of so many programs and meshes, but for those that are known by name, as they come."""
-    works = [(True, number) for number in range(1, programs + 1) if "program %d" % number not in known]
-    works += [(False, own.seed) for own in subjects_of_files(meshes) if own.name not in known]
+    """The rows of programs and meshes, each from a number to another, but for those that are known by name, as they
+    come."""
+    works = [(True, number) for number in range(programs[0], programs[1] + 1) if "program %d" % number not in known]
+    works += [(False, own.seed) for own in subjects_of_files(meshes[1])[meshes[0] - 1:] if own.name not in known]
     with concurrent.futures.ProcessPoolExecutor(jobs) as pool:
         for done in concurrent.futures.as_completed([pool.submit(rows_at, work) for work in works]):
             yield from done.result()

@@ -11,7 +11,7 @@ import re
 from typing import Any, Optional, Sequence
 
 from pxplanes.errors import Trouble
-from pxplanes.mesh import facets, kinds, turns
+from pxplanes.mesh import exact, facets, kinds, turns
 
 FORM = "# camera eye %s turn %s fov %s near %s far %s"
 NUMBER = rb"([-+.0-9eE]+)"
@@ -66,14 +66,14 @@ class Camera:
         seen = (x - self.cx) * away / self.focal, away, (self.cy - y) * away / self.focal
         return [own + facets.dot(seen, [row[i] for row in self.rows]) for i, own in enumerate(self.eye)]
 
-    def half_space(self, normal: kinds.Vector, far: float) -> tuple[str, tuple[float, ...]]:
-        """The kind of a half-space `normal * p <= far` of the model, and A, B, C of its plane in
-        cells. One whose plane the eye is on is a side, in any unit."""
-        right, away, up = turns.turned(self.rows, normal)
-        room = far - facets.dot(normal, self.eye)
+    def half_space(self, plane: exact.Plane) -> tuple[str, tuple[float, ...]]:
+        """The kind of a half-space of the model, and A, B, C of its plane in cells. One whose plane the eye is on,
+        exactly, is a side, in any unit."""
+        right, away, up = plane.along(self.rows)
+        room = plane.room(self.eye)
         a, b = right / self.focal, -up / self.focal
         form = a, b, away - a * self.cx - b * self.cy
-        if abs(room) < 1e-9 * (abs(far) + facets.lengthwise(self.eye) + 1e-9):
+        if room == 0:
             return "side", tuple(-part for part in form)
         a, b, c = (-self.distances.scale / room * part for part in form)
         return "back" if room > 0 else "front", (a, b, c + self.distances.scale / self.distances.near)

@@ -8,7 +8,7 @@ from typing import Any, Optional, Sequence
 
 from pxplanes import ends
 from pxplanes.errors import Trouble
-from pxplanes.mesh import kinds, mesh_files, openscad, primitives, shaping, solids
+from pxplanes.mesh import exact, kinds, mesh_files, openscad, primitives, shaping, solids
 from pxplanes.mesh.solids import AS_IS, joined
 
 TOKEN = re.compile(r'\s+|//[^\n]*|/\*.*?\*/|([A-Za-z_$][A-Za-z0-9_$]*)|'
@@ -203,7 +203,7 @@ class Reader:
 
     def changed(self, name: str, found: Any, place: Place) -> Place:
         if name == "multmatrix":
-            own = [[float(part) for part in row[:4]] for row in found[0][:3]]
+            own = [exact.rationals(row[:4]) for row in found[0][:3]]
             return place.below(matrix=solids.times(place.matrix, own))
         if name == "color" and place.colour is None and found.get(0) is not None:
             return place.below(colour=tuple(min(255, max(0, round(255 * part))) for part in found[0][:3]))

@@ -162,7 +162,7 @@ def listed(numbers: kinds.Vector) -> str:
     return ", ".join(repr(float(number)) for number in numbers)
 
 
-def half_spaces(scene: Any, solid: Any) -> Optional[list[kinds.Plane]]:
+def half_spaces(scene: Any, solid: Any) -> Optional[list[tuple[kinds.Vector, float]]]:
     """The half-spaces of a solid within the picture and the depths: x to the right, y upwards, z to
     the eye, in pixels and in cells."""
     whole = 1 << scene.fraction_bits
@@ -171,7 +171,7 @@ def half_spaces(scene: Any, solid: Any) -> Optional[list[kinds.Plane]]:
     rows += [(a / whole, -b / whole, 1, -c / whole) for a, b, c in (face.plane for face in solid.fronts)]
     rows += [(-a / whole, b / whole, -1, c / whole) for a, b, c in (face.plane for face in solid.backs)]
     rows += [(-a, b, 0, c + 0.5) for a, b, c in (side.plane for side in solid.sides)]
-    out: list[kinds.Plane] = []
+    out: list[tuple[kinds.Vector, float]] = []
     for a, b, c, far in rows:
         length = facets.lengthwise((a, b, c))
         if length:

@@ -79,21 +79,18 @@ class Steep(Trouble):
     """A plane too steep for a front or a back, whose face is at some pixel."""
 
 
-def is_steep(form: kinds.Form, parts: int) -> bool:
-    """Whether a plane cannot be a front or a back. It is taken for a side, if its face is at no pixel."""
-    return max(abs(form[0]), abs(form[1])) * parts > limits.MAX_SLOPE
+def steepness(form: kinds.Form, parts: int) -> float:
+    """By how many times a plane is too steep for a front or a back, above 1."""
+    return max(abs(form[0]), abs(form[1])) * parts / limits.MAX_SLOPE
 
 
-def pixel_of(form: kinds.Form, places: Any, size: Sequence[int]) -> Optional[tuple[int, int]]:
-    """A pixel at which a steep plane passes between the least and the greatest depth of its corners, which are at these
-    places; None for none."""
-    a, b, c = form
-    along = 0 if abs(a) >= abs(b) else 1
-    depths = [value(form, place) for place in places]
-    low, high = ([end(place[i] for place in places) for i in (0, 1)] for end in (min, max))
+def pixel_of(form: kinds.Form, face: Any, size: Sequence[int]) -> Optional[tuple[int, int]]:
+    """A pixel at which a steep plane passes through the box of its face in the picture; None for none."""
+    low, high = face
+    along = 0 if abs(form[0]) >= abs(form[1]) else 1
     other = 1 - along
     for at in range(max(0, math.ceil(low[other])), min(size[other] - 1, math.floor(high[other])) + 1):
-        ends = sorted((depth - form[other] * at - c) / form[along] for depth in (min(depths), max(depths)))
+        ends = sorted((depth - form[other] * at - form[2]) / form[along] for depth in (low[2], high[2]))
         first = math.ceil(max(ends[0], low[along], 0))
         if first <= min(ends[1], high[along], size[along] - 1):
             return (first, at) if along == 0 else (at, first)
@@ -105,17 +102,17 @@ def planes_of(solid: Any, view: Any, parts: int, flat: bool) -> Any:
     out: list[Any] = []
     worst: tuple[float, str] = (0, "")
     counts: dict[str, int] = {}
-    for number, (normal, far) in enumerate(solid.planes):
-        kind, form = view.half_space(normal, far)
-        low, high = view.where(normal, far)
-        if kind != "side" and is_steep(form, parts):
-            places = view.places(solid.corners[number])
-            at = pixel_of(form, places, view.size) if places else None
+    for number, half in enumerate(solid.planes):
+        kind, form = view.half_space(half)
+        low, high = view.where(half)
+        if kind != "side" and steepness(form, parts) > 1:
+            face = view.face(half, solid.corners[number] or solid.points)
+            at = face and pixel_of(form, face, view.size)
             if at:
                 raise Steep("%s: a plane that is too steep for a %s is seen at x %d, y %d; --depth W F with fewer "
                             "bits makes it less steep, "
                             "and `pxplanes convert --draw MAPS` draws it at any depth" % (solid.name(), kind, *at))
-            a, b, c = form[0], form[1], form[2] - (low[2] + high[2]) / 2
+            a, b, c = form[0], form[1], form[2] - sum(end[2] for end in face or (low, high)) / 2
             kind, form = "side", (-a, -b, -c) if kind == "front" else (a, b, c)
         counts[kind] = counts.get(kind, 0) + 1
         if kind == "side":
@@ -123,7 +120,7 @@ def planes_of(solid: Any, view: Any, parts: int, flat: bool) -> Any:
             continue
         plane, off = rounded(form, parts, low, high)
         worst = max(worst, (off, "%s %d" % (kind, counts[kind])))
-        outward = normal if kind == "front" else [-part for part in normal]
+        outward = half.normal if kind == "front" else half.turned().normal
         out.append((kind, plane, solid.colour if flat else shaded(solid.colour, outward, view)))
     return out, worst
 
@@ -410,11 +407,11 @@ def in_perspective(choices: Any, tree: kinds.Tree) -> Any:
     planes = [plane for solid, _ in solids.leaves(tree) for plane in solid.planes]
     bits = wanted_bits(choices.size, min(limits.MAX_FACES, len(solids.leaves(tree)) + len(planes)))
     view = before_camera(choices, bits, tree)
-    forms = [form for kind, form in (view.half_space(*plane) for plane in planes if view.shows(*plane))
-             if kind != "side"]
-    steepest = 2 ** bits[1] * max((abs(part) for form in forms for part in form[:2]), default=0)
-    if steepest > limits.MAX_SLOPE:
-        bits[0] = max(LEAST_DEPTH_BITS, bits[0] - math.ceil(math.log2(steepest / limits.MAX_SLOPE)))
+    halves = [(*view.half_space(plane), view.face(plane, ())) for plane in planes]
+    steepest = max((steepness(form, 2 ** bits[1]) for kind, form, face in halves if kind != "side" and face
+                    and steepness(form, 2 ** bits[1]) > 1 and pixel_of(form, face, view.size)), default=1)
+    if steepest > 1:
+        bits[0] = max(LEAST_DEPTH_BITS, bits[0] - math.ceil(math.log2(steepest)))
         view = before_camera(choices, bits, tree)
     if not choices.depth:
         choices.bits = bits

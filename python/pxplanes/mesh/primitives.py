@@ -6,7 +6,7 @@ import math
 from typing import Any, Sequence
 
 from pxplanes.errors import Trouble
-from pxplanes.mesh import kinds
+from pxplanes.mesh import kinds, turns
 
 MOST_SIDES = 1000
 
@@ -32,8 +32,8 @@ def fragments(radius: float, settings: Sequence[float]) -> int:
 
 
 def ring(radius: float, height: float, count: int) -> list[list[float]]:
-    turns = [2 * math.pi * i / count for i in range(count)]
-    return [[radius * math.cos(turn), radius * math.sin(turn), height] for turn in turns]
+    ways = [turns.way(360.0 * i / count) for i in range(count)]
+    return [[radius * cosine, radius * sine, height] for cosine, sine in ways]
 
 
 def between(first: Any, second: int, count: int) -> list[list[int]]:
@@ -59,8 +59,8 @@ def sphere(radius: float, settings: Sequence[float]) -> Any:
     rings = (count + 1) // 2
     points, facets = [], []
     for i in range(rings):
-        turn = math.pi * (i + 0.5) / rings
-        points += ring(radius * math.sin(turn), radius * math.cos(turn), count)
+        cosine, sine = turns.way(180.0 * (i + 0.5) / rings)
+        points += ring(radius * sine, radius * cosine, count)
         if i:
             facets += between((i - 1) * count, i * count, count)
     return points, facets + [list(range(count)), list(range((rings - 1) * count, rings * count))]
