@@ -4,7 +4,7 @@ from __future__ import annotations
 import functools
 import os
 import re
-from typing import Any, Optional, Sequence
+from typing import Any, NamedTuple, Optional, Sequence
 
 from pxplanes import ends
 from pxplanes.errors import Trouble
@@ -36,19 +36,21 @@ class Flat:
         self.points = [(x, y, 0.0) for x, y in corners]
 
 
-class Place:
+class Place(NamedTuple):
     """Where a statement stands: its matrix and colour, whether shapes are flat there, how deep it
     is, and whether another node makes a shape of it."""
 
-    def __init__(self, matrix: kinds.Matrix = AS_IS, colour: kinds.Colour = None, flat: bool = False, depth: int = 0,
-                 is_inside: bool = False) -> None:
-        self.matrix, self.colour, self.flat, self.depth, self.is_inside = matrix, colour, flat, depth, is_inside
+    matrix: kinds.Matrix = AS_IS
+    colour: kinds.Colour = None
+    flat: bool = False
+    depth: int = 0
+    is_inside: bool = False
 
-    def below(self, matrix: Optional[kinds.Matrix] = None, colour: kinds.Colour = None) -> "Place":
-        return Place(matrix or self.matrix, colour or self.colour, self.flat, self.depth + 1, self.is_inside)
+    def below(self, **changes: Any) -> Place:
+        return self._replace(depth=self.depth + 1, **changes)
 
     def inside(self, flat: bool) -> Place:
-        return Place(AS_IS, self.colour, flat, self.depth + 1, True)
+        return self.below(matrix=AS_IS, flat=flat, is_inside=True)
 
 
 class Reader:

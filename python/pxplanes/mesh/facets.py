@@ -9,7 +9,7 @@ from fractions import Fraction
 from typing import Any, Optional, Sequence
 
 from pxplanes.errors import Trouble
-from pxplanes.mesh import exact, kinds
+from pxplanes.mesh import crossings, exact, kinds
 from pxplanes.scene import limits
 
 SIX_DIGITS = 5e-6
@@ -23,7 +23,6 @@ MOST_EFFORT = 1000000
 MOST_CUTS = 400
 GRID = 40
 FEW = 64
-RAY = (0.5377, 0.2963, 0.7893)
 REACH = 1e8
 
 
@@ -328,24 +327,13 @@ def together(shells: Any) -> tuple[list[Any], list[Any]]:
 
 
 def is_within(point: kinds.Vector, shell: Any) -> bool:
-    """Whether a point is inside of a closed mesh: a ray from it meets an odd number of triangles."""
+    """Whether a point is inside of a closed mesh: what is below it goes in and out an odd number of times."""
     points, facets, _ = shell
-    count = 0
-    for facet in facets:
-        for i in range(1, len(facet) - 1):
-            corners = [[a - b for a, b in zip(points[facet[k]], point)] for k in (0, i, i + 1)]
-            count += meets(RAY, *corners)
-    return count % 2 == 1
-
-
-def meets(way: kinds.Vector, a: Any, b: Any, c: Any) -> bool:
-    """Whether a ray from the origin meets a triangle."""
-    cross = [area_normal([[0, 0, 0], one, other]) for one, other in ((a, b), (b, c), (c, a))]
-    signs = [dot(way, normal) for normal in cross]
-    if not (all(sign > 0 for sign in signs) or all(sign < 0 for sign in signs)):
-        return False
-    normal = area_normal([a, b, c])
-    return dot(normal, a) / dot(normal, way) > 0
+    x, y, z = point
+    found = (crossings.piece_of([tuple(points[at]) for at in (facet[0], facet[i], facet[i + 1])], y)
+             for facet in facets for i in range(1, len(facet) - 1))
+    pieces: list[Any] = [piece for piece in found if piece]
+    return sum(left <= x < right and depth + (x - left) * slope < z for left, right, depth, slope, _ in pieces) % 2 == 1
 
 
 def only(points: kinds.Points, facets: kinds.Facets) -> Any:
@@ -364,8 +352,7 @@ def divided(polygon: Any, plane: Any, near: float) -> Any:
     for i, point in enumerate(polygon):
         here, back = rooms[i], rooms[i - 1]
         if here * back < 0 and min(abs(here), abs(back)) > near:
-            part = back / (back - here)
-            cut = [a + part * (b - a) for a, b in zip(polygon[i - 1], point)]
+            cut = crossing(polygon[i - 1], back, point, here)
             behind.append(cut)
             before.append(cut)
         if here >= -near:
@@ -373,6 +360,14 @@ def divided(polygon: Any, plane: Any, near: float) -> Any:
         if here <= near:
             before.append(point)
     return (behind if max(rooms) > near else None), (before if min(rooms) < -near else None)
+
+
+def crossing(one: kinds.Vector, before: float, other: kinds.Vector, after: float) -> list[float]:
+    """Where a plane cuts an edge, by how far its ends are from it: to the last bit the same from either end."""
+    if tuple(other) < tuple(one):
+        one, before, other, after = other, after, one, before
+    part = before / (before - after)
+    return [a + part * (b - a) for a, b in zip(one, other)]
 
 
 def best_plane(polygons: Any, near: float) -> Any:
@@ -438,8 +433,7 @@ def span_of(corners: kinds.Points, plane: Any, way: kinds.Vector, near: float) -
     ends = [corner for corner, room in zip(corners, rooms) if abs(room) <= near]
     for i, room in enumerate(rooms):
         if room * rooms[i - 1] < 0 and min(abs(room), abs(rooms[i - 1])) > near:
-            part = rooms[i - 1] / (rooms[i - 1] - room)
-            ends.append([a + part * (b - a) for a, b in zip(corners[i - 1], corners[i])])
+            ends.append(crossing(corners[i - 1], rooms[i - 1], corners[i], room))
     found = sorted((dot(way, point), point) for point in ends)
     return found[0], found[-1]
 

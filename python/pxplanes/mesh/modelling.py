@@ -36,14 +36,7 @@ def spelled(tree: kinds.Tree, names: Any) -> str:
     if not isinstance(tree, tuple):
         return str(names[id(tree)])
     sign, trees = tree
-    return halved(sign, [spelled(part, names) for part in trees])
-
-
-def halved(sign: str, parts: list[str]) -> str:
-    if len(parts) == 1:
-        return parts[0]
-    half = len(parts) // 2
-    return "(%s %s %s)" % (halved(sign, parts[:half]), sign, halved(sign, parts[half:]))
+    return solids.halved(sign, [spelled(part, names) for part in trees])
 
 
 def value(form: kinds.Form, place: kinds.Vector) -> float:
@@ -158,7 +151,7 @@ class Laid:
         for kind, plane, colour in self.planes:
             own[given[kind] % self.parts].append(" ".join(map(str, (kind,) + plane + colour)))
             given[kind] += 1
-        return [line for lines in own for line in lines], halved("*", names)
+        return [line for lines in own for line in lines], solids.halved("*", names)
 
     def met(self, view: Any, choices: Any, columns: Any, is_first: bool) -> Optional[Laid]:
         """The same by the planes alone that bound it, or its first cell, at some pixel of these columns; None where it

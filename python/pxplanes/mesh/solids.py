@@ -214,6 +214,14 @@ def joined(sign: str, trees: list[Any]) -> Any:
     return sign, trees
 
 
+def halved(sign: str, words: list[str]) -> str:
+    """Operands joined by a sign, as nearly in halves as may be."""
+    if len(words) == 1:
+        return words[0]
+    half = len(words) // 2
+    return "(%s %s %s)" % (halved(sign, words[:half]), sign, halved(sign, words[half:]))
+
+
 def each(tree: kinds.Tree, change: Any) -> Any:
     """The tree with what `change` makes of each of its leaves."""
     if tree is None or not isinstance(tree, tuple):
