@@ -127,6 +127,14 @@ def answer(program: str, words: Sequence[str | bytes], text: bytes, seconds: flo
     return done.returncode, done.stdout, done.stderr.decode("latin-1").strip("\n")
 
 
+def rendered(program: str, text: bytes) -> bytes:
+    """Both maps of a scene; `Trouble` with the program's note if it is refused."""
+    status, output, note = answer(program, ["render"], text)
+    if status != 0:
+        raise Trouble(note or "the program ends with %d" % status)
+    return output
+
+
 def cost(program: str, text: bytes) -> tuple[int, int]:
     """How many operations and clocks a scene takes; `Bad` with the program's note, refused."""
     status, output, note = answer(program, ["cost"], text)

@@ -78,17 +78,6 @@ class Camera:
         a, b, c = (-self.distances.scale / room * part for part in form)
         return "back" if room > 0 else "front", (a, b, c + self.distances.scale / self.distances.near)
 
-    def plane(self, kind: str, form: kinds.Form) -> tuple[list[float], float]:
-        """The half-space of the model, normal and distance, of a scene's plane in cells."""
-        a, b, c = form
-        zero = 0 if kind == "side" else self.distances.scale / self.distances.near
-        away = c - zero + a * self.cx + b * self.cy
-        seen = [-part if kind == "back" or kind == "side" else part
-                for part in (a * self.focal, away, -b * self.focal)]
-        room = {"side": 0, "front": -self.distances.scale, "back": self.distances.scale}[kind]
-        normal = [facets.dot(seen, [row[i] for row in self.rows]) for i in range(3)]
-        return normal, room + facets.dot(normal, self.eye)
-
 
 def focal_of(fov: float, size: Sequence[int]) -> float:
     """How many pixels wide is what is as wide as it is away; `fov` is the picture's height in degrees."""

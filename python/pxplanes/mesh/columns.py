@@ -138,17 +138,14 @@ class Before:
         within = in_view(lens, seen, max(size) / 2)[0][..., 2]
         if not within.size:
             within = np.array([most])
-        near, far = ends
         self.least, self.most = float(within.min()), float(within.max())
-        far = far or (1 + perspective.ROOM) * self.most
-        near = near or (1 - perspective.ROOM) * max(self.least, perspective.NEAREST * far)
-        self.camera = cameras.Camera(eye, turn, fov, size, cameras.Distances(near, far, cells))
+        ends = perspective.ends_of(self.least, self.most, ends)
+        self.camera = cameras.Camera(eye, turn, fov, size, cameras.Distances(*ends, cells))
 
     def cut_off(self) -> list[str]:
         distances = self.camera.distances
         return ["the near plane cuts the model"] * (self.least < distances.near) + [
-            "the model goes on beyond the far plane"] * (
-            self.most > distances.far)
+            "the model goes on beyond the far plane"] * (self.most > distances.far)
 
     def why_empty(self) -> str:
         return "nothing of the model is before the camera, or what is left of it is smaller than a pixel"
@@ -543,10 +540,7 @@ def text_of(window: Window, bits: Sequence[int], columns: list[Column]) -> str:
 
 def drawn(scene: Scene, path: str) -> tuple[Array, Array]:
     """Both maps of a scene by the program."""
-    status, output, note = program.answer(path, ["render"], scene.text.encode())
-    if status != 0:
-        raise Trouble(note or "the program ends with %d" % status)
-    maps = []
+    output, maps = program.rendered(path, scene.text.encode()), []
     for _ in range(2):
         head = output.split(b"\n", 3)
         width, height = map(int, head[1].split())

@@ -333,7 +333,8 @@ def is_within(point: kinds.Vector, shell: Any) -> bool:
     found = (crossings.piece_of([tuple(points[at]) for at in (facet[0], facet[i], facet[i + 1])], y)
              for facet in facets for i in range(1, len(facet) - 1))
     pieces: list[Any] = [piece for piece in found if piece]
-    return sum(left <= x < right and depth + (x - left) * slope < z for left, right, depth, slope, _ in pieces) % 2 == 1
+    below = sum(left <= x < right and depth + (x - left) * slope < z for left, right, depth, slope, _ in pieces)
+    return bool(below % 2)
 
 
 def only(points: kinds.Points, facets: kinds.Facets) -> Any:

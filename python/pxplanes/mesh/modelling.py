@@ -31,6 +31,10 @@ BESIDE = 0.001
 LEAST_COLUMNS = 8
 
 
+def say(line: str) -> None:
+    ends.say("pxplanes convert", line)
+
+
 def spelled(tree: kinds.Tree, names: Any) -> str:
     """The expression of a tree; long unions and intersections become balanced."""
     if not isinstance(tree, tuple):
@@ -102,9 +106,9 @@ def planes_of(solid: Any, view: Any, parts: int, flat: bool) -> Any:
             face = view.face(half, solid.corners[number] or solid.points)
             at = face and pixel_of(form, face, view.size)
             if at:
-                raise Steep("%s: a plane that is too steep for a %s is seen at x %d, y %d; --depth W F with fewer "
-                            "bits makes it less steep, "
-                            "and `pxplanes convert --draw MAPS` draws it at any depth" % (solid.name(), kind, *at))
+                raise Steep("%s: a plane that is too steep for a %s is seen at x %d, y %d; --depth W F with fewer bits "
+                            "makes it less steep, and `pxplanes convert --draw MAPS` draws it at any depth" % (
+                                solid.name(), kind, *at))
             a, b, c = form[0], form[1], form[2] - sum(end[2] for end in face or (low, high)) / 2
             kind, form = "side", (-a, -b, -c) if kind == "front" else (a, b, c)
         counts[kind] = counts.get(kind, 0) + 1
@@ -228,23 +232,21 @@ def as_one(tree: kinds.Tree, view: Any, choices: Any, is_seen: bool = False) -> 
     for way, what in ((False, "a solid"), (True, "what is seen of a solid"))[:1 + is_seen]:
         fewer, met = restricted(tree, laid, view, choices, (0, choices.size[0] - 1), way)
         if fewer and is_within(fewer, met, choices):
-            ends.say("pxplanes convert", "of %d planes, too many for a scene, those %d are drawn that bound %s at "
-                                         "some pixel, as %d solids; "
-                     "the picture is the same, and finer or wider ones are not" % (
-                         count_of(laid), count_of(met), what, sum(own.parts for own in met.values())))
+            say("of %d planes, too many for a scene, those %d are drawn that bound %s at some pixel, as %d solids; "
+                "the picture is the same, and finer or wider ones are not" % (
+                    count_of(laid), count_of(met), what, sum(own.parts for own in met.values())))
             return fewer, met
     if fewer and products(fewer, met) > limits.MAX_PRODUCTS:
         parts = in_windows(fewer, met, view, choices)
         whole = solids.joined("+", [part for part, _ in parts])
         own = {key: each for _, laid in parts for key, each in laid.items()}
         if whole and is_within(whole, own, choices):
-            ends.say("pxplanes convert", "its %d products are too many for a scene, so that it is drawn as the union "
-                                         "of what it is in %d parts of the picture; the picture is the same, and "
-                                         "finer or wider ones are not" % (products(fewer, met), len(parts)))
+            say("its %d products are too many for a scene, so that it is drawn as the union of what it is in %d parts "
+                "of the picture; the picture is the same, and finer or wider ones are not" % (
+                    products(fewer, met), len(parts)))
             return whole, own
     raise Trouble("the model makes no scene: %s; fewer facets or a smaller picture take less, and `--draw MAPS` draws "
-                  "it by columns" %
-                     too_much(fewer or tree, met if fewer else laid, choices))
+                  "it by columns" % too_much(fewer or tree, met if fewer else laid, choices))
 
 
 def too_much(tree: kinds.Tree, laid: Any, choices: Any) -> str:
@@ -416,18 +418,19 @@ def tell(shown: Any, view: Any, worst: Any, choices: Any, wanted: Any) -> None:
     """Says how the planes were rounded, and what of the model the picture does not have."""
     off, where = worst
     if where:
-        ends.say("pxplanes convert", "the worst plane is rounded by %.2g cells of %d within %s: %s" % (
+        say("the worst plane is rounded by %.2g cells of %d within %s: %s" % (
             off, 2 ** choices.bits[0] - 1, "its face" if wanted else "the picture", where))
     if wanted:
         distances = view.camera.distances
-        ends.say("pxplanes convert", "near %.4g, far %.4g; a distance is off by at most %.2g, at far; the picture "
-                                     "wants "
-                 "--depth %d %d" % (distances.near, distances.far, (off + 1) * distances.far ** 2 / distances.scale,
-                                    *wanted))
-    for line in view.cut_off():
-        ends.say("pxplanes convert", line)
-    if not rays.shows_anything(shown):
-        ends.say("pxplanes convert", "the picture is empty: %s" % view.why_empty())
+        say("near %.4g, far %.4g; a distance is off by at most %.2g, at far; the picture wants --depth %d %d" % (
+            distances.near, distances.far, (off + 1) * distances.far ** 2 / distances.scale, *wanted))
+    tell_of_edges(view, not rays.shows_anything(shown))
+
+
+def tell_of_edges(view: Any, is_empty: bool) -> None:
+    """Says what the edges of the picture cut off, and why a picture is empty."""
+    for line in view.cut_off() + ["the picture is empty: %s" % view.why_empty()] * is_empty:
+        say(line)
 
 
 def read(name: str, choices: Any) -> Any:
@@ -504,12 +507,10 @@ def looked_at(whole: kinds.Tree, view: Any, choices: Any) -> None:
         rounded = max((own.worst[0] for own in laid), default=0)
         digit = facets.digit_of(mesh.mesh[0]) * facets.extent(mesh.mesh[0])[0] * solids.growth(mesh.matrix)
         count, place = columns.unlike(mesh, [[plane[:2] for plane in own.planes] for own in laid], view, choices.size,
-                                      choices.bits,
-                                      rounded, digit)
+                                      choices.bits, rounded, digit)
         if count:
             raise Trouble("%s is not what its convex parts are at %d pixels, the first x %d, y %d; `pxplanes view` "
-                          "and `pxplanes convert "
-                          "--draw MAPS` draw it undivided" % (mesh.name(), count, *place))
+                          "and `pxplanes convert --draw MAPS` draw it undivided" % (mesh.name(), count, *place))
 
 
 def columns_module() -> Any:
@@ -532,13 +533,9 @@ def by_columns(tree: kinds.Tree, choices: Any) -> Any:
     else:
         view = parallel(tree, choices)
     drawing = columns.draw(tree, [leaf for leaf, _ in leaves], view, choices.size, choices.bits)
-    ends.say("pxplanes convert", "drawn by columns: %d triangles, %d columns in %d scenes; a depth is rounded by at "
-                                 "most %.2g cells of %d" % (
+    say("drawn by columns: %d triangles, %d columns in %d scenes; a depth is rounded by at most %.2g cells of %d" % (
         len(drawing.corners), drawing.columns, drawing.scenes, drawing.rounded, 2 ** choices.bits[0] - 1))
-    for line in view.cut_off():
-        ends.say("pxplanes convert", line)
-    if (drawing.shown < 0).all():
-        ends.say("pxplanes convert", "the picture is empty: %s" % view.why_empty())
+    tell_of_edges(view, (drawing.shown < 0).all())
     return drawing
 
 
@@ -565,7 +562,4 @@ def drawn_as_one(tree: kinds.Tree, choices: Choices) -> Optional[bytes]:
         return None
     text, worst = text_of(tree, laid, view, choices)
     tell(checked(text), view, worst, choices, wanted)
-    status, output, note = program.answer(program.needed(None), ["render"], text.encode())
-    if status != 0:
-        raise Trouble(note or "the program ends with %d" % status)
-    return bytes(output)
+    return program.rendered(program.needed(None), text.encode())

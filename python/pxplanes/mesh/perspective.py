@@ -76,9 +76,7 @@ class Perspective:
 
     def ends(self, reached: Any, said: Any) -> tuple[float, float]:
         """The nearest and the farthest distance: as said, or as faces reach from and to."""
-        near, far = said
-        far = far or (1 + ROOM) * max(reached)
-        near = near or (1 - ROOM) * max(min(reached), NEAREST * far)
+        near, far = ends_of(min(reached), max(reached), said)
         self.passed += ["near plane"] * (min(reached) < near * (1 - ONE_PLANE))
         self.passed += ["far plane"] * (max(reached) > far * (1 + ONE_PLANE))
         return near, far
@@ -108,6 +106,12 @@ class Perspective:
         if not self.has_common:
             return "what the model intersects has no common part"
         return "nothing of the model is before the camera, or what is left of it is smaller than a pixel"
+
+
+def ends_of(least: float, most: float, said: Sequence[Optional[float]]) -> tuple[float, float]:
+    """The distances at which depths begin and end: as said, or a little beyond what is in the picture."""
+    far = said[1] or (1 + ROOM) * most
+    return said[0] or (1 - ROOM) * max(least, NEAREST * far), far
 
 
 def is_inside(tree: kinds.Tree, point: kinds.Vector) -> bool:

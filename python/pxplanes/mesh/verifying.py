@@ -157,9 +157,6 @@ def drawer(path: str) -> Any:
     """What draws the depths of a scene's text, by the program at a path."""
     def draw(text: Union[str, bytes]) -> Any:
         text = text if isinstance(text, bytes) else text.encode()
-        status, output, note = program.answer(path, ["render"], text)
-        if status != 0:
-            raise Trouble(note or "the program ends with %d" % status)
-        return netpbm.images(output)[0].numbers()
+        return netpbm.images(program.rendered(path, text))[0].numbers()
 
     return draw
