@@ -511,11 +511,8 @@ def scenes_of(columns: list[Column], bits: Sequence[int]) -> list[Scene]:
     boxes = np.array([column.box for column in columns])
     big = ((boxes[:, 2:] - boxes[:, :2]) > BIG).any(1)
     centre = (boxes[:, :2] + boxes[:, 2:]) // 2
-    key = np.zeros(len(boxes), np.int64)
-    for bit in range(10):
-        key |= (centre[:, 0] >> bit & 1) << 2 * bit | (centre[:, 1] >> bit & 1) << 2 * bit + 1
-    order = np.lexsort((key, big))
-    out = []
+    key = sum((centre[:, axis] >> bit & 1) << 2 * bit + axis for bit in range(10) for axis in (0, 1))
+    order, out = np.argsort(key, kind="stable"), []
     for half in (order[~big[order]], order[big[order]]):
         for i in range(0, len(half), limits.MAX_SOLIDS):
             part = half[i:i + limits.MAX_SOLIDS]

@@ -4,7 +4,7 @@ from __future__ import annotations
 import functools
 import math
 from fractions import Fraction
-from typing import Callable, NamedTuple, Optional, Sequence
+from typing import Any, Callable, NamedTuple, Optional, Sequence
 
 from pxplanes.mesh import kinds
 
@@ -65,6 +65,12 @@ def scaled(numbers: Sequence[kinds.Number]) -> tuple[list[int], int]:
     return [number.numerator * (unit // number.denominator) for number in exact], unit
 
 
+def area_normal(points: Sequence[Sequence[Any]]) -> list[Any]:
+    """The normal of a polygon, as long as twice its area (Newell's sum)."""
+    pairs = list(zip(points, [*points[1:], points[0]]))
+    return [sum((a[i] - b[i]) * (a[j] + b[j]) for a, b in pairs) for i, j in ((1, 2), (2, 0), (0, 1))]
+
+
 class Points:
     """The points of a mesh as whole numbers, which are found when a plane is first asked for its own."""
 
@@ -81,10 +87,9 @@ class Points:
         return Plane(normal, far, functools.cache(lambda: self.of_facet(facet)))
 
     def of_facet(self, facet: Sequence[int]) -> Whole:
-        """Newell's normal of a facet, and the plane through the middle of its corners."""
+        """The plane of a facet, through the middle of its corners."""
         points, unit = self.whole
         corners = [points[at] for at in facet]
-        pairs = list(zip(corners, corners[1:] + corners[:1]))
-        normal = [sum((a[i] - b[i]) * (a[j] + b[j]) for a, b in pairs) for i, j in ((1, 2), (2, 0), (0, 1))]
+        normal = area_normal(corners)
         far = sum(part * sum(own) for part, own in zip(normal, zip(*corners)))
         return [part * len(facet) * unit for part in normal] + [far]

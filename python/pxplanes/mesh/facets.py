@@ -10,6 +10,7 @@ from typing import Any, Optional, Sequence
 
 from pxplanes.errors import Trouble
 from pxplanes.mesh import crossings, exact, kinds
+from pxplanes.mesh.exact import area_normal as area_normal
 from pxplanes.scene import limits
 
 SIX_DIGITS = 5e-6
@@ -32,17 +33,6 @@ def dot(one: kinds.Vector, other: kinds.Vector) -> float:
 
 def lengthwise(normal: kinds.Vector) -> float:
     return math.sqrt(dot(normal, normal))
-
-
-def area_normal(points: kinds.Points) -> list[float]:
-    """The normal of a polygon, as long as twice its area (Newell's sum)."""
-    normal = [0.0, 0.0, 0.0]
-    for i, a in enumerate(points):
-        b = points[(i + 1) % len(points)]
-        normal[0] += (a[1] - b[1]) * (a[2] + b[2])
-        normal[1] += (a[2] - b[2]) * (a[0] + b[0])
-        normal[2] += (a[0] - b[0]) * (a[1] + b[1])
-    return normal
 
 
 def plane_of(points: kinds.Points) -> Optional[tuple[list[float], float, float]]:

@@ -181,9 +181,3 @@ def around(turn: kinds.Vector, fov: Optional[float], size: Sequence[int], tree: 
                              focal * half[2] / (views.FILLS * size[1] / 2), 1e-9)
     middle = [(a + b) / 2 for a, b in zip(low, high)]
     return [sum(middle[k] * rows[k][i] for k in range(3)) for i in range(3)] + list(turn) + [distance]
-
-
-def fitted(turn: kinds.Vector, fov: Optional[float], size: Sequence[int], cells: int, ends: Any,
-           tree: kinds.Tree) -> Perspective:
-    """All that can show in the picture."""
-    return of_camera(around(turn, fov, size, tree), fov, size, cells, ends, tree)
