@@ -8,7 +8,7 @@ from typing import Any, NamedTuple, Optional, Sequence
 
 from pxplanes import ends
 from pxplanes.errors import Trouble
-from pxplanes.mesh import exact, kinds, mesh_files, openscad, primitives, shaping, solids
+from pxplanes.mesh import exact, facets, kinds, mesh_files, openscad, primitives, shaping, solids
 from pxplanes.mesh.solids import AS_IS, joined
 
 TOKEN = re.compile(r'\s+|//[^\n]*|/\*.*?\*/|([A-Za-z_$][A-Za-z0-9_$]*)|'
@@ -309,8 +309,7 @@ class Reader:
         parts = self.convex("resize", tree, place.flat, line)
         if not parts:
             return None
-        low = [min(point[i] for part in parts for point in part.points) for i in range(3)]
-        high = [max(point[i] for part in parts for point in part.points) for i in range(3)]
+        low, high = facets.box_of([point for part in parts for point in part.points])
         factors = resized(found["newsize"], found["auto"], [b - a for a, b in zip(low, high)])
         matrix = [[factors[i] * (i == j) for j in range(3)] + [0] for i in range(3)]
         return solids.each(tree, lambda part: flat_at(part, matrix) if place.flat

@@ -50,8 +50,7 @@ def in_order(corners: kinds.Points, normal: kinds.Vector) -> list[kinds.Vector]:
     """The corners of a convex polygon on a plane, one after another round it."""
     if len(corners) < 3:
         return []
-    middle = [sum(corner[i] for corner in corners) / len(corners) for i in range(3)]
-    along, across = axes_on(normal)
+    middle, (along, across) = middle_of(corners), axes_on(normal)
 
     def turn(corner: kinds.Vector) -> float:
         out = [a - b for a, b in zip(corner, middle)]
@@ -198,7 +197,7 @@ def planes(points: kinds.Points, facets: kinds.Facets, numbers: Optional[Sequenc
 
 def bulge(found: Any, corners: kinds.Points, normal: kinds.Vector) -> float:
     """How far it is from the middle of a facet, along its normal, to where the planes end."""
-    middle = [sum(corner[i] for corner in corners) / len(corners) for i in range(3)]
+    middle = middle_of(corners)
     return min(((far - dot(n, middle)) / dot(n, normal) for n, far, _ in found
                 if dot(n, normal) > 1e-3), default=math.inf)
 
@@ -418,14 +417,10 @@ def shared(one: Any, other: Any, near: float) -> Any:
 def span_of(corners: kinds.Points, plane: Any, way: kinds.Vector, near: float) -> Any:
     """Where a plane cuts a triangle that is on both sides of it, the two ends along a way, each as how far
     it is and its point; None where it is not."""
-    rooms = [plane[1] - dot(plane[0], corner) for corner in corners]
-    if min(rooms) > -near or max(rooms) < near:
+    behind, before = divided(corners, plane, near)
+    if not behind or not before:
         return None
-    ends = [corner for corner, room in zip(corners, rooms) if abs(room) <= near]
-    for i, room in enumerate(rooms):
-        if room * rooms[i - 1] < 0 and min(abs(room), abs(rooms[i - 1])) > near:
-            ends.append(crossing(corners[i - 1], rooms[i - 1], corners[i], room))
-    found = sorted((dot(way, point), point) for point in ends)
+    found = sorted((dot(way, point), point) for point in behind if point in before)
     return found[0], found[-1]
 
 

@@ -220,33 +220,21 @@ def soup(kind: str, data: bytes) -> Any:
     others, or where NumPy is not there."""
     try:
         import numpy
-    except ImportError:
-        return None
-    if kind == "stl" and raw_triangles(data):
-        form = numpy.dtype([("normal", "<f4", 3), ("corners", "<f4", (3, 3)), ("more", "<u2")])
-        found = numpy.frombuffer(data, form, raw_triangles(data), 84)["corners"].astype(float)
-    elif kind == "stl":
-        try:
+        if kind == "stl" and raw_triangles(data):
+            form = numpy.dtype([("normal", "<f4", 3), ("corners", "<f4", (3, 3)), ("more", "<u2")])
+            found = numpy.frombuffer(data, form, raw_triangles(data), 84)["corners"].astype(float)
+        elif kind == "stl":
             found = numpy.array(vertex_rows(data), dtype=float).reshape(-1, 3, 3)
-        except ValueError:
+        elif kind == "off" and data[:4].split() == [b"OFF"] and b"#" not in data:
+            _, points, count, _, *words = data.split()
+            rest = numpy.array(words, dtype=float)
+            rows = rest[3 * int(points):].reshape(int(count), 4).astype(int)
+            found = rest[:3 * int(points)].reshape(-1, 3)[rows[:, 1:]]
+            if (rows[:, 0] != 3).any() or rows.min() < 0:
+                return None
+        else:
             return None
-    elif kind == "off" and b"#" not in data:
-        head = data.split()
-        if len(head) < 4 or head[0] != b"OFF" or not (head[1] + head[2]).isdigit():
-            return None
-        points, faces = int(head[1]), int(head[2])
-        try:
-            rest = numpy.array(head[4:], dtype=float)
-        except ValueError:
-            return None
-        tail = rest[3 * points:]
-        if points == 0 or faces == 0 or len(tail) != 4 * faces or (tail[::4] != 3).any():
-            return None
-        numbers = tail.reshape(-1, 4)[:, 1:].astype(int)
-        if numbers.min() < 0 or numbers.max() >= points:
-            return None
-        found = rest[:3 * points].reshape(-1, 3)[numbers]
-    else:
+    except (ImportError, ValueError, IndexError):
         return None
     return found if found.size and numpy.isfinite(found).all() and abs(found).max() <= 1e9 else None
 

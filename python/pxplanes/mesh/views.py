@@ -5,7 +5,7 @@ import math
 from typing import Any, Sequence
 
 from pxplanes.errors import Trouble
-from pxplanes.mesh import exact, kinds, solids, turns
+from pxplanes.mesh import exact, facets, kinds, solids, turns
 
 FILLS = 0.92
 FIELD = 22.5
@@ -84,8 +84,7 @@ def box_of(rows: Any, points: Any) -> Any:
     if hasattr(points, "shape"):
         seen = [points @ row for row in rows]
         return [float(own.min()) for own in seen], [float(own.max()) for own in seen]
-    seen = [turns.turned(rows, point) for point in points]
-    return [min(point[i] for point in seen) for i in range(3)], [max(point[i] for point in seen) for i in range(3)]
+    return facets.box_of([turns.turned(rows, point) for point in points])
 
 
 def shown(rows: kinds.Points, tree: Any) -> Any:
