@@ -159,6 +159,20 @@ def test_a_long_wall_that_is_nearly_a_side_is_none():
         assert not bad and there > 3000
 
 
+@pytest.mark.parametrize("radius", [8, 8.2])
+def test_a_steep_wall_at_no_pixel_is_a_side_where_its_face_is(radius):
+    """Straight from above, `--depth 16 7`: the wall leans by a tenth of a pixel far from the eye. Its plane, continued
+    to the eye, is most of a pixel away."""
+    tree = tree_of("union() { multmatrix([[1,0,0,14],[0,1,0,0],[0,0,1,99],[0,0,0,1]]) { cube(size = [1, 1, 1], center "
+                   "= false); } cylinder($fn = 4, $fa = 12, $fs = 2, h = 10, r1 = %r, r2 = %r, center = false); }"
+                   % (radius, radius - 0.03))
+    choices = modelling.Choices(view=(0, 0, 45), size=(128, 96), depth=(16, 7), scale=4)
+    view = modelling.parallel(tree, choices)
+    text, (rounded, _) = modelling.scene_of(tree, view, choices)
+    (bad, there), *_ = judged_scene(tree, text, choices, view, rounded)
+    assert text.count("\nside ") == 8 and not bad and there > 2000
+
+
 def test_a_face_just_below_the_eye_is_no_side():
     """Ten million away from the origin the eye is 0.009 above a box, which is 1.5 pixels."""
     tree = tree_of(CUBE % (10, 1e7, 10, 5.5, 10, -5))
