@@ -57,8 +57,7 @@ class Camera:
     def place(self, seen: Any) -> tuple[float, float, float]:
         """The pixel and the depth of a point before the eye."""
         right, away, up = seen
-        return (self.cx + self.focal * right / away, self.cy - self.focal * up / away,
-                self.distances.depth_at(away))
+        return (self.cx + self.focal * right / away, self.cy - self.focal * up / away, self.distances.depth_at(away))
 
     def point(self, x: float, y: float, depth: float) -> list[float]:
         """The point of the model at a pixel's depth."""

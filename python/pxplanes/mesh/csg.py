@@ -312,8 +312,7 @@ class Reader:
         low, high = facets.box_of([point for part in parts for point in part.points])
         factors = resized(found["newsize"], found["auto"], [b - a for a, b in zip(low, high)])
         matrix = [[factors[i] * (i == j) for j in range(3)] + [0] for i in range(3)]
-        return solids.each(tree, lambda part: flat_at(part, matrix) if place.flat
-                           else part.moved(matrix, part.colour))
+        return solids.each(tree, lambda part: flat_at(part, matrix) if place.flat else part.moved(matrix, part.colour))
 
     def linear_extrude(self, trees: list[Any], found: Any, place: Any, line: int) -> Any:
         scale = found.get("scale", [1, 1])

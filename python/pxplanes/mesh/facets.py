@@ -284,8 +284,7 @@ def parts(points: kinds.Points, facets: kinds.Facets) -> list[Any]:
     found: dict[int, list[Any]] = {}
     for number, facet in enumerate(facets, 1):
         found.setdefault(top(facet[0]), []).append((number, facet))
-    return [only(points, [facet for _, facet in own]) + ([number for number, _ in own],)
-            for own in found.values()]
+    return [only(points, [facet for _, facet in own]) + ([number for number, _ in own],) for own in found.values()]
 
 
 def hollows(shells: Any) -> tuple[list[Any], list[Any]]:
@@ -499,8 +498,7 @@ def of_sides(kept: Any, near: float) -> Any:
     """The same of the planes with their polygons."""
     corners: list[kinds.Vector] = []
     for _, polygon in kept:
-        corners += [corner for corner in polygon
-                    if not any(math.dist(corner, other) <= near for other in corners)]
+        corners += [corner for corner in polygon if not any(math.dist(corner, other) <= near for other in corners)]
     if len(kept) < 4 or any(max(abs(part) for part in corner) > REACH / 2 * near for corner in corners):
         return None
     return [plane for plane, _ in kept], corners

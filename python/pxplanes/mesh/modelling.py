@@ -308,8 +308,7 @@ def checked(text: str) -> Any:
         scenes.pixel_memory(scene)
         return scene
     except scenes.Refusal as refusal:
-        raise Trouble("the model makes no scene: %s%s" % (
-            refusal.note, "; " + refusal.limit if refusal.limit else ""))
+        raise Trouble("the model makes no scene: %s%s" % (refusal.note, "; " + refusal.limit if refusal.limit else ""))
 
 
 @dataclass

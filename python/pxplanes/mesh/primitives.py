@@ -15,8 +15,7 @@ def cube(size: kinds.Vector, center: Any) -> Any:
     low = [-side / 2 if center else 0 for side in size]
     points = [[low[0] + size[0] * x, low[1] + size[1] * y, low[2] + size[2] * z]
               for x in (0, 1) for y in (0, 1) for z in (0, 1)]
-    return points, [[0, 1, 3, 2], [4, 6, 7, 5], [0, 4, 5, 1],
-                    [2, 3, 7, 6], [0, 2, 6, 4], [1, 5, 7, 3]]
+    return points, [[0, 1, 3, 2], [4, 6, 7, 5], [0, 4, 5, 1], [2, 3, 7, 6], [0, 2, 6, 4], [1, 5, 7, 3]]
 
 
 def fragments(radius: float, settings: Sequence[float]) -> int:
@@ -38,8 +37,7 @@ def ring(radius: float, height: float, count: int) -> list[list[float]]:
 
 def between(first: Any, second: int, count: int) -> list[list[int]]:
     """The facets between two rings of points that begin at these numbers."""
-    return [[first + i, first + (i + 1) % count, second + (i + 1) % count, second + i]
-            for i in range(count)]
+    return [[first + i, first + (i + 1) % count, second + (i + 1) % count, second + i] for i in range(count)]
 
 
 def cylinder(height: float, below: float, above: float, center: Any, settings: Sequence[float]) -> Any:

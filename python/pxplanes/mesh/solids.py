@@ -145,8 +145,7 @@ def growth(matrix: kinds.Matrix) -> float:
 
 def times(outer: kinds.Matrix, inner: kinds.Matrix) -> list[list[float]]:
     inner = [*inner, [0, 0, 0, 1]]
-    return [[sum(outer[row][k] * inner[k][column] for k in range(4)) for column in range(4)]
-            for row in range(3)]
+    return [[sum(outer[row][k] * inner[k][column] for k in range(4)) for column in range(4)] for row in range(3)]
 
 
 def of_mesh(kind: str, line: int, points: kinds.Points, sides: Any, colour: kinds.Colour,
@@ -254,6 +253,5 @@ def convex_parts(tree: kinds.Tree, meet: Any) -> list[Any]:
 def met(parts: Any) -> Any:
     """The common part of convex solids; None where there is none."""
     size, _ = facets.extent([point for part in parts for point in part.points])
-    found = facets.bounded([plane for part in parts for plane in part.planes],
-                           facets.NEAR * facets.SIX_DIGITS * size)
+    found = facets.bounded([plane for part in parts for plane in part.planes], facets.NEAR * facets.SIX_DIGITS * size)
     return found and Solid(parts[0].kind, parts[0].line, found[1], found[0], parts[0].colour)

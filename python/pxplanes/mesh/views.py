@@ -109,8 +109,7 @@ def met(boxes: Any) -> Any:
 def around(boxes: Any) -> Any:
     if not boxes:
         return None
-    return ([min(low[i] for low, _ in boxes) for i in range(3)],
-            [max(high[i] for _, high in boxes) for i in range(3)])
+    return ([min(low[i] for low, _ in boxes) for i in range(3)], [max(high[i] for _, high in boxes) for i in range(3)])
 
 
 def fitted(turn: kinds.Vector, size: Sequence[int], scale: Any, far: float, tree: kinds.Tree) -> View:
