@@ -4,7 +4,7 @@ from __future__ import annotations
 import functools
 import os
 import re
-from typing import Any, NamedTuple, Optional, Sequence
+from typing import Any, Callable, Iterator, NamedTuple, Optional, Sequence
 
 from pxplanes import ends
 from pxplanes.errors import Trouble
@@ -84,16 +84,9 @@ class Reader:
 
     def value(self, depth: int = 0, is_time: bool = False) -> Any:
         kind, word = self.tokens[self.at][:2] if self.at < len(self.tokens) else (0, "")
-        if word == "[" and depth < DEEPEST:
-            self.take()
-            values = []
-            while self.peek() != "]":
-                values.append(self.value(depth + 1))
-                if self.peek() != "]":
-                    self.take(",")
-            self.take("]")
-            return values
         self.take()
+        if word == "[" and depth < DEEPEST:
+            return list(self.listed("]", lambda: self.value(depth + 1)))
         if kind == 2:
             number = float(word)
             if not abs(number) <= 1e9 and not is_time:
@@ -103,20 +96,25 @@ class Reader:
             return {"true": True, "false": False, "undef": None}.get(word, word)
         raise self.bad("a value is expected, and not %s" % word)
 
+    def listed(self, end: str, item: Callable[[], Any]) -> Iterator[Any]:
+        """The items up to an end, with commas between them."""
+        while self.peek() != end:
+            yield item()
+            if self.peek() != end:
+                self.take(",")
+        self.take(end)
+
+    def argument(self) -> tuple[str, Any]:
+        name = ""
+        if self.at + 1 < len(self.tokens) and self.tokens[self.at + 1][1] == "=":
+            name = self.take()
+            self.take("=")
+        return name, self.value(is_time=name == "timestamp")
+
     def arguments(self) -> dict[Any, Any]:
         """The arguments by name; those without one by their place."""
-        found: dict[Any, Any] = {}
         self.take("(")
-        while self.peek() != ")":
-            name: Any = len(found)
-            if self.at + 1 < len(self.tokens) and self.tokens[self.at + 1][1] == "=":
-                name = self.take()
-                self.take("=")
-            found[name] = self.value(is_time=name == "timestamp")
-            if self.peek() != ")":
-                self.take(",")
-        self.take(")")
-        return found
+        return {name or at: value for at, (name, value) in enumerate(self.listed(")", self.argument))}
 
     def statements(self, end: Any, place: Any) -> list[Any]:
         trees = []
@@ -195,13 +193,10 @@ class Reader:
 
     def skipped(self) -> None:
         """Passes over the arguments and the body of a node, whose name is taken."""
-        depth = 0
-        while depth or self.peek() not in (";", "{"):
-            depth += {"(": 1, "{": 1, ")": -1, "}": -1}.get(self.take(), 0)
-        if self.take() == "{":
-            depth = 1
-            while depth:
-                depth += {"{": 1, "}": -1}.get(self.take(), 0)
+        depth, word = 0, ""
+        while depth or word not in (";", "}"):
+            word = self.take()
+            depth += {"(": 1, "{": 1, ")": -1, "}": -1}.get(word, 0)
 
     def changed(self, name: str, found: Any, place: Place) -> Place:
         if name == "multmatrix":
