@@ -27,8 +27,9 @@ TOP = os.path.realpath(os.path.join(os.path.dirname(__file__), "..", ".."))
 SIZE, SECONDS, NEARER = (96, 72), 60, 0.004
 RAW = np.dtype([("normal", "<f4", 3), ("corners", "<f4", (3, 3)), ("more", "<u2")])
 EXAMPLES = "/usr/share/openscad/examples"
-# Those that make nothing, or flat shapes alone, so that OpenSCAD has no mesh of them.
-NO_SOLIDS = ("echo", "example015", "list_comprehensions", "module_recursion", "polygon_areas", "recursion")
+# Those that make nothing, or flat shapes alone, so that OpenSCAD has no mesh of them; example023 needs the library MCAD.
+NO_SOLIDS = ("echo", "example015", "example023", "list_comprehensions", "module_recursion", "polygon_areas",
+             "recursion")
 WAYS = ("--draw", "scene")
 WORDS = ("right", "refused", "wrong", "timed out")
 
