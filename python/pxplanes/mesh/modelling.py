@@ -49,13 +49,13 @@ def value(form: kinds.Form, place: kinds.Vector) -> float:
 
 def rounded(form: kinds.Form, parts: int, low: Any, high: Any) -> tuple[tuple[int, int, int], float]:
     """A plane in whole parts of a cell, true in the middle of these corners; and by how many cells
-    it is off at the worst of them."""
+    it is off at the worst of them, without the last digits, which differ where it is off by as many."""
     a, b = (round(part * parts) for part in form[:2])
     middle = [(one + other) / 2 for one, other in zip(low[:2], high)]
     c = round(value(form, middle) * parts - a * middle[0] - b * middle[1])
     corners = [(x, y) for x in (low[0], high[0]) for y in (low[1], high[1])]
     off = max(abs(value((a, b, c), corner) / parts - value(form, corner)) for corner in corners)
-    return (a, b, c), off
+    return (a, b, c), round(off, 9)
 
 
 def whole_side(form: kinds.Form) -> tuple[int, ...]:
