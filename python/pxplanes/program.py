@@ -127,12 +127,12 @@ def answer(program: str, words: Sequence[str | bytes], text: bytes, seconds: flo
     return done.returncode, done.stdout, done.stderr.decode("latin-1").strip("\n")
 
 
-def rendered(program: str, text: bytes) -> bytes:
-    """Both maps of a scene; `Trouble` with the program's note if it is refused."""
-    status, output, note = answer(program, ["render"], text)
+def output(program: str, word: str, text: bytes) -> bytes:
+    """What a word writes; `Trouble` with the program's note if the text is refused."""
+    status, found, note = answer(program, [word], text)
     if status != 0:
-        raise Trouble(note or "the program ends with %d" % status)
-    return output
+        raise Trouble(note or "the program ends with status %d" % status)
+    return found
 
 
 def cost(program: str, text: bytes) -> tuple[int, int]:

@@ -43,8 +43,7 @@ def judged(tree, **options):
 
 def judged_scene(tree, text, choices, view, rounded=0.0):
     """The same of a tree's one scene, drawn by the program; its depths, and what the rays have."""
-    status, output, note = programs.answer(programs.needed(None), ["render"], text.encode())
-    assert status == 0, note
+    output = programs.output(programs.needed(None), "render", text.encode())
     lens = columns.lens_of(view)
     leaves = [leaf for leaf, _ in solids.leaves(tree)]
     away = ray_judge.distances(tree, leaves, [columns.corners_of(leaf) for leaf in leaves], lens, choices.size)

@@ -537,7 +537,7 @@ def text_of(window: Window, bits: Sequence[int], columns: list[Column]) -> str:
 
 def drawn(scene: Scene, path: str) -> tuple[Array, Array]:
     """Both maps of a scene by the program."""
-    output, maps = program.rendered(path, scene.text.encode()), []
+    output, maps = program.output(path, "render", scene.text.encode()), []
     for _ in range(2):
         head = output.split(b"\n", 3)
         width, height = map(int, head[1].split())

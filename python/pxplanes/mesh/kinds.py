@@ -9,7 +9,6 @@ Vector = Sequence[float]
 Points = Sequence[Vector]
 Facets = Sequence[Sequence[int]]              # the numbers of the points of each facet
 Form = Sequence[float]                        # A, B and C of a plane in the picture
-Corners = tuple[Vector, Vector]               # the least and the greatest corner of a box
 Matrix = Sequence[Sequence[Any]]              # three rows of four, in double precision or rational
 Colour = Optional[Sequence[int]]
 Tree = Union[Any, tuple[str, list[Any]], None]  # a leaf, an expression, or nothing

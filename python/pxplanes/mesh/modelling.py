@@ -560,4 +560,4 @@ def drawn_as_one(tree: kinds.Tree, choices: Choices) -> Optional[bytes]:
         return None
     text, worst = text_of(tree, laid, view, choices)
     tell(checked(text), view, worst, choices, wanted)
-    return program.rendered(program.needed(None), text.encode())
+    return program.output(program.needed(None), "render", text.encode())

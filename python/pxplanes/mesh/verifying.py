@@ -157,6 +157,6 @@ def drawer(path: str) -> Any:
     """What draws the depths of a scene's text, by the program at a path."""
     def draw(text: Union[str, bytes]) -> Any:
         text = text if isinstance(text, bytes) else text.encode()
-        return netpbm.images(program.rendered(path, text))[0].numbers()
+        return netpbm.images(program.output(path, "render", text))[0].numbers()
 
     return draw
