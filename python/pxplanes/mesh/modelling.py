@@ -400,9 +400,10 @@ def in_perspective(choices: Any, tree: kinds.Tree) -> Any:
     planes = [plane for solid, _ in solids.leaves(tree) for plane in solid.planes]
     bits = wanted_bits(choices.size, min(limits.MAX_FACES, len(solids.leaves(tree)) + len(planes)))
     view = before_camera(choices, bits, tree)
-    halves = [(*view.half_space(plane), view.face(plane, ())) for plane in planes]
-    steepest = max((steepness(form, 2 ** bits[1]) for kind, form, face in halves if kind != "side" and face
-                    and steepness(form, 2 ** bits[1]) > 1 and pixel_of(form, face, view.size)), default=1)
+    halves = [view.half_space(plane) for plane in planes if view.face(plane, ())]
+    times = [steepness(form, 2 ** bits[1]) for kind, form in halves if kind != "side"]
+    # (what fewer bits do not help is a side, or refused)
+    steepest = max((own for own in times if own <= 2 ** (bits[0] - LEAST_DEPTH_BITS)), default=1)
     if steepest > 1:
         bits[0] = max(LEAST_DEPTH_BITS, bits[0] - math.ceil(math.log2(steepest)))
         view = before_camera(choices, bits, tree)
