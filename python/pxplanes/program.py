@@ -52,6 +52,14 @@ def answer(program: str, words: Sequence[str | bytes], text: bytes, seconds: flo
     return done.returncode, done.stdout, done.stderr.decode("latin-1").strip("\n")
 
 
+def output(program: str, word: str, text: bytes) -> bytes:
+    """What a word writes; `Trouble` with the program's note if the text is refused."""
+    status, found, note = answer(program, [word], text)
+    if status != 0:
+        raise Trouble(note or "the program ends with status %d" % status)
+    return found
+
+
 def cost(program: str, text: bytes) -> tuple[int, int]:
     """How many operations and clocks a scene takes; `Bad` with the program's note, refused."""
     status, output, note = answer(program, ["cost"], text)

@@ -4,6 +4,7 @@ is of the tool."""
 import collections
 import concurrent.futures
 import glob
+import itertools
 import json
 import math
 import os
@@ -26,6 +27,9 @@ TOP = os.path.realpath(os.path.join(os.path.dirname(__file__), "..", ".."))
 SIZE, SECONDS, NEARER = (96, 72), 60, 0.004
 RAW = np.dtype([("normal", "<f4", 3), ("corners", "<f4", (3, 3)), ("more", "<u2")])
 EXAMPLES = "/usr/share/openscad/examples"
+# Those that make nothing, or flat shapes alone, so that OpenSCAD has no mesh of them; example023 needs the library MCAD.
+NO_SOLIDS = ("echo", "example015", "example023", "list_comprehensions", "module_recursion", "polygon_areas",
+             "recursion")
 WAYS = ("--draw", "scene")
 WORDS = ("right", "refused", "wrong", "timed out")
 
@@ -182,13 +186,14 @@ def subject_of_file(path, form, seed):
 
 
 def subjects_of_files(count):
-    """Meshes that OpenSCAD ships or makes of its examples and of those of this repository, in one form after
+    """So many meshes that OpenSCAD ships or makes of its examples and of those of this repository, in one form after
     another."""
     paths = sorted(glob.glob(EXAMPLES + "/*/*.stl")) + sorted(glob.glob(EXAMPLES + "/*/*.scad"))
     paths += sorted(glob.glob(os.path.join(TOP, "gallery", "*.csg"))) + [os.path.join(TOP, "docs/scenes/bracket.scad")]
     forms = ("words", "obj", "stl", "off", "3mf", "glb")
-    return [subject_of_file(os.path.realpath(paths[at % len(paths)]), forms[(at + at // len(paths)) % len(forms)], at)
-            for at in range(count)]
+    every = ((paths[at % len(paths)], forms[(at + at // len(paths)) % len(forms)], at) for at in itertools.count())
+    kept = ((path, form, at) for path, form, at in every if os.path.basename(path)[:-5] not in NO_SOLIDS)
+    return [subject_of_file(os.path.realpath(path), form, at) for path, form, at in itertools.islice(kept, count)]
 
 
 # ---- judging ----
@@ -314,14 +319,16 @@ def word_of(path, way, words, folder, camera, ends, away, triangles):
 def rows_at(work):
     """The rows of a program, or of a mesh, by its number; of every fifth as one scene too."""
     is_program, number = work
-    subject = subject_of_program(number) if is_program else subjects_of_files(number + 1)[number]
-    return judged(subject, WAYS if number % 5 == 0 else WAYS[:1])
+    subject = subject_of_program(number) if is_program else subjects_of_files(number)[-1]
+    return judged(subject, WAYS if subject.seed % 5 == 0 else WAYS[:1])
 
 
 def rows_of(programs, meshes, known, jobs):
-    """The rows of so many programs and meshes, but for those that are known by name, as they come."""
-    works = [(True, number) for number in range(1, programs + 1) if "program %d" % number not in known]
-    works += [(False, own.seed) for own in subjects_of_files(meshes) if own.name not in known]
+    """The rows of programs and meshes, each from a number to another, but for those that are known by name, as they
+    come."""
+    works = [(True, number) for number in range(programs[0], programs[1] + 1) if "program %d" % number not in known]
+    works += [(False, number) for number, own in enumerate(subjects_of_files(meshes[1]), 1)
+              if number >= meshes[0] and own.name not in known]
     with concurrent.futures.ProcessPoolExecutor(jobs) as pool:
         for done in concurrent.futures.as_completed([pool.submit(rows_at, work) for work in works]):
             yield from done.result()

@@ -78,7 +78,7 @@ def hits(triangles, origins, ways, ray):
     det, q = (u * h).sum(1), np.cross(s, u)
     with np.errstate(divide="ignore", invalid="ignore"):
         a, b, t = (s * h).sum(1) / det, (ways * q).sum(1) / det, (v * q).sum(1) / det
-    met = (det != 0) & (a >= -THIN) & (b >= -THIN) & (a + b <= 1 + THIN)
+        met = (det != 0) & (a >= -THIN) & (b >= -THIN) & (a + b <= 1 + THIN)
     return ray[met], t[met], np.where(det[met] > 0, 1, -1)
 
 

@@ -4,6 +4,7 @@ import os
 import random
 import shutil
 import subprocess
+from fractions import Fraction
 
 import pytest
 import support
@@ -13,7 +14,7 @@ import judged as judged_models
 import ray_judge
 from pxplanes.errors import Trouble
 from pxplanes.image import netpbm
-from pxplanes.mesh import columns, csg, exports, facets, modelling, solids, turns
+from pxplanes.mesh import columns, csg, exact, exports, facets, modelling, solids, turns
 from pxplanes import program as programs
 
 SIZE = (36, 27)
@@ -42,8 +43,7 @@ def judged(tree, **options):
 
 def judged_scene(tree, text, choices, view, rounded=0.0):
     """The same of a tree's one scene, drawn by the program; its depths, and what the rays have."""
-    status, output, note = programs.answer(programs.needed(None), ["render"], text.encode())
-    assert status == 0, note
+    output = programs.output(programs.needed(None), "render", text.encode())
     lens = columns.lens_of(view)
     leaves = [leaf for leaf, _ in solids.leaves(tree)]
     away = ray_judge.distances(tree, leaves, [columns.corners_of(leaf) for leaf in leaves], lens, choices.size)
@@ -147,6 +147,66 @@ def test_a_wall_too_steep_for_a_front_is_no_side():
     assert not bad and there > 2000
 
 
+def test_a_long_wall_that_is_nearly_a_side_is_none():
+    """It leans by 0.064 over a length of 10^8, which is 1.4 pixels."""
+    tree = tree_of("cylinder($fn = 4, $fa = 12, $fs = 2, h = 100000000, r1 = 2, r2 = 1.91, center = false);")
+    for turn in ((0, 0, 0), (180, 0, 0)):
+        choices = modelling.Choices(view=turn, size=(128, 96))
+        view = modelling.parallel(tree, choices)
+        text, (rounded, _) = modelling.scene_of(tree, view, choices)
+        (bad, there), *_ = judged_scene(tree, text, choices, view, rounded)
+        assert not bad and there > 3000
+
+
+@pytest.mark.parametrize("radius", [8, 8.2])
+def test_a_steep_wall_at_no_pixel_is_a_side_where_its_face_is(radius):
+    """Straight from above, `--depth 16 7`: the wall leans by a tenth of a pixel far from the eye. Its plane, continued
+    to the eye, is most of a pixel away."""
+    tree = tree_of("union() { multmatrix([[1,0,0,14],[0,1,0,0],[0,0,1,99],[0,0,0,1]]) { cube(size = [1, 1, 1], center "
+                   "= false); } cylinder($fn = 4, $fa = 12, $fs = 2, h = 10, r1 = %r, r2 = %r, center = false); }"
+                   % (radius, radius - 0.03))
+    choices = modelling.Choices(view=(0, 0, 45), size=(128, 96), depth=(16, 7), scale=4)
+    view = modelling.parallel(tree, choices)
+    text, (rounded, _) = modelling.scene_of(tree, view, choices)
+    (bad, there), *_ = judged_scene(tree, text, choices, view, rounded)
+    assert text.count("\nside ") == 8 and not bad and there > 2000
+
+
+def test_a_face_just_below_the_eye_is_no_side():
+    """Ten million away from the origin the eye is 0.009 above a box, which is 1.5 pixels."""
+    tree = tree_of(CUBE % (10, 1e7, 10, 5.5, 10, -5))
+    choices = modelling.Choices(eye=(1e7, 0, 0.009), at=(1e7, 1, 0.009), fov=60, near=0.4, far=20, size=(128, 97))
+    view, _ = modelling.in_perspective(choices, tree)
+    text, (rounded, _) = modelling.scene_of(tree, view, choices)
+    (bad, there), *_ = judged_scene(tree, text, choices, view, rounded)
+    assert not bad and there > 3000
+
+
+def test_decimals_and_doubles_are_taken_exactly():
+    """Three points above a line of decimals, whose doubles are not on one; and the doubles themselves as they are."""
+    wall = [[0.1, 0.3, 0.0], [0.3, 0.9, 0.0], [0.2, 0.6, 1.0]]
+    normal = [0.9486832980505138, -0.31622776601683794, 0.0]
+    assert exact.Points(wall).plane(normal, 0.0, (0, 1, 2)).along([(0, 0, 1)]) == [0]
+    bent = wall + [[0.1 + 0.2, 0, 0]]                    # a number of 17 digits: all are doubles
+    way, = exact.Points(bent).plane(normal, 0.0, (0, 1, 2)).along([(0, 0, 1)])
+    p, q, r = [[Fraction(part) for part in point] for point in wall]
+    assert 0 < abs(way) < 1e-15 and (way > 0) == ((q[0] - p[0]) * (r[1] - p[1]) > (q[1] - p[1]) * (r[0] - p[0]))
+    assert abs(exact.Points(wall).plane(normal, 0.0, (0, 1, 2)).room((1.0, 3.0, 9.0))) == 0
+
+
+@pytest.mark.parametrize("three", [(3, 4, 5), (20, 21, 29), (696, 697, 985)])
+def test_a_turned_plane_is_exact(three):
+    """A cube that is turned by decimals, or by what 985 has of them, and stretched, from the way of one of its
+    walls."""
+    sine, cosine, whole = three
+    cube = tree_of("multmatrix([[%r,%r,0,7.3],[%r,%r,0,0.1],[0,0,3.7,0],[0,0,0,1]]) { cube(size = [1, 2, 3], center = "
+                   "true); }" % (cosine / whole, -sine / whole, sine / whole, cosine / whole))
+    ways = [plane.along([(-sine, cosine, 0), (0, 0, 1)]) for plane in cube.planes]
+    is_decimal = whole == 5
+    assert sum(way[0] == 0 for way in ways) == (4 if is_decimal else 2) and sum(way[1] == 0 for way in ways) == 4
+    assert all(min(abs(way[0]), abs(abs(way[0]) - whole)) < 1e-12 * whole for way in ways)
+
+
 def test_a_bar_with_many_holes_is_one_scene(tmp_path):
     holes = "".join("multmatrix([[1,0,0,%g],[0,1,0,5],[0,0,1,-1],[0,0,0,1]]) { cylinder($fn = 64, $fa = 12, $fs = 2, "
                     "h = 12, r1 = 3, r2 = 3, "
@@ -179,7 +239,7 @@ def test_the_volume_of_parts_is_compared():
     assert facets.exact_volume(polygons) == 6 * 8
     planes = facets.planes(cube, sides)
     facets.same_volume(polygons, [facets.sides_of(planes, 1e-6)], 1e-6)
-    half = [(normal, min(far, 1) if normal[0] > 0.5 else far) for normal, far in planes]
+    half = [(normal, min(far, 1) if normal[0] > 0.5 else far) for normal, far, _ in planes]
     with pytest.raises(Trouble, match="a volume of 4 as convex parts and of 8 as it is"):
         facets.same_volume(polygons, [facets.sides_of(half, 1e-6)], 1e-6)
 

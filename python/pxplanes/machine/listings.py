@@ -51,10 +51,7 @@ class Listing:
         self.ends: list[int] = [each.clock for each in course[1:]] + [first.clocks] * bool(course)
 
     def of_scene(self, scene: bytes) -> None:
-        status, listing, note = program.answer(program.needed(None), ["list"], scene)
-        if status != 0:
-            raise Trouble(note or "the program ends with status %d" % status)
-        self.nx, self.ny, self.operations = micros.read_listing(listing)
+        self.nx, self.ny, self.operations = micros.read_listing(program.output(program.needed(None), "list", scene))
         self.lines = list(range(FIRST_LINE, FIRST_LINE + len(self.operations)))
         levels = self.nx + self.ny
         self.ends = list(itertools.accumulate(micros.clocks_of(*operation, levels) for operation in self.operations))

@@ -65,10 +65,7 @@ def held(built: str, scene: bytes, commands: Sequence[bytes]) -> list[list[bytes
     text = scene + b"".join(command + b"\n" for command in commands)
     if len(text) > limits.MAX_TEXT_BYTES:
         raise Trouble("this takes more command lines than a text of %d bytes has" % limits.MAX_TEXT_BYTES)
-    status, output, note = program.answer(built, ["debug"], text)
-    if status != 0:
-        raise Trouble(note or "the program ends with status %d" % status)
-    left, answers, found = iter(output.split(b"\n")), Answers(), []
+    left, answers, found = iter(program.output(built, "debug", text).split(b"\n")), Answers(), []
     for command in commands:
         found.append(answers.taken(command, lambda: next(left, b"")))
         if is_quit(command):

@@ -11,7 +11,7 @@ import re
 from typing import Any, Optional, Sequence
 
 from pxplanes.errors import Trouble
-from pxplanes.mesh import facets, kinds, turns
+from pxplanes.mesh import exact, facets, kinds, turns
 
 FORM = "# camera eye %s turn %s fov %s near %s far %s"
 NUMBER = rb"([-+.0-9eE]+)"
@@ -57,8 +57,7 @@ class Camera:
     def place(self, seen: Any) -> tuple[float, float, float]:
         """The pixel and the depth of a point before the eye."""
         right, away, up = seen
-        return (self.cx + self.focal * right / away, self.cy - self.focal * up / away,
-                self.distances.depth_at(away))
+        return (self.cx + self.focal * right / away, self.cy - self.focal * up / away, self.distances.depth_at(away))
 
     def point(self, x: float, y: float, depth: float) -> list[float]:
         """The point of the model at a pixel's depth."""
@@ -66,28 +65,17 @@ class Camera:
         seen = (x - self.cx) * away / self.focal, away, (self.cy - y) * away / self.focal
         return [own + facets.dot(seen, [row[i] for row in self.rows]) for i, own in enumerate(self.eye)]
 
-    def half_space(self, normal: kinds.Vector, far: float) -> tuple[str, tuple[float, ...]]:
-        """The kind of a half-space `normal * p <= far` of the model, and A, B, C of its plane in
-        cells. One whose plane the eye is on is a side, in any unit."""
-        right, away, up = turns.turned(self.rows, normal)
-        room = far - facets.dot(normal, self.eye)
+    def half_space(self, plane: exact.Plane) -> tuple[str, tuple[float, ...]]:
+        """The kind of a half-space of the model, and A, B, C of its plane in cells. One whose plane the eye is on,
+        exactly, is a side, in any unit."""
+        right, away, up = plane.along(self.rows)
+        room = plane.room(self.eye)
         a, b = right / self.focal, -up / self.focal
         form = a, b, away - a * self.cx - b * self.cy
-        if abs(room) < 1e-9 * (abs(far) + facets.lengthwise(self.eye) + 1e-9):
+        if room == 0:
             return "side", tuple(-part for part in form)
         a, b, c = (-self.distances.scale / room * part for part in form)
         return "back" if room > 0 else "front", (a, b, c + self.distances.scale / self.distances.near)
-
-    def plane(self, kind: str, form: kinds.Form) -> tuple[list[float], float]:
-        """The half-space of the model, normal and distance, of a scene's plane in cells."""
-        a, b, c = form
-        zero = 0 if kind == "side" else self.distances.scale / self.distances.near
-        away = c - zero + a * self.cx + b * self.cy
-        seen = [-part if kind == "back" or kind == "side" else part
-                for part in (a * self.focal, away, -b * self.focal)]
-        room = {"side": 0, "front": -self.distances.scale, "back": self.distances.scale}[kind]
-        normal = [facets.dot(seen, [row[i] for row in self.rows]) for i in range(3)]
-        return normal, room + facets.dot(normal, self.eye)
 
 
 def focal_of(fov: float, size: Sequence[int]) -> float:

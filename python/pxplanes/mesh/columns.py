@@ -138,17 +138,14 @@ class Before:
         within = in_view(lens, seen, max(size) / 2)[0][..., 2]
         if not within.size:
             within = np.array([most])
-        near, far = ends
         self.least, self.most = float(within.min()), float(within.max())
-        far = far or (1 + perspective.ROOM) * self.most
-        near = near or (1 - perspective.ROOM) * max(self.least, perspective.NEAREST * far)
-        self.camera = cameras.Camera(eye, turn, fov, size, cameras.Distances(near, far, cells))
+        ends = perspective.ends_of(self.least, self.most, ends)
+        self.camera = cameras.Camera(eye, turn, fov, size, cameras.Distances(*ends, cells))
 
     def cut_off(self) -> list[str]:
         distances = self.camera.distances
         return ["the near plane cuts the model"] * (self.least < distances.near) + [
-            "the model goes on beyond the far plane"] * (
-            self.most > distances.far)
+            "the model goes on beyond the far plane"] * (self.most > distances.far)
 
     def why_empty(self) -> str:
         return "nothing of the model is before the camera, or the rest of it is smaller than a pixel"
@@ -185,50 +182,15 @@ def lens_of(view: Any) -> Lens:
     return Lens(rows, at @ rows, middle, view.scale, 0.0, view.cells, False)
 
 
-def is_closed(corners: Array) -> bool:
-    """Whether each edge is passed as often one way as the other: a sum of hashes over all edges is 0. False also for
-    parts that meet without sharing corners."""
-    bits = (corners + 0.0).view(np.uint64)
-    with np.errstate(over="ignore"):
-        one = mixed(bits[..., 0] * np.uint64(0x9E3779B97F4A7C15)
-                    ^ mixed(bits[..., 1] * np.uint64(0xC2B2AE3D27D4EB4F) ^ mixed(bits[..., 2])))
-        two = np.roll(one, -1, 1)
-        return int((mixed(one * np.uint64(3) + two) - mixed(two * np.uint64(3) + one)).sum(dtype=np.uint64)) == 0
-
-
-def mixed(h: Array) -> Array:
-    h = (h ^ (h >> np.uint64(30))) * np.uint64(0xBF58476D1CE4E5B9)
-    h = (h ^ (h >> np.uint64(27))) * np.uint64(0x94D049BB133111EB)
-    out: Array = h ^ (h >> np.uint64(31))
-    return out
-
-
-def open_place(corners: Array) -> Array:
-    """A corner of an edge that is not passed as often one way as the other, of a mesh that is not closed."""
-    points, numbers = np.unique(corners.reshape(-1, 3), axis=0, return_inverse=True)
+def open_place(corners: Array) -> Optional[Array]:
+    """A corner of an edge that is not passed as often one way as the other; None in a closed mesh. Parts that meet
+    without sharing corners are open."""
+    points, numbers = np.unique(corners.reshape(-1, 3) + 0.0, axis=0, return_inverse=True)
     edges = numbers.reshape(-1, 3)
     ways = np.stack([edges, np.roll(edges, -1, 1)], -1).reshape(-1, 2)
-    key = ways.min(1) * len(points) + ways.max(1)
-    _, which = np.unique(key, return_inverse=True)
-    total = np.bincount(which, np.sign(ways[:, 1] - ways[:, 0]))
-    found: Array = points[ways[np.flatnonzero(total[which])[0], 0]]
-    return found
-
-
-def clipped(ring: list[Array], planes: Sequence[tuple[tuple[float, float, float], float]]) -> list[Array]:
-    """What half-spaces n . p >= d leave of a polygon. A crossing is computed from the lesser corner to the greater, so
-    that the neighbour across an edge gets the same point to the last bit."""
-    for normal, least in planes:
-        out = []
-        for a, b in zip(ring, ring[1:] + ring[:1]):
-            at, bt = np.dot(normal, a) - least, np.dot(normal, b) - least
-            if at >= 0:
-                out.append(a)
-            if (at >= 0) != (bt >= 0) and at != 0 and bt != 0:
-                (u, ut), (v, vt) = sorted([(tuple(a), at), (tuple(b), bt)])
-                out.append(np.array(u) + (np.array(v) - np.array(u)) * (ut / (ut - vt)))
-        ring = out
-    return ring
+    _, which = np.unique(ways.min(1) * len(points) + ways.max(1), return_inverse=True)
+    odd = np.flatnonzero(np.bincount(which, np.sign(ways[:, 1] - ways[:, 0]))[which])
+    return points[ways[odd[0], 0]] if len(odd) else None
 
 
 def in_view(lens: Lens, seen: Array, guard: float = GUARD) -> tuple[Array, Array, bool]:
@@ -239,15 +201,13 @@ def in_view(lens: Lens, seen: Array, guard: float = GUARD) -> tuple[Array, Array
     before = (seen[..., 2] < lens.near) if lens.perspective else np.zeros(seen.shape[:2], bool)
     bad = flat.any((1, 2)) | before.any(1)
     numbers = np.arange(len(seen))
-    if lens.perspective:
-        planes = [((0.0, 0.0, 1.0), lens.near)] + [((s, 0.0, reach), 0.0) for s in (1, -1)] + [
-            ((0.0, s, reach), 0.0) for s in (1, -1)]
-    else:
-        planes = [((float(s), 0.0, 0.0), -reach) for s in (1, -1)] + [((0.0, float(s), 0.0), -reach) for s in (1, -1)]
+    slope, far = (reach, 0.0) if lens.perspective else (0.0, reach)
+    planes = [((*way, -slope), far) for way in ((1.0, 0.0), (-1.0, 0.0), (0.0, 1.0), (0.0, -1.0))]
+    planes += [((0.0, 0.0, -1.0), -lens.near)] if lens.perspective else []
     more, own = [], []
-    beyond = np.stack([(seen @ np.array(normal) < least).all(1) for normal, least in planes]).any(0)
+    beyond = np.stack([(seen @ np.array(normal) > far).all(1) for normal, far in planes]).any(0)
     for number in np.flatnonzero(bad & ~beyond):
-        ring = clipped(list(seen[number]), planes)
+        ring = perspective.clipped(seen[number].tolist(), planes)
         more += [(ring[0], ring[i], ring[i + 1]) for i in range(1, len(ring) - 1)]
         own += [number] * max(0, len(ring) - 2)
     kept = seen[~bad]
@@ -551,11 +511,8 @@ def scenes_of(columns: list[Column], bits: Sequence[int]) -> list[Scene]:
     boxes = np.array([column.box for column in columns])
     big = ((boxes[:, 2:] - boxes[:, :2]) > BIG).any(1)
     centre = (boxes[:, :2] + boxes[:, 2:]) // 2
-    key = np.zeros(len(boxes), np.int64)
-    for bit in range(10):
-        key |= (centre[:, 0] >> bit & 1) << 2 * bit | (centre[:, 1] >> bit & 1) << 2 * bit + 1
-    order = np.lexsort((key, big))
-    out = []
+    key = sum((centre[:, axis] >> bit & 1) << 2 * bit + axis for bit in range(10) for axis in (0, 1))
+    order, out = np.argsort(key, kind="stable"), []
     for half in (order[~big[order]], order[big[order]]):
         for i in range(0, len(half), limits.MAX_SOLIDS):
             part = half[i:i + limits.MAX_SOLIDS]
@@ -575,20 +532,12 @@ def text_of(window: Window, bits: Sequence[int], columns: list[Column]) -> str:
             # a side that holds all over the window is left out; one that passes through it keeps C within the limit
             if kind != "side" or c + min(a * x0, a * x1) + min(b * y0, b * y1) < 0:
                 lines.append("%s %d %d %d" % (kind, a, b, c + a * x0 + b * y0))
-    return "\n".join(lines + ["show " + union(["t%d" % at for at in range(len(columns))]), "end", ""])
-
-
-def union(names: list[str]) -> str:
-    half = len(names) // 2
-    return names[0] if len(names) == 1 else "(%s + %s)" % (union(names[:half]), union(names[half:]))
+    return "\n".join(lines + ["show " + solids.halved("+", ["t%d" % at for at in range(len(columns))]), "end", ""])
 
 
 def drawn(scene: Scene, path: str) -> tuple[Array, Array]:
     """Both maps of a scene by the program."""
-    status, output, note = program.answer(path, ["render"], scene.text.encode())
-    if status != 0:
-        raise Trouble(note or "the program ends with %d" % status)
-    maps = []
+    output, maps = program.output(path, "render", scene.text.encode()), []
     for _ in range(2):
         head = output.split(b"\n", 3)
         width, height = map(int, head[1].split())
@@ -643,9 +592,10 @@ def draw(tree: Any, leaves: Sequence[Any], view: Any, size: Sequence[int], bits:
     seen, numbers, is_before = in_view(lens, lens.seen(corners))
     is_cut = is_before or has_cuts(tree)
     for leaf in leaves if is_cut else ():
-        if not is_closed(corners_of(leaf)):
+        gap = open_place(corners_of(leaf))
+        if gap is not None:
             raise Trouble("%s is not closed near %.6g %.6g %.6g, and what is cut or intersected must be" % (
-                leaf.name(), *open_place(corners_of(leaf))))
+                leaf.name(), *gap))
     triangles = Triangles(lens.placed(seen), numbers, size, not is_cut)
     if is_cut:
         best, who, caps = first_inside(tree, leaves, owner, triangles, size)

@@ -5,8 +5,6 @@ from __future__ import annotations
 import math
 from typing import Any
 
-from pxplanes.mesh import facets, kinds
-
 WHOLE, FOREVER = 1e-6, 2.0 ** 40
 
 
@@ -74,9 +72,3 @@ def piece_of(corners: Any, y: float) -> Any:
         return None
     (left, depth), (right, other) = sorted(ends.values())
     return left, right, depth, (other - depth) / (right - left), 1 if ends[True][0] < ends[False][0] else -1
-
-
-def outwards(points: kinds.Points, sides: Any) -> tuple[Any, bool]:
-    """The facets, turned where they look inwards; and whether they were."""
-    is_inwards = bool(sides) and facets.volume(points, sides) < 0
-    return ([side[::-1] for side in sides] if is_inwards else sides), is_inwards

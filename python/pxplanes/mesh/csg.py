@@ -4,11 +4,11 @@ from __future__ import annotations
 import functools
 import os
 import re
-from typing import Any, Optional, Sequence
+from typing import Any, Callable, Iterator, NamedTuple, Optional, Sequence
 
 from pxplanes import ends
 from pxplanes.errors import Trouble
-from pxplanes.mesh import kinds, mesh_files, openscad, primitives, shaping, solids
+from pxplanes.mesh import exact, facets, kinds, mesh_files, openscad, primitives, shaping, solids
 from pxplanes.mesh.solids import AS_IS, joined
 
 TOKEN = re.compile(r'\s+|//[^\n]*|/\*.*?\*/|([A-Za-z_$][A-Za-z0-9_$]*)|'
@@ -36,19 +36,21 @@ class Flat:
         self.points = [(x, y, 0.0) for x, y in corners]
 
 
-class Place:
+class Place(NamedTuple):
     """Where a statement is: its matrix and colour, whether shapes are flat there, how deep it
     is, and whether another node makes a shape of it."""
 
-    def __init__(self, matrix: kinds.Matrix = AS_IS, colour: kinds.Colour = None, flat: bool = False, depth: int = 0,
-                 is_inside: bool = False) -> None:
-        self.matrix, self.colour, self.flat, self.depth, self.is_inside = matrix, colour, flat, depth, is_inside
+    matrix: kinds.Matrix = AS_IS
+    colour: kinds.Colour = None
+    flat: bool = False
+    depth: int = 0
+    is_inside: bool = False
 
-    def below(self, matrix: Optional[kinds.Matrix] = None, colour: kinds.Colour = None) -> "Place":
-        return Place(matrix or self.matrix, colour or self.colour, self.flat, self.depth + 1, self.is_inside)
+    def below(self, **changes: Any) -> Place:
+        return self._replace(depth=self.depth + 1, **changes)
 
     def inside(self, flat: bool) -> Place:
-        return Place(AS_IS, self.colour, flat, self.depth + 1, True)
+        return self.below(matrix=AS_IS, flat=flat, is_inside=True)
 
 
 class Reader:
@@ -82,16 +84,9 @@ class Reader:
 
     def value(self, depth: int = 0, is_time: bool = False) -> Any:
         kind, word = self.tokens[self.at][:2] if self.at < len(self.tokens) else (0, "")
-        if word == "[" and depth < DEEPEST:
-            self.take()
-            values = []
-            while self.peek() != "]":
-                values.append(self.value(depth + 1))
-                if self.peek() != "]":
-                    self.take(",")
-            self.take("]")
-            return values
         self.take()
+        if word == "[" and depth < DEEPEST:
+            return list(self.listed("]", lambda: self.value(depth + 1)))
         if kind == 2:
             number = float(word)
             if not abs(number) <= 1e9 and not is_time:
@@ -101,20 +96,25 @@ class Reader:
             return {"true": True, "false": False, "undef": None}.get(word, word)
         raise self.bad("a value is expected, and not %s" % word)
 
+    def listed(self, end: str, item: Callable[[], Any]) -> Iterator[Any]:
+        """The items up to an end, with commas between them."""
+        while self.peek() != end:
+            yield item()
+            if self.peek() != end:
+                self.take(",")
+        self.take(end)
+
+    def argument(self) -> tuple[str, Any]:
+        name = ""
+        if self.at + 1 < len(self.tokens) and self.tokens[self.at + 1][1] == "=":
+            name = self.take()
+            self.take("=")
+        return name, self.value(is_time=name == "timestamp")
+
     def arguments(self) -> dict[Any, Any]:
         """The arguments by name; those without one by their place."""
-        found: dict[Any, Any] = {}
         self.take("(")
-        while self.peek() != ")":
-            name: Any = len(found)
-            if self.at + 1 < len(self.tokens) and self.tokens[self.at + 1][1] == "=":
-                name = self.take()
-                self.take("=")
-            found[name] = self.value(is_time=name == "timestamp")
-            if self.peek() != ")":
-                self.take(",")
-        self.take(")")
-        return found
+        return {name or at: value for at, (name, value) in enumerate(self.listed(")", self.argument))}
 
     def statements(self, end: Any, place: Any) -> list[Any]:
         trees = []
@@ -193,17 +193,14 @@ class Reader:
 
     def skipped(self) -> None:
         """Passes over the arguments and the body of a node, whose name is taken."""
-        depth = 0
-        while depth or self.peek() not in (";", "{"):
-            depth += {"(": 1, "{": 1, ")": -1, "}": -1}.get(self.take(), 0)
-        if self.take() == "{":
-            depth = 1
-            while depth:
-                depth += {"{": 1, "}": -1}.get(self.take(), 0)
+        depth, word = 0, ""
+        while depth or word not in (";", "}"):
+            word = self.take()
+            depth += {"(": 1, "{": 1, ")": -1, "}": -1}.get(word, 0)
 
     def changed(self, name: str, found: Any, place: Place) -> Place:
         if name == "multmatrix":
-            own = [[float(part) for part in row[:4]] for row in found[0][:3]]
+            own = [exact.rationals(row[:4]) for row in found[0][:3]]
             return place.below(matrix=solids.times(place.matrix, own))
         if name == "color" and place.colour is None and found.get(0) is not None:
             return place.below(colour=tuple(min(255, max(0, round(255 * part))) for part in found[0][:3]))
@@ -307,12 +304,10 @@ class Reader:
         parts = self.convex("resize", tree, place.flat, line)
         if not parts:
             return None
-        low = [min(point[i] for part in parts for point in part.points) for i in range(3)]
-        high = [max(point[i] for part in parts for point in part.points) for i in range(3)]
+        low, high = facets.box_of([point for part in parts for point in part.points])
         factors = resized(found["newsize"], found["auto"], [b - a for a, b in zip(low, high)])
         matrix = [[factors[i] * (i == j) for j in range(3)] + [0] for i in range(3)]
-        return solids.each(tree, lambda part: flat_at(part, matrix) if place.flat
-                           else part.moved(matrix, part.colour))
+        return solids.each(tree, lambda part: flat_at(part, matrix) if place.flat else part.moved(matrix, part.colour))
 
     def linear_extrude(self, trees: list[Any], found: Any, place: Any, line: int) -> Any:
         scale = found.get("scale", [1, 1])

@@ -2,7 +2,9 @@
 the text, and what of the scene it does not say. What `export` writes."""
 from __future__ import annotations
 
+import itertools
 import json
+import operator
 from typing import Any, Optional, Sequence
 
 from pxplanes.mesh import facets, kinds
@@ -93,17 +95,19 @@ def signed(scene: Any) -> Any:
     return rays.folded(scene.show, lambda at: at, lambda sign, left, right: (sign, left, right))
 
 
-def pov_tree(tree: Any, scene: Any, grown: bool, indent: str) -> str:
-    """An expression in POV-Ray's words; what is taken away is grown."""
+def nested(tree: Any, leaf: Any, after: str, indent: str, is_cut: bool = False) -> str:
+    """An expression as blocks, each a word with what comes after it; `leaf` has the words of a solid by its number, and
+    by whether it is taken away."""
     if isinstance(tree, int):
-        return "object { %s(%s) }" % (pov_name(scene, tree), "GROW" if grown else "0")
+        return str(leaf(tree, is_cut))
     sign, left, right = tree
     if sign == "^":
-        return pov_tree(("+", ("-", left, right), ("-", right, left)), scene, grown, indent)
-    word = {"+": "union", "*": "intersection", "-": "difference"}[sign]
+        return nested(("+", ("-", left, right), ("-", right, left)), leaf, after, indent, is_cut)
     inner = indent + "  "
-    return "%s {\n%s%s\n%s%s\n%s}" % (word, inner, pov_tree(left, scene, grown, inner), inner,
-                                      pov_tree(right, scene, grown != (sign == "-"), inner), indent)
+    return "%s%s {\n%s%s\n%s%s\n%s}" % (
+        {"+": "union", "*": "intersection", "-": "difference"}[sign], after, inner,
+        nested(left, leaf, after, inner, is_cut), inner,
+        nested(right, leaf, after, inner, is_cut != (sign == "-")), indent)
 
 
 def pov_side(a: int, b: int, c: int) -> str:
@@ -140,7 +144,8 @@ def pov(scene: Any, camera: Any = None) -> tuple[str, list[str]]:
         planes += [pov_side(*side.plane) for side in solid.sides if any(side.plane[:2]) or side.plane[2] < 0]
         text += "\n#macro %s(G) intersection {\n  %s\n} #end\n" % (pov_name(scene, index), "\n  ".join(planes))
     lacks = ["the numbers of the faces"] + [ONE_DEPTH] * bool(scene.fraction_bits) + [TOUCHING] * ("^" in scene.show)
-    said["tree"] = pov_tree(signed(scene), scene, False, "  ")
+    said["tree"] = nested(signed(scene), lambda at, grown: "object { %s(%s) }" % (
+        pov_name(scene, at), "GROW" if grown else "0"), "", "  ")
     said["depth"] = POV_DEPTH_IN_PERSPECTIVE % (
         *map(repr, camera.rows[1]), repr(facets.dot(camera.rows[1], camera.eye))) if camera else "z"
     said["pigment"] = pov_pigment("ceil(%s - 2 * GROW)" % said["depth"], scene.depth_bits)
@@ -162,7 +167,7 @@ def listed(numbers: kinds.Vector) -> str:
     return ", ".join(repr(float(number)) for number in numbers)
 
 
-def half_spaces(scene: Any, solid: Any) -> Optional[list[kinds.Plane]]:
+def half_spaces(scene: Any, solid: Any) -> Optional[list[tuple[kinds.Vector, float]]]:
     """The half-spaces of a solid within the picture and the depths: x to the right, y upwards, z to
     the eye, in pixels and in cells."""
     whole = 1 << scene.fraction_bits
@@ -171,7 +176,7 @@ def half_spaces(scene: Any, solid: Any) -> Optional[list[kinds.Plane]]:
     rows += [(a / whole, -b / whole, 1, -c / whole) for a, b, c in (face.plane for face in solid.fronts)]
     rows += [(-a / whole, b / whole, -1, c / whole) for a, b, c in (face.plane for face in solid.backs)]
     rows += [(-a, b, 0, c + 0.5) for a, b, c in (side.plane for side in solid.sides)]
-    out: list[kinds.Plane] = []
+    out: list[tuple[kinds.Vector, float]] = []
     for a, b, c, far in rows:
         length = facets.lengthwise((a, b, c))
         if length:
@@ -208,12 +213,10 @@ def mesh_of(planes: Any, near: float) -> Any:
 def numbered(point: kinds.Vector, points: list[kinds.Vector], numbers: dict[tuple[int, ...], int], near: float) -> int:
     """The number of a point; points that are almost one have one number."""
     key = tuple(round(part / near / 8) for part in point)
-    for x in (0, -1, 1):
-        for y in (0, -1, 1):
-            for z in (0, -1, 1):
-                at = numbers.get((key[0] + x, key[1] + y, key[2] + z))
-                if at is not None:
-                    return at
+    around = (tuple(map(operator.add, key, step)) for step in itertools.product((0, -1, 1), repeat=3))
+    at = next((numbers[place] for place in around if place in numbers), None)
+    if at is not None:
+        return at
     numbers[key] = len(points)
     points.append(point)
     return len(points) - 1
@@ -237,7 +240,8 @@ def scad(scene: Any, camera: Any = None) -> tuple[str, list[str]]:
             ", ".join("[%s]" % ", ".join("%.9g" % (part + 0.0) for part in point) for point in points),
             ", ".join("[%s]" % ", ".join(map(str, side[::-1])) for side in sides)))
     lacks = ["the numbers and the colours of single faces", "ties, and rounding to whole depths"]
-    return "\n".join(lines + ["", scad_tree(signed(scene), scene, ""), ""]), lacks
+    tree = nested(signed(scene), lambda at, _: "%s();" % scene.solids[at].name, "()", "")
+    return "\n".join(lines + ["", tree, ""]), lacks
 
 
 def scad_camera(scene: Any, camera: Any) -> list[str]:
@@ -249,17 +253,6 @@ def scad_camera(scene: Any, camera: Any) -> list[str]:
             % (scene.width, scene.height),
             "$vpt = [%s];" % listed(place), "$vpr = [%s];" % listed(camera.turn),
             "$vpd = %r;" % distance, "$vpf = %r;" % camera.fov, ""]
-
-
-def scad_tree(tree: Any, scene: Any, indent: str) -> str:
-    if isinstance(tree, int):
-        return "%s%s();" % (indent, scene.solids[tree].name)
-    sign, left, right = tree
-    if sign == "^":
-        return scad_tree(("+", ("-", left, right), ("-", right, left)), scene, indent)
-    word = {"+": "union", "*": "intersection", "-": "difference"}[sign]
-    return "%s%s() {\n%s\n%s\n%s}" % (indent, word, scad_tree(left, scene, indent + "  "),
-                                      scad_tree(right, scene, indent + "  "), indent)
 
 
 def obj(scene: Any, camera: Any = None) -> tuple[str, list[str]]:

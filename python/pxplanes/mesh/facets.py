@@ -9,7 +9,8 @@ from fractions import Fraction
 from typing import Any, Optional, Sequence
 
 from pxplanes.errors import Trouble
-from pxplanes.mesh import kinds
+from pxplanes.mesh import crossings, exact, kinds
+from pxplanes.mesh.exact import area_normal as area_normal
 from pxplanes.scene import limits
 
 SIX_DIGITS = 5e-6
@@ -23,7 +24,6 @@ MOST_EFFORT = 1000000
 MOST_CUTS = 400
 GRID = 40
 FEW = 64
-RAY = (0.5377, 0.2963, 0.7893)
 REACH = 1e8
 
 
@@ -33,17 +33,6 @@ def dot(one: kinds.Vector, other: kinds.Vector) -> float:
 
 def lengthwise(normal: kinds.Vector) -> float:
     return math.sqrt(dot(normal, normal))
-
-
-def area_normal(points: kinds.Points) -> list[float]:
-    """The normal of a polygon, as long as twice its area (Newell's sum)."""
-    normal = [0.0, 0.0, 0.0]
-    for i, a in enumerate(points):
-        b = points[(i + 1) % len(points)]
-        normal[0] += (a[1] - b[1]) * (a[2] + b[2])
-        normal[1] += (a[2] - b[2]) * (a[0] + b[0])
-        normal[2] += (a[0] - b[0]) * (a[1] + b[1])
-    return normal
 
 
 def plane_of(points: kinds.Points) -> Optional[tuple[list[float], float, float]]:
@@ -61,8 +50,7 @@ def in_order(corners: kinds.Points, normal: kinds.Vector) -> list[kinds.Vector]:
     """The corners of a convex polygon on a plane, one after another round it."""
     if len(corners) < 3:
         return []
-    middle = [sum(corner[i] for corner in corners) / len(corners) for i in range(3)]
-    along, across = axes_on(normal)
+    middle, (along, across) = middle_of(corners), axes_on(normal)
 
     def turn(corner: kinds.Vector) -> float:
         out = [a - b for a, b in zip(corner, middle)]
@@ -123,13 +111,13 @@ class Found:
     """The planes that are found, each once, with those of like direction next to each other."""
 
     def __init__(self) -> None:
-        self.planes: list[tuple[int, kinds.Plane]] = []
-        self.by_way: dict[tuple[int, ...], list[kinds.Plane]] = {}
+        self.planes: list[tuple[int, exact.Plane]] = []
+        self.by_way: dict[tuple[int, ...], list[exact.Plane]] = {}
 
     def way(self, normal: kinds.Vector) -> tuple[int, ...]:
         return tuple(round(part * GRID) for part in normal)
 
-    def add(self, number: Any, plane: kinds.Plane) -> None:
+    def add(self, number: Any, plane: exact.Plane) -> None:
         self.planes.append((number, plane))
         self.by_way.setdefault(self.way(plane[0]), []).append(plane)
 
@@ -138,12 +126,12 @@ class Found:
         x, y, z = self.way(normal)
         return any(all(abs(dot(n, corner) - far) <= near for corner in corners)
                    for i in (-1, 0, 1) for j in (-1, 0, 1) for k in (-1, 0, 1)
-                   for n, far in self.by_way.get((x + i, y + j, z + k), ()))
+                   for n, far, _ in self.by_way.get((x + i, y + j, z + k), ()))
 
 
 def measured(points: kinds.Points, facets: kinds.Facets, numbers: Any) -> list[Any]:
-    """Height, normal, distance, corners and number of each facet with area, the highest first."""
-    middle, out = middle_of(points), []
+    """Height, plane, corners and number of each facet with area, the highest first."""
+    middle, places, out = middle_of(points), exact.Points(points), []
     for facet, number in zip(facets, numbers):
         corners = [points[at] for at in facet]
         plane = plane_of(corners)
@@ -151,7 +139,7 @@ def measured(points: kinds.Points, facets: kinds.Facets, numbers: Any) -> list[A
             normal, far, high = plane
             if far < dot(normal, middle):
                 normal, far = [-part for part in normal], -far
-            out.append((high, normal, far, corners, number))
+            out.append((high, places.plane(normal, far, facet), corners, number))
     return sorted(out, key=lambda facet: float(-facet[0]))
 
 
@@ -168,7 +156,7 @@ def distance_aside(point: kinds.Vector, corners: kinds.Points, normal: kinds.Vec
 
 
 def planes(points: kinds.Points, facets: kinds.Facets, numbers: Optional[Sequence[int]] = None,
-           is_exact: bool = False) -> list[kinds.Plane]:
+           is_exact: bool = False) -> list[exact.Plane]:
     """The half-spaces `normal * p <= far` whose common part is the solid, each once, in the order
     of the facets. `Trouble` where it is flat, open or not convex. Where points are not exact, a facet may be off
     by what their last digits leave open, the more the slimmer it is and the farther a point is from it;
@@ -177,7 +165,8 @@ def planes(points: kinds.Points, facets: kinds.Facets, numbers: Optional[Sequenc
     digit = (EXACT if is_exact else digit_of(points)) * size
     closed(facets)
     found, slim, cloud, middle = Found(), [], Cloud(points), middle_of(points)
-    for high, normal, far, corners, number in measured(points, facets, numbers or range(1, len(facets) + 1)):
+    for high, plane, corners, number in measured(points, facets, numbers or range(1, len(facets) + 1)):
+        normal, far, _ = plane
         if found.has(normal, corners, NEAR * digit):
             continue
         if digit > SLIM * high:
@@ -192,7 +181,7 @@ def planes(points: kinds.Points, facets: kinds.Facets, numbers: Optional[Sequenc
             if before > 2 * digit and before > 2 * digit * (1 + distance_aside(point, corners, normal) / high):
                 raise Trouble("is not convex: a point is %.2g before its facet %s"
                               % (cloud.farthest(normal) - far, number))
-        found.add(number, (normal, far))
+        found.add(number, plane)
     if len(found.planes) < 4 and slim:
         raise Trouble("is too thin for the digits of its points, which are off by up to %.2g where it is: facet %s; "
                   "write it nearer to the origin, or with more digits" % (
@@ -208,8 +197,8 @@ def planes(points: kinds.Points, facets: kinds.Facets, numbers: Optional[Sequenc
 
 def bulge(found: Any, corners: kinds.Points, normal: kinds.Vector) -> float:
     """How far it is from the middle of a facet, along its normal, to where the planes end."""
-    middle = [sum(corner[i] for corner in corners) / len(corners) for i in range(3)]
-    return min(((far - dot(n, middle)) / dot(n, normal) for n, far in found
+    middle = middle_of(corners)
+    return min(((far - dot(n, middle)) / dot(n, normal) for n, far, _ in found
                 if dot(n, normal) > 1e-3), default=math.inf)
 
 
@@ -295,8 +284,7 @@ def parts(points: kinds.Points, facets: kinds.Facets) -> list[Any]:
     found: dict[int, list[Any]] = {}
     for number, facet in enumerate(facets, 1):
         found.setdefault(top(facet[0]), []).append((number, facet))
-    return [only(points, [facet for _, facet in own]) + ([number for number, _ in own],)
-            for own in found.values()]
+    return [only(points, [facet for _, facet in own]) + ([number for number, _ in own],) for own in found.values()]
 
 
 def hollows(shells: Any) -> tuple[list[Any], list[Any]]:
@@ -327,24 +315,14 @@ def together(shells: Any) -> tuple[list[Any], list[Any]]:
 
 
 def is_within(point: kinds.Vector, shell: Any) -> bool:
-    """Whether a point is inside of a closed mesh: a ray from it meets an odd number of triangles."""
+    """Whether a point is inside of a closed mesh: what is below it goes in and out an odd number of times."""
     points, facets, _ = shell
-    count = 0
-    for facet in facets:
-        for i in range(1, len(facet) - 1):
-            corners = [[a - b for a, b in zip(points[facet[k]], point)] for k in (0, i, i + 1)]
-            count += meets(RAY, *corners)
-    return count % 2 == 1
-
-
-def meets(way: kinds.Vector, a: Any, b: Any, c: Any) -> bool:
-    """Whether a ray from the origin meets a triangle."""
-    cross = [area_normal([[0, 0, 0], one, other]) for one, other in ((a, b), (b, c), (c, a))]
-    signs = [dot(way, normal) for normal in cross]
-    if not (all(sign > 0 for sign in signs) or all(sign < 0 for sign in signs)):
-        return False
-    normal = area_normal([a, b, c])
-    return dot(normal, a) / dot(normal, way) > 0
+    x, y, z = point
+    found = (crossings.piece_of([tuple(points[at]) for at in (facet[0], facet[i], facet[i + 1])], y)
+             for facet in facets for i in range(1, len(facet) - 1))
+    pieces: list[Any] = [piece for piece in found if piece]
+    below = sum(left <= x < right and depth + (x - left) * slope < z for left, right, depth, slope, _ in pieces)
+    return bool(below % 2)
 
 
 def only(points: kinds.Points, facets: kinds.Facets) -> Any:
@@ -353,9 +331,9 @@ def only(points: kinds.Points, facets: kinds.Facets) -> Any:
     return [points[at] for at in numbers], [[numbers[at] for at in facet] for facet in facets]
 
 
-def divided(polygon: Any, plane: kinds.Plane, near: float) -> Any:
+def divided(polygon: Any, plane: Any, near: float) -> Any:
     """The pieces of a polygon behind a plane and before it; None for one that is not there."""
-    normal, far = plane
+    normal, far = plane[:2]
     rooms = [far - dot(normal, point) for point in polygon]
     if all(abs(room) <= near for room in rooms):
         return None, None
@@ -363,8 +341,7 @@ def divided(polygon: Any, plane: kinds.Plane, near: float) -> Any:
     for i, point in enumerate(polygon):
         here, back = rooms[i], rooms[i - 1]
         if here * back < 0 and min(abs(here), abs(back)) > near:
-            part = back / (back - here)
-            cut = [a + part * (b - a) for a, b in zip(polygon[i - 1], point)]
+            cut = crossing(polygon[i - 1], back, point, here)
             behind.append(cut)
             before.append(cut)
         if here >= -near:
@@ -374,11 +351,19 @@ def divided(polygon: Any, plane: kinds.Plane, near: float) -> Any:
     return (behind if max(rooms) > near else None), (before if min(rooms) < -near else None)
 
 
+def crossing(one: kinds.Vector, before: float, other: kinds.Vector, after: float) -> list[float]:
+    """Where a plane cuts an edge, by how far its ends are from it: to the last bit the same from either end."""
+    if tuple(other) < tuple(one):
+        one, before, other, after = other, after, one, before
+    part = before / (before - after)
+    return [a + part * (b - a) for a, b in zip(one, other)]
+
+
 def best_plane(polygons: Any, near: float) -> Any:
     """Of some polygons' planes that which divides the fewest of some polygons, and then the most evenly."""
     judges = [polygon for polygon, _ in polygons[::max(1, len(polygons) // JUDGES)]]
 
-    def cost(plane: kinds.Plane) -> tuple[int, int]:
+    def cost(plane: exact.Plane) -> tuple[int, int]:
         sides = [divided(polygon, plane, near) for polygon in judges]
         behind = sum(one is not None for one, _ in sides)
         before = sum(other is not None for _, other in sides)
@@ -428,18 +413,13 @@ def shared(one: Any, other: Any, near: float) -> Any:
     return (min(high for _, high in spans)[0] - low) / long, point
 
 
-def span_of(corners: kinds.Points, plane: kinds.Plane, way: kinds.Vector, near: float) -> Any:
+def span_of(corners: kinds.Points, plane: Any, way: kinds.Vector, near: float) -> Any:
     """Where a plane cuts a triangle that is on both sides of it, the two ends along a way, each as how far
     it is and its point; None where it is not."""
-    rooms = [plane[1] - dot(plane[0], corner) for corner in corners]
-    if min(rooms) > -near or max(rooms) < near:
+    behind, before = divided(corners, plane, near)
+    if not behind or not before:
         return None
-    ends = [corner for corner, room in zip(corners, rooms) if abs(room) <= near]
-    for i, room in enumerate(rooms):
-        if room * rooms[i - 1] < 0 and min(abs(room), abs(rooms[i - 1])) > near:
-            part = rooms[i - 1] / (rooms[i - 1] - room)
-            ends.append([a + part * (b - a) for a, b in zip(corners[i - 1], corners[i])])
-    found = sorted((dot(way, point), point) for point in ends)
+    found = sorted((dot(way, point), point) for point in behind if point in before)
     return found[0], found[-1]
 
 
@@ -458,8 +438,9 @@ def cells(points: kinds.Points, facets: kinds.Facets) -> list[Any]:
     if point:
         raise Trouble("passes through itself, at %.4g %.4g %.4g, so that its inside is unknown; "
                   "write it as a union of parts that do not" % tuple(part + 0.0 for part in point))
-    whole = [([points[at] for at in facet], plane_of([points[at] for at in facet])) for facet in turned]
-    polygons: list[Any] = [(polygon, plane[:2]) for polygon, plane in whole
+    whole = [(facet, plane_of([points[at] for at in facet])) for facet in turned]
+    places = exact.Points(points)
+    polygons: list[Any] = [([points[at] for at in facet], places.plane(*plane[:2], facet)) for facet, plane in whole
                            if plane and digit * (2 + 2 * wide / plane[2]) <= SLIM * wide]
     out: list[Any] = []
     found: list[Any] = []
@@ -470,7 +451,7 @@ def cells(points: kinds.Points, facets: kinds.Facets) -> list[Any]:
         effort += len(polygons)
         if effort > MOST_EFFORT:
             raise Trouble("has too many facets to be divided into convex parts; say it by differences or unions")
-        normal, far = plane = best_plane(polygons, near)
+        plane = best_plane(polygons, near)
         sides = [(divided(polygon, plane, near), own) for polygon, own in polygons]
         behind = [(side[0], own) for side, own in sides if side[0]]
         before = [(side[1], own) for side, own in sides if side[1]]
@@ -478,7 +459,7 @@ def cells(points: kinds.Points, facets: kinds.Facets) -> list[Any]:
             raise Trouble("has facets so close to one another that no plane divides them; say it by differences or "
                           "unions")
         if before:
-            todo.append((path + [([-part for part in normal], -far)], before))
+            todo.append((path + [plane.turned()], before))
         if behind:
             todo.append((path + [plane], behind))
         else:
@@ -517,8 +498,7 @@ def of_sides(kept: Any, near: float) -> Any:
     """The same of the planes with their polygons."""
     corners: list[kinds.Vector] = []
     for _, polygon in kept:
-        corners += [corner for corner in polygon
-                    if not any(math.dist(corner, other) <= near for other in corners)]
+        corners += [corner for corner in polygon if not any(math.dist(corner, other) <= near for other in corners)]
     if len(kept) < 4 or any(max(abs(part) for part in corner) > REACH / 2 * near for corner in corners):
         return None
     return [plane for plane, _ in kept], corners
@@ -538,9 +518,9 @@ def axes_on(normal: kinds.Vector) -> tuple[list[float], list[float]]:
                    for i in range(3)]
 
 
-def square_on(plane: kinds.Plane, wide: float) -> list[list[float]]:
+def square_on(plane: Any, wide: float) -> list[list[float]]:
     """A square of that width, to each side, on a plane."""
-    normal, far = plane
+    normal, far = plane[:2]
     along, across = ([wide * part for part in axis] for axis in axes_on(normal))
     return [[far * normal[i] + one * along[i] + other * across[i] for i in range(3)]
             for one, other in ((1, 1), (-1, 1), (-1, -1), (1, -1))]

@@ -1,14 +1,14 @@
 """What the modules of this folder pass to one another, by name."""
 from __future__ import annotations
 
+from fractions import Fraction
 from typing import Any, Optional, Sequence, Union
 
+Number = Union[float, Fraction]
 Vector = Sequence[float]
 Points = Sequence[Vector]
 Facets = Sequence[Sequence[int]]              # the numbers of the points of each facet
-Plane = tuple[Vector, float]                  # a normal of length 1, out of the solid, and its distance from the origin
 Form = Sequence[float]                        # A, B and C of a plane in the picture
-Corners = tuple[Vector, Vector]               # the least and the greatest corner of a box
-Matrix = Sequence[Sequence[float]]            # three rows of four
+Matrix = Sequence[Sequence[Any]]              # three rows of four, in double precision or rational
 Colour = Optional[Sequence[int]]
 Tree = Union[Any, tuple[str, list[Any]], None]  # a leaf, an expression, or nothing

@@ -8,10 +8,10 @@ import re
 import struct
 import xml.etree.ElementTree
 import zipfile
-from typing import Any, Callable, Optional, Sequence
+from typing import Any, Callable, Optional
 
 from pxplanes.errors import Trouble
-from pxplanes.mesh import gltf, kinds
+from pxplanes.mesh import gltf, kinds, solids
 
 LARGEST = 4000000
 
@@ -164,28 +164,27 @@ def read_3mf(data: bytes) -> Any:
     unit = UNITS.get(roots[first].get("unit", "millimeter"))
     if unit is None:
         raise Trouble("the 3MF file has a unit that is none: %s" % roots[first].get("unit"))
+    millimetres = [[unit * part for part in row] for row in solids.AS_IS]
 
-    def add(place: str, name: Optional[str], matrices: list[Optional[str]], depth: int) -> None:
+    def add(place: str, name: Optional[str], above: kinds.Matrix, words: Optional[str], depth: int) -> None:
         each = objects.get((place, name))
         if each is None or depth > 16:
             raise Trouble("the 3MF file names an object that is not there")
-        first = len(points)
-        own = list(each.iter())
-        points.extend(placed(floats([vertex.get(axis, "x") for axis in "xyz"], "a point"), matrices)
-                      for vertex in own if local(vertex) == "vertex")
+        first, matrix, own = len(points), solids.times(above, transform(words)), list(each.iter())
+        points.extend(solids.placed(matrix, [floats([vertex.get(axis, "x") for axis in "xyz"], "a point")
+                                             for vertex in own if local(vertex) == "vertex"]))
         facets.extend([first + int(triangle.get(corner, "-1")) for corner in ("v1", "v2", "v3")]
                       for triangle in own if local(triangle) == "triangle")
         for part in own:
             if local(part) == "component":
-                add(part.get(PATH, place), part.get("objectid"), [part.get("transform")] + matrices, depth + 1)
+                add(part.get(PATH, place), part.get("objectid"), matrix, part.get("transform"), depth + 1)
 
     try:
         for item in roots[first].iter():
             if local(item) == "item":
-                add(item.get(PATH, first), item.get("objectid"), [item.get("transform")], 0)
+                add(item.get(PATH, first), item.get("objectid"), millimetres, item.get("transform"), 0)
     except ValueError:
         raise Trouble("the 3MF file has a triangle that is none")
-    points = points if unit == 1 else [[unit * part for part in point] for point in points]
     return merged(*checked(points, facets))
 
 
@@ -194,14 +193,12 @@ def local(element: Any) -> str:
     return str(element.tag).rpartition("}")[2]
 
 
-def placed(point: kinds.Vector, matrices: Sequence[Optional[str]]) -> Any:
-    """A point under matrices of twelve numbers, column by column as 3MF has them, the innermost first."""
-    for words in filter(None, matrices):
-        m = floats(words.split(), "a transform")
-        if len(m) != 12:
-            raise Trouble("a transform has twelve numbers")
-        point = [sum(point[k] * m[3 * k + i] for k in range(3)) + m[9 + i] for i in range(3)]
-    return point
+def transform(words: Optional[str]) -> kinds.Matrix:
+    """The matrix of twelve numbers, which 3MF has column by column."""
+    numbers = floats(words.split(), "a transform") if words else [1, 0, 0, 0, 1, 0, 0, 0, 1, 0, 0, 0]
+    if len(numbers) != 12:
+        raise Trouble("a transform has twelve numbers")
+    return [numbers[row::3] for row in range(3)]
 
 
 def raw_triangles(data: bytes) -> int:
@@ -223,33 +220,21 @@ def soup(kind: str, data: bytes) -> Any:
     others, or where NumPy is not there."""
     try:
         import numpy
-    except ImportError:
-        return None
-    if kind == "stl" and raw_triangles(data):
-        form = numpy.dtype([("normal", "<f4", 3), ("corners", "<f4", (3, 3)), ("more", "<u2")])
-        found = numpy.frombuffer(data, form, raw_triangles(data), 84)["corners"].astype(float)
-    elif kind == "stl":
-        try:
+        if kind == "stl" and raw_triangles(data):
+            form = numpy.dtype([("normal", "<f4", 3), ("corners", "<f4", (3, 3)), ("more", "<u2")])
+            found = numpy.frombuffer(data, form, raw_triangles(data), 84)["corners"].astype(float)
+        elif kind == "stl":
             found = numpy.array(vertex_rows(data), dtype=float).reshape(-1, 3, 3)
-        except ValueError:
+        elif kind == "off" and data[:4].split() == [b"OFF"] and b"#" not in data:
+            _, points, count, _, *words = data.split()
+            rest = numpy.array(words, dtype=float)
+            rows = rest[3 * int(points):].reshape(int(count), 4).astype(int)
+            found = rest[:3 * int(points)].reshape(-1, 3)[rows[:, 1:]]
+            if (rows[:, 0] != 3).any() or rows.min() < 0:
+                return None
+        else:
             return None
-    elif kind == "off" and b"#" not in data:
-        head = data.split()
-        if len(head) < 4 or head[0] != b"OFF" or not (head[1] + head[2]).isdigit():
-            return None
-        points, faces = int(head[1]), int(head[2])
-        try:
-            rest = numpy.array(head[4:], dtype=float)
-        except ValueError:
-            return None
-        tail = rest[3 * points:]
-        if points == 0 or faces == 0 or len(tail) != 4 * faces or (tail[::4] != 3).any():
-            return None
-        numbers = tail.reshape(-1, 4)[:, 1:].astype(int)
-        if numbers.min() < 0 or numbers.max() >= points:
-            return None
-        found = rest[:3 * points].reshape(-1, 3)[numbers]
-    else:
+    except (ImportError, ValueError, IndexError):
         return None
     return found if found.size and numpy.isfinite(found).all() and abs(found).max() <= 1e9 else None
 

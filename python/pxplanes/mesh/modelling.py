@@ -31,19 +31,16 @@ ASIDE = 0.001
 LEAST_COLUMNS = 8
 
 
+def say(line: str) -> None:
+    ends.say("pxplanes convert", line)
+
+
 def spelled(tree: kinds.Tree, names: Any) -> str:
     """The expression of a tree; long unions and intersections become balanced."""
     if not isinstance(tree, tuple):
         return str(names[id(tree)])
     sign, trees = tree
-    return halved(sign, [spelled(part, names) for part in trees])
-
-
-def halved(sign: str, parts: list[str]) -> str:
-    if len(parts) == 1:
-        return parts[0]
-    half = len(parts) // 2
-    return "(%s %s %s)" % (halved(sign, parts[:half]), sign, halved(sign, parts[half:]))
+    return solids.halved(sign, [spelled(part, names) for part in trees])
 
 
 def value(form: kinds.Form, place: kinds.Vector) -> float:
@@ -52,13 +49,13 @@ def value(form: kinds.Form, place: kinds.Vector) -> float:
 
 def rounded(form: kinds.Form, parts: int, low: Any, high: Any) -> tuple[tuple[int, int, int], float]:
     """A plane in whole parts of a cell, true in the middle of these corners; and by how many cells
-    it is off at the worst of them."""
+    it is off at the worst of them, without the last digits, which differ where it is off by as many."""
     a, b = (round(part * parts) for part in form[:2])
     middle = [(one + other) / 2 for one, other in zip(low[:2], high)]
     c = round(value(form, middle) * parts - a * middle[0] - b * middle[1])
     corners = [(x, y) for x in (low[0], high[0]) for y in (low[1], high[1])]
     off = max(abs(value((a, b, c), corner) / parts - value(form, corner)) for corner in corners)
-    return (a, b, c), off
+    return (a, b, c), round(off, 9)
 
 
 def whole_side(form: kinds.Form) -> tuple[int, ...]:
@@ -79,21 +76,18 @@ class Steep(Trouble):
     """A plane too steep for a front or a back, whose face is at some pixel."""
 
 
-def is_steep(form: kinds.Form, parts: int) -> bool:
-    """Whether a plane cannot be a front or a back. It is taken for a side, if its face is at no pixel."""
-    return max(abs(form[0]), abs(form[1])) * parts > limits.MAX_SLOPE
+def steepness(form: kinds.Form, parts: int) -> float:
+    """By how many times a plane is too steep for a front or a back, above 1."""
+    return max(abs(form[0]), abs(form[1])) * parts / limits.MAX_SLOPE
 
 
-def pixel_of(form: kinds.Form, places: Any, size: Sequence[int]) -> Optional[tuple[int, int]]:
-    """A pixel at which a steep plane passes between the least and the greatest depth of its corners, which are at these
-    places; None for none."""
-    a, b, c = form
-    along = 0 if abs(a) >= abs(b) else 1
-    depths = [value(form, place) for place in places]
-    low, high = ([end(place[i] for place in places) for i in (0, 1)] for end in (min, max))
+def pixel_of(form: kinds.Form, face: Any, size: Sequence[int]) -> Optional[tuple[int, int]]:
+    """A pixel at which a steep plane passes through the box of its face in the picture; None for none."""
+    low, high = face
+    along = 0 if abs(form[0]) >= abs(form[1]) else 1
     other = 1 - along
     for at in range(max(0, math.ceil(low[other])), min(size[other] - 1, math.floor(high[other])) + 1):
-        ends = sorted((depth - form[other] * at - c) / form[along] for depth in (min(depths), max(depths)))
+        ends = sorted((depth - form[other] * at - form[2]) / form[along] for depth in (low[2], high[2]))
         first = math.ceil(max(ends[0], low[along], 0))
         if first <= min(ends[1], high[along], size[along] - 1):
             return (first, at) if along == 0 else (at, first)
@@ -105,17 +99,17 @@ def planes_of(solid: Any, view: Any, parts: int, flat: bool) -> Any:
     out: list[Any] = []
     worst: tuple[float, str] = (0, "")
     counts: dict[str, int] = {}
-    for number, (normal, far) in enumerate(solid.planes):
-        kind, form = view.half_space(normal, far)
-        low, high = view.where(normal, far)
-        if kind != "side" and is_steep(form, parts):
-            places = view.places(solid.corners[number])
-            at = pixel_of(form, places, view.size) if places else None
+    for number, half in enumerate(solid.planes):
+        kind, form = view.half_space(half)
+        low, high = view.where(half)
+        if kind != "side" and steepness(form, parts) > 1:
+            face = view.face(half, solid.corners[number] or solid.points)
+            at = face and pixel_of(form, face, view.size)
             if at:
-                raise Steep("%s: a plane that is too steep for a %s is seen at x %d, y %d; --depth W F with fewer "
-                            "bits makes it less steep, "
-                            "and `pxplanes convert --draw MAPS` draws it at any depth" % (solid.name(), kind, *at))
-            a, b, c = form[0], form[1], form[2] - (low[2] + high[2]) / 2
+                raise Steep("%s: a plane that is too steep for a %s is seen at x %d, y %d; --depth W F with fewer bits "
+                            "makes it less steep, and `pxplanes convert --draw MAPS` draws it at any depth" % (
+                                solid.name(), kind, *at))
+            a, b, c = form[0], form[1], form[2] - sum(end[2] for end in face or (low, high)) / 2
             kind, form = "side", (-a, -b, -c) if kind == "front" else (a, b, c)
         counts[kind] = counts.get(kind, 0) + 1
         if kind == "side":
@@ -123,7 +117,7 @@ def planes_of(solid: Any, view: Any, parts: int, flat: bool) -> Any:
             continue
         plane, off = rounded(form, parts, low, high)
         worst = max(worst, (off, "%s %d" % (kind, counts[kind])))
-        outward = normal if kind == "front" else [-part for part in normal]
+        outward = half.normal if kind == "front" else half.turned().normal
         out.append((kind, plane, solid.colour if flat else shaded(solid.colour, outward, view)))
     return out, worst
 
@@ -161,7 +155,7 @@ class Laid:
         for kind, plane, colour in self.planes:
             own[given[kind] % self.parts].append(" ".join(map(str, (kind,) + plane + colour)))
             given[kind] += 1
-        return [line for lines in own for line in lines], halved("*", names)
+        return [line for lines in own for line in lines], solids.halved("*", names)
 
     def met(self, view: Any, choices: Any, columns: Any, is_first: bool) -> Optional[Laid]:
         """The same by the planes alone that bound it, or its first cell, at some pixel of these columns; None where it
@@ -238,23 +232,21 @@ def as_one(tree: kinds.Tree, view: Any, choices: Any, is_seen: bool = False) -> 
     for way, what in ((False, "a solid"), (True, "what is seen of a solid"))[:1 + is_seen]:
         fewer, met = restricted(tree, laid, view, choices, (0, choices.size[0] - 1), way)
         if fewer and is_within(fewer, met, choices):
-            ends.say("pxplanes convert", "of %d planes, too many for a scene, those %d are drawn that bound %s at "
-                                         "some pixel, as %d solids; "
-                     "the picture is the same, and finer or wider ones are not" % (
-                         count_of(laid), count_of(met), what, sum(own.parts for own in met.values())))
+            say("of %d planes, too many for a scene, those %d are drawn that bound %s at some pixel, as %d solids; "
+                "the picture is the same, and finer or wider ones are not" % (
+                    count_of(laid), count_of(met), what, sum(own.parts for own in met.values())))
             return fewer, met
     if fewer and products(fewer, met) > limits.MAX_PRODUCTS:
         parts = in_windows(fewer, met, view, choices)
         whole = solids.joined("+", [part for part, _ in parts])
         own = {key: each for _, laid in parts for key, each in laid.items()}
         if whole and is_within(whole, own, choices):
-            ends.say("pxplanes convert", "its %d products are too many for a scene, so that it is drawn as the union "
-                                         "of what it is in %d parts of the picture; the picture is the same, and "
-                                         "finer or wider ones are not" % (products(fewer, met), len(parts)))
+            say("its %d products are too many for a scene, so that it is drawn as the union of what it is in %d parts "
+                "of the picture; the picture is the same, and finer or wider ones are not" % (
+                    products(fewer, met), len(parts)))
             return whole, own
     raise Trouble("the model makes no scene: %s; fewer facets or a smaller picture take less, and `--draw MAPS` draws "
-                  "it by columns" %
-                     too_much(fewer or tree, met if fewer else laid, choices))
+                  "it by columns" % too_much(fewer or tree, met if fewer else laid, choices))
 
 
 def too_much(tree: kinds.Tree, laid: Any, choices: Any) -> str:
@@ -316,8 +308,7 @@ def checked(text: str) -> Any:
         scenes.pixel_memory(scene)
         return scene
     except scenes.Refusal as refusal:
-        raise Trouble("the model makes no scene: %s%s" % (
-            refusal.note, "; " + refusal.limit if refusal.limit else ""))
+        raise Trouble("the model makes no scene: %s%s" % (refusal.note, "; " + refusal.limit if refusal.limit else ""))
 
 
 @dataclass
@@ -398,10 +389,9 @@ def wanted_bits(size: Sequence[int], faces: int) -> list[int]:
 
 def before_camera(choices: Any, bits: Any, tree: kinds.Tree) -> Any:
     """The view of the perspective camera that is choices, or of one that has the whole model."""
-    common = (choices.fov, choices.size, 2 ** bits[0] - 1, (choices.near, choices.far), tree)
-    if choices.camera is not None:
-        return perspective.of_camera(choices.camera, *common)
-    return perspective.fitted(choices.view, *common)
+    numbers = choices.camera or perspective.around(choices.view, choices.fov, choices.size, tree)
+    reach = choices.near, choices.far
+    return perspective.of_camera(numbers, choices.fov, choices.size, 2 ** bits[0] - 1, reach, tree)
 
 
 def in_perspective(choices: Any, tree: kinds.Tree) -> Any:
@@ -410,11 +400,12 @@ def in_perspective(choices: Any, tree: kinds.Tree) -> Any:
     planes = [plane for solid, _ in solids.leaves(tree) for plane in solid.planes]
     bits = wanted_bits(choices.size, min(limits.MAX_FACES, len(solids.leaves(tree)) + len(planes)))
     view = before_camera(choices, bits, tree)
-    forms = [form for kind, form in (view.half_space(*plane) for plane in planes if view.shows(*plane))
-             if kind != "side"]
-    steepest = 2 ** bits[1] * max((abs(part) for form in forms for part in form[:2]), default=0)
-    if steepest > limits.MAX_SLOPE:
-        bits[0] = max(LEAST_DEPTH_BITS, bits[0] - math.ceil(math.log2(steepest / limits.MAX_SLOPE)))
+    halves = [view.half_space(plane) for plane in planes if view.face(plane, ())]
+    times = [steepness(form, 2 ** bits[1]) for kind, form in halves if kind != "side"]
+    # (what fewer bits do not help is a side, or refused)
+    steepest = max((own for own in times if own <= 2 ** (bits[0] - LEAST_DEPTH_BITS)), default=1)
+    if steepest > 1:
+        bits[0] = max(LEAST_DEPTH_BITS, bits[0] - math.ceil(math.log2(steepest)))
         view = before_camera(choices, bits, tree)
     if not choices.depth:
         choices.bits = bits
@@ -426,18 +417,19 @@ def tell(shown: Any, view: Any, worst: Any, choices: Any, wanted: Any) -> None:
     """Says how the planes were rounded, and what of the model the picture does not have."""
     off, where = worst
     if where:
-        ends.say("pxplanes convert", "the worst plane is rounded by %.2g cells of %d within %s: %s" % (
+        say("the worst plane is rounded by %.2g cells of %d within %s: %s" % (
             off, 2 ** choices.bits[0] - 1, "its face" if wanted else "the picture", where))
     if wanted:
         distances = view.camera.distances
-        ends.say("pxplanes convert", "near %.4g, far %.4g; a distance is off by at most %.2g, at far; the picture "
-                                     "needs "
-                 "--depth %d %d" % (distances.near, distances.far, (off + 1) * distances.far ** 2 / distances.scale,
-                                    *wanted))
-    for line in view.cut_off():
-        ends.say("pxplanes convert", line)
-    if not rays.shows_anything(shown):
-        ends.say("pxplanes convert", "the picture is empty: %s" % view.why_empty())
+        say("near %.4g, far %.4g; a distance is off by at most %.2g, at far; the picture wants --depth %d %d" % (
+            distances.near, distances.far, (off + 1) * distances.far ** 2 / distances.scale, *wanted))
+    tell_of_edges(view, not rays.shows_anything(shown))
+
+
+def tell_of_edges(view: Any, is_empty: bool) -> None:
+    """Says what the edges of the picture cut off, and why a picture is empty."""
+    for line in view.cut_off() + ["the picture is empty: %s" % view.why_empty()] * is_empty:
+        say(line)
 
 
 def read(name: str, choices: Any) -> Any:
@@ -514,12 +506,10 @@ def looked_at(whole: kinds.Tree, view: Any, choices: Any) -> None:
         rounded = max((own.worst[0] for own in laid), default=0)
         digit = facets.digit_of(mesh.mesh[0]) * facets.extent(mesh.mesh[0])[0] * solids.growth(mesh.matrix)
         count, place = columns.unlike(mesh, [[plane[:2] for plane in own.planes] for own in laid], view, choices.size,
-                                      choices.bits,
-                                      rounded, digit)
+                                      choices.bits, rounded, digit)
         if count:
             raise Trouble("%s is not what its convex parts are at %d pixels, the first x %d, y %d; `pxplanes view` "
-                          "and `pxplanes convert "
-                          "--draw MAPS` draw it undivided" % (mesh.name(), count, *place))
+                          "and `pxplanes convert --draw MAPS` draw it undivided" % (mesh.name(), count, *place))
 
 
 def columns_module() -> Any:
@@ -542,13 +532,9 @@ def by_columns(tree: kinds.Tree, choices: Any) -> Any:
     else:
         view = parallel(tree, choices)
     drawing = columns.draw(tree, [leaf for leaf, _ in leaves], view, choices.size, choices.bits)
-    ends.say("pxplanes convert", "drawn by columns: %d triangles, %d columns in %d scenes; a depth is rounded by at "
-                                 "most %.2g cells of %d" % (
+    say("drawn by columns: %d triangles, %d columns in %d scenes; a depth is rounded by at most %.2g cells of %d" % (
         len(drawing.corners), drawing.columns, drawing.scenes, drawing.rounded, 2 ** choices.bits[0] - 1))
-    for line in view.cut_off():
-        ends.say("pxplanes convert", line)
-    if (drawing.shown < 0).all():
-        ends.say("pxplanes convert", "the picture is empty: %s" % view.why_empty())
+    tell_of_edges(view, (drawing.shown < 0).all())
     return drawing
 
 
@@ -575,7 +561,4 @@ def drawn_as_one(tree: kinds.Tree, choices: Choices) -> Optional[bytes]:
         return None
     text, worst = text_of(tree, laid, view, choices)
     tell(checked(text), view, worst, choices, wanted)
-    status, output, note = program.answer(program.needed(None), ["render"], text.encode())
-    if status != 0:
-        raise Trouble(note or "the program ends with %d" % status)
-    return bytes(output)
+    return program.output(program.needed(None), "render", text.encode())

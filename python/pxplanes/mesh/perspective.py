@@ -6,7 +6,7 @@ import math
 from typing import Any, Optional, Sequence
 
 from pxplanes.errors import Trouble
-from pxplanes.mesh import cameras, facets, kinds, solids, turns, views
+from pxplanes.mesh import cameras, exact, facets, kinds, solids, turns, views
 
 NEAREST = 0.001
 ROOM = 0.02
@@ -40,7 +40,7 @@ class Perspective:
         self.camera = cameras.Camera(eye, turn, fov, size, cameras.Distances(near, far, cells))
         self.boxes: dict[tuple[int, ...], Any] = {}
         for _, plane, polygon in polygons:
-            self.learn(one_key(*plane), clipped(polygon, [((0, -1, 0), -near), ((0, 1, 0), far)]))
+            self.learn(one_key(plane), clipped(polygon, [((0, -1, 0), -near), ((0, 1, 0), far)]))
 
     def turned(self, point: kinds.Vector) -> list[float]:
         return turns.turned(self.rows, point)
@@ -52,8 +52,8 @@ class Perspective:
             return []
         return [self.camera.place(point)[:2] for point in seen]
 
-    def half_space(self, normal: kinds.Vector, far: float) -> Any:
-        return self.camera.half_space(normal, far)
+    def half_space(self, plane: exact.Plane) -> Any:
+        return self.camera.half_space(plane)
 
     def notes(self) -> list[str]:
         return [self.camera.line()]
@@ -76,9 +76,7 @@ class Perspective:
 
     def ends(self, reached: Any, said: Any) -> tuple[float, float]:
         """The nearest and the farthest distance: as said, or as faces reach from and to."""
-        near, far = said
-        far = far or (1 + ROOM) * max(reached)
-        near = near or (1 - ROOM) * max(min(reached), NEAREST * far)
+        near, far = ends_of(min(reached), max(reached), said)
         self.passed += ["near plane"] * (min(reached) < near * (1 - ONE_PLANE))
         self.passed += ["far plane"] * (max(reached) > far * (1 + ONE_PLANE))
         return near, far
@@ -89,14 +87,14 @@ class Perspective:
             box = tuple(map(min, zip(*places))), tuple(map(max, zip(*places)))
             self.boxes[key] = views.around([box, self.boxes.get(key, box)])
 
-    def where(self, normal: kinds.Vector, far: float) -> Any:
+    def where(self, plane: exact.Plane) -> Any:
         """Where the faces of a plane are in the picture; of one without any there, the whole picture."""
-        return self.boxes.get(one_key(normal, far)) or (
+        return self.boxes.get(one_key(plane)) or (
             (0, 0, 0), (self.size[0] - 1, self.size[1] - 1, self.camera.distances.cells))
 
-    def shows(self, normal: kinds.Vector, far: float) -> bool:
-        """Whether a face of a plane is in the picture."""
-        return one_key(normal, far) in self.boxes
+    def face(self, plane: exact.Plane, corners: kinds.Points) -> Any:
+        """The box of a plane's faces in the picture: column, row and depth, from and to; None for none."""
+        return self.boxes.get(one_key(plane))
 
     def cut_off(self) -> list[str]:
         within = ["the eye is within the model, whose near face hides what is behind it"] * is_inside(
@@ -110,19 +108,25 @@ class Perspective:
         return "nothing of the model is before the camera, or the rest of it is smaller than a pixel"
 
 
+def ends_of(least: float, most: float, said: Sequence[Optional[float]]) -> tuple[float, float]:
+    """The distances at which depths begin and end: as said, or a little beyond what is in the picture."""
+    far = said[1] or (1 + ROOM) * most
+    return said[0] or (1 - ROOM) * max(least, NEAREST * far), far
+
+
 def is_inside(tree: kinds.Tree, point: kinds.Vector) -> bool:
     """Whether a point belongs to what a tree shows."""
     if not isinstance(tree, tuple):
-        return tree is not None and all(facets.dot(normal, point) < far for normal, far in tree.planes)
+        return tree is not None and all(facets.dot(normal, point) < far for normal, far, _ in tree.planes)
     members = [is_inside(part, point) for part in tree[1]]
     return members[0] and not members[1] if tree[0] == "-" else any(members) if tree[0] == "+" else all(members)
 
 
-def one_key(normal: kinds.Vector, far: float) -> tuple[int, ...]:
+def one_key(plane: exact.Plane) -> tuple[int, ...]:
     """One key for planes that are one, whichever side is kept. What decides between two keys is no
     number that people write."""
-    way = next((part for part in normal if abs(part) > ONE_PLANE), 1)
-    return tuple(math.floor(math.copysign(1, way) * part / ONE_PLANE + 0.1371) for part in (*normal, far))
+    way = next((part for part in plane.normal if abs(part) > ONE_PLANE), 1)
+    return tuple(math.floor(math.copysign(1, way) * part / ONE_PLANE + 0.1371) for part in (*plane.normal, plane.far))
 
 
 def edges_of(focal: float, size: Sequence[int]) -> list[Any]:
@@ -177,9 +181,3 @@ def around(turn: kinds.Vector, fov: Optional[float], size: Sequence[int], tree: 
                              focal * half[2] / (views.FILLS * size[1] / 2), 1e-9)
     middle = [(a + b) / 2 for a, b in zip(low, high)]
     return [sum(middle[k] * rows[k][i] for k in range(3)) for i in range(3)] + list(turn) + [distance]
-
-
-def fitted(turn: kinds.Vector, fov: Optional[float], size: Sequence[int], cells: int, ends: Any,
-           tree: kinds.Tree) -> Perspective:
-    """All that can show in the picture."""
-    return of_camera(around(turn, fov, size, tree), fov, size, cells, ends, tree)

@@ -6,7 +6,7 @@ import math
 from typing import Any, Sequence
 
 from pxplanes.errors import Trouble
-from pxplanes.mesh import kinds
+from pxplanes.mesh import kinds, turns
 
 MOST_SIDES = 1000
 
@@ -15,8 +15,7 @@ def cube(size: kinds.Vector, center: Any) -> Any:
     low = [-side / 2 if center else 0 for side in size]
     points = [[low[0] + size[0] * x, low[1] + size[1] * y, low[2] + size[2] * z]
               for x in (0, 1) for y in (0, 1) for z in (0, 1)]
-    return points, [[0, 1, 3, 2], [4, 6, 7, 5], [0, 4, 5, 1],
-                    [2, 3, 7, 6], [0, 2, 6, 4], [1, 5, 7, 3]]
+    return points, [[0, 1, 3, 2], [4, 6, 7, 5], [0, 4, 5, 1], [2, 3, 7, 6], [0, 2, 6, 4], [1, 5, 7, 3]]
 
 
 def fragments(radius: float, settings: Sequence[float]) -> int:
@@ -32,14 +31,13 @@ def fragments(radius: float, settings: Sequence[float]) -> int:
 
 
 def ring(radius: float, height: float, count: int) -> list[list[float]]:
-    turns = [2 * math.pi * i / count for i in range(count)]
-    return [[radius * math.cos(turn), radius * math.sin(turn), height] for turn in turns]
+    ways = [turns.way(360.0 * i / count) for i in range(count)]
+    return [[radius * cosine, radius * sine, height] for cosine, sine in ways]
 
 
 def between(first: Any, second: int, count: int) -> list[list[int]]:
     """The facets between two rings of points that begin at these numbers."""
-    return [[first + i, first + (i + 1) % count, second + (i + 1) % count, second + i]
-            for i in range(count)]
+    return [[first + i, first + (i + 1) % count, second + (i + 1) % count, second + i] for i in range(count)]
 
 
 def cylinder(height: float, below: float, above: float, center: Any, settings: Sequence[float]) -> Any:
@@ -59,8 +57,8 @@ def sphere(radius: float, settings: Sequence[float]) -> Any:
     rings = (count + 1) // 2
     points, facets = [], []
     for i in range(rings):
-        turn = math.pi * (i + 0.5) / rings
-        points += ring(radius * math.sin(turn), radius * math.cos(turn), count)
+        cosine, sine = turns.way(180.0 * (i + 0.5) / rings)
+        points += ring(radius * sine, radius * cosine, count)
         if i:
             facets += between((i - 1) * count, i * count, count)
     return points, facets + [list(range(count)), list(range((rings - 1) * count, rings * count))]

@@ -2,11 +2,10 @@
 profiles. Convex flat shapes are their corners in order; convex solids are points and planes."""
 from __future__ import annotations
 
-import math
 from typing import Any
 
 from pxplanes.errors import Trouble
-from pxplanes.mesh import facets, kinds, mesh_files, primitives
+from pxplanes.mesh import exact, facets, kinds, mesh_files, primitives, turns
 
 PACKAGE = "python3-scipy"
 
@@ -21,10 +20,11 @@ def hull(points: kinds.Points) -> Any:
         found = ConvexHull(points)
     except QhullError:
         raise Trouble("is flat")
-    planes: dict[Any, Any] = {}
-    for equation in found.equations.tolist():
-        plane = equation[:3], -equation[3]
-        planes.setdefault(tuple(round(part, 9) + 0.0 for part in equation), plane)
+    places = exact.Points(points)
+    planes: dict[Any, exact.Plane] = {}
+    for equation, facet in zip(found.equations.tolist(), found.simplices.tolist()):
+        planes.setdefault(tuple(round(part, 9) + 0.0 for part in equation),
+                          places.plane(equation[:3], -equation[3], facet))
     return [points[at] for at in found.vertices.tolist()], list(planes.values())
 
 
@@ -85,10 +85,8 @@ def is_round(corners: Any) -> bool:
 
 def turned(corners: kinds.Points, angle: float, count: int, whole: bool) -> list[Any]:
     """The meshes of a convex polygon of x and z that is turned about the z axis in `count` steps."""
-    first = math.pi if whole else 0.0
-    step = math.radians(angle) / count
-    rings = [[[x * math.cos(first + i * step), x * math.sin(first + i * step), z] for x, z in corners]
-             for i in range(count + (not whole))]
+    ways = [turns.way(180.0 * whole + i * angle / count) for i in range(count + (not whole))]
+    rings = [[[x * cosine, x * sine, z] for x, z in corners] for cosine, sine in ways]
     around = list(range(len(corners)))
     if whole and count > 2 and is_round(corners):
         points = [point for ring in rings for point in ring]

@@ -9,7 +9,7 @@ from typing import Any, Optional, Sequence
 
 from pxplanes import ends
 from pxplanes.errors import Trouble
-from pxplanes.mesh import facets, kinds
+from pxplanes.mesh import exact, facets, kinds
 
 AS_IS = [[1, 0, 0, 0], [0, 1, 0, 0], [0, 0, 1, 0]]
 
@@ -30,23 +30,25 @@ class Solid:
     def corners(self) -> list[list[kinds.Vector]]:
         """Of each of its planes the corners on it, in order round it."""
         cloud = facets.Cloud(self.points)
-        near = facets.NEAR * facets.SIX_DIGITS * max(abs(part) for part in cloud.low + cloud.high)
+        near = min(facets.NEAR * facets.SIX_DIGITS * max(abs(part) for part in cloud.low + cloud.high),
+                   facets.SLIM * min(high - low for low, high in zip(cloud.low, cloud.high)))
         return [facets.in_order([point for point in cloud.beyond(normal, far - near)
                                  if facets.dot(normal, point) - far <= near], normal)
-                for normal, far in self.planes]
+                for normal, far, _ in self.planes]
 
     def moved(self, matrix: kinds.Matrix, colour: kinds.Colour) -> Solid:
         """The solid under a matrix, in this colour; `Trouble` where the matrix makes it flat."""
         if matrix == AS_IS:
             return Solid(self.kind, self.line, self.points, self.planes, colour, self.is_part, self.sides)
-        turned, sign = cofactors(matrix)
+        turned, sign = cofactors(floating(matrix))
         points = placed(matrix, self.points)
         cloud, planes = facets.Cloud(points), []
-        for normal, _ in self.planes:
-            way = [sign * facets.dot(row, normal) for row in turned]
+        for plane in self.planes:
+            way = [sign * facets.dot(row, plane.normal) for row in turned]
             long = facets.lengthwise(way)
             way = [part / long for part in way]
-            planes.append((way, cloud.farthest(way)))
+            source = functools.cache(functools.partial(under, matrix, plane))
+            planes.append(exact.Plane(way, cloud.farthest(way), source))
         return Solid(self.kind, self.line, points, planes, colour, self.is_part, self.sides)
 
 
@@ -106,10 +108,15 @@ def divided(tree: kinds.Tree) -> Any:
 
 def placed(matrix: kinds.Matrix, points: kinds.Points) -> list[list[float]]:
     """The points under a matrix of three rows of four."""
-    return [[facets.dot(row, point) + row[3] for row in matrix] for point in points]
+    rows = floating(matrix)
+    return [[facets.dot(row, point) + row[3] for row in rows] for point in points]
 
 
-def cofactors(matrix: kinds.Matrix) -> tuple[list[list[float]], int]:
+def floating(matrix: kinds.Matrix) -> list[list[float]]:
+    return [[float(part) for part in row] for row in matrix]
+
+
+def cofactors(matrix: kinds.Matrix) -> tuple[list[list[Any]], int]:
     """What turns normals as the matrix turns points, and the sign of its determinant."""
     rows = [[matrix[(i + 1) % 3][(j + 1) % 3] * matrix[(i + 2) % 3][(j + 2) % 3]
              - matrix[(i + 1) % 3][(j + 2) % 3] * matrix[(i + 2) % 3][(j + 1) % 3] for j in range(3)]
@@ -121,6 +128,16 @@ def cofactors(matrix: kinds.Matrix) -> tuple[list[list[float]], int]:
     return rows, 1 if size > 0 else -1
 
 
+def under(matrix: kinds.Matrix, plane: exact.Plane) -> exact.Whole:
+    """A plane under a matrix, in whole numbers."""
+    parts, unit = exact.scaled([part for row in matrix for part in row])
+    rows, whole = [parts[at:at + 4] for at in (0, 4, 8)], plane.whole()
+    turned, _ = cofactors(rows)
+    way = [sum(part * own for part, own in zip(row, whole)) for row in turned]
+    size = sum(part * own for part, own in zip(rows[0], turned[0]))
+    return [part * unit for part in way] + [size * whole[3] + sum(part * row[3] for part, row in zip(way, rows))]
+
+
 def growth(matrix: kinds.Matrix) -> float:
     """By how much a matrix makes lengths greater, at most."""
     return max(1e-300, math.sqrt(sum(part * part for row in matrix for part in row[:3])))
@@ -128,8 +145,7 @@ def growth(matrix: kinds.Matrix) -> float:
 
 def times(outer: kinds.Matrix, inner: kinds.Matrix) -> list[list[float]]:
     inner = [*inner, [0, 0, 0, 1]]
-    return [[sum(outer[row][k] * inner[k][column] for k in range(4)) for column in range(4)]
-            for row in range(3)]
+    return [[sum(outer[row][k] * inner[k][column] for k in range(4)) for column in range(4)] for row in range(3)]
 
 
 def of_mesh(kind: str, line: int, points: kinds.Points, sides: Any, colour: kinds.Colour,
@@ -154,7 +170,7 @@ def of_mesh(kind: str, line: int, points: kinds.Points, sides: Any, colour: kind
     return joined("+", [Solid(kind, line, corners, planes, colour, True) for planes, corners in found])
 
 
-def planes_of(points: kinds.Points, sides: Any, numbers: Optional[Sequence[int]], is_exact: bool) -> list[kinds.Plane]:
+def planes_of(points: kinds.Points, sides: Any, numbers: Optional[Sequence[int]], is_exact: bool) -> list[exact.Plane]:
     """The planes of a convex solid, whose points may be exact although they have six digits."""
     try:
         return facets.planes(points, sides, numbers, is_exact)
@@ -197,6 +213,14 @@ def joined(sign: str, trees: list[Any]) -> Any:
     return sign, trees
 
 
+def halved(sign: str, words: list[str]) -> str:
+    """Operands joined by a sign, as nearly in halves as may be."""
+    if len(words) == 1:
+        return words[0]
+    half = len(words) // 2
+    return "(%s %s %s)" % (halved(sign, words[:half]), sign, halved(sign, words[half:]))
+
+
 def each(tree: kinds.Tree, change: Any) -> Any:
     """The tree with what `change` makes of each of its leaves."""
     if tree is None or not isinstance(tree, tuple):
@@ -229,6 +253,5 @@ def convex_parts(tree: kinds.Tree, meet: Any) -> list[Any]:
 def met(parts: Any) -> Any:
     """The common part of convex solids; None where there is none."""
     size, _ = facets.extent([point for part in parts for point in part.points])
-    found = facets.bounded([plane for part in parts for plane in part.planes],
-                           facets.NEAR * facets.SIX_DIGITS * size)
+    found = facets.bounded([plane for part in parts for plane in part.planes], facets.NEAR * facets.SIX_DIGITS * size)
     return found and Solid(parts[0].kind, parts[0].line, found[1], found[0], parts[0].colour)

@@ -10,11 +10,23 @@ def turned(rows: kinds.Points, point: kinds.Vector) -> list[float]:
     return [sum(row[i] * point[i] for i in range(3)) for row in rows]
 
 
+def way(angle: float) -> tuple[float, float]:
+    """Cosine and sine of an angle in degrees, exact where they are rational, and alike in all quarters."""
+    whole = math.remainder(angle, 360)
+    half = min(abs(whole), 180 - abs(whole))
+    least = min(half, 90 - half)
+    cosine = math.cos(math.radians(least))
+    sine = 0.5 if least == 30 else cosine if least == 45 else math.sin(math.radians(least))
+    cosine, sine = (cosine, sine) if half <= 45 else (sine, cosine)
+    return math.copysign(cosine, 90 - abs(whole)) + 0.0, math.copysign(sine, whole) + 0.0
+
+
 def about(axis: int, turn: float) -> list[list[float]]:
+    """The matrix that turns points about an axis, by an angle in degrees."""
     i, j = [each for each in range(3) if each != axis]
     rows = [[float(row == column) for column in range(3)] for row in range(3)]
-    sine = math.sin(turn) if axis != 1 else -math.sin(turn)
-    rows[i][i] = rows[j][j] = math.cos(turn)
+    cosine, sine = way(turn if axis != 1 else -turn)
+    rows[i][i] = rows[j][j] = cosine
     rows[i][j], rows[j][i] = -sine, sine
     return rows
 
@@ -25,8 +37,7 @@ def multiplied(one: kinds.Matrix, two: kinds.Matrix) -> list[list[float]]:
 
 def rows_of(turns: kinds.Vector) -> list[list[float]]:
     """What turns a point of the model as $vpr does."""
-    turn = [math.radians(angle) for angle in (90 - turns[0], -turns[1], -turns[2])]
-    return multiplied(about(0, turn[0]), multiplied(about(1, turn[1]), about(2, turn[2])))
+    return multiplied(about(0, 90 - turns[0]), multiplied(about(1, -turns[1]), about(2, -turns[2])))
 
 
 def between(eye: kinds.Vector, center: kinds.Vector) -> list[float]:

@@ -11,7 +11,7 @@ from pxplanes import program
 from pxplanes.errors import Trouble
 from pxplanes.image import netpbm
 from pxplanes.mesh import facets, kinds, modelling, solids, views
-from pxplanes.mesh.crossings import Crossings, outwards
+from pxplanes.mesh.crossings import Crossings
 from pxplanes.scene import scenes, texts
 
 SIZE, BITS, SIDES, CUTS = (64, 48), (12, 6), 6, 3
@@ -32,8 +32,8 @@ class Mesh:
     """A kernel's result; without facets it is nothing."""
 
     def __init__(self, points: kinds.Points, sides: Any) -> None:
-        self.points = points
-        self.sides, self.is_inwards = outwards(points, sides)
+        self.points, self.is_inwards = points, bool(sides) and facets.volume(points, sides) < 0
+        self.sides = [side[::-1] for side in sides] if self.is_inwards else sides
         self.open_edges = facets.open_edges(sides)
         self.digit = 2 * facets.digit_of(points) * facets.extent(points)[0] if points else 0
 
@@ -157,9 +157,6 @@ def drawer(path: str) -> Any:
     """What draws the depths of a scene's text, by the program at a path."""
     def draw(text: Union[str, bytes]) -> Any:
         text = text if isinstance(text, bytes) else text.encode()
-        status, output, note = program.answer(path, ["render"], text)
-        if status != 0:
-            raise Trouble(note or "the program ends with %d" % status)
-        return netpbm.images(output)[0].numbers()
+        return netpbm.images(program.output(path, "render", text))[0].numbers()
 
     return draw

@@ -5,10 +5,9 @@ import math
 from typing import Any, Sequence
 
 from pxplanes.errors import Trouble
-from pxplanes.mesh import kinds, solids, turns
+from pxplanes.mesh import exact, facets, kinds, solids, turns
 
 FILLS = 0.92
-STEEP = 1e-9
 FIELD = 22.5
 EDGES = ("left", "right", "bottom", "top")
 
@@ -38,20 +37,27 @@ class View:
         seen = [self.turned(point) for point in points]
         return [(self.left + self.scale * right, self.top - self.scale * up) for right, _, up in seen]
 
-    def half_space(self, normal: kinds.Vector, far: float) -> tuple[str, tuple[float, ...]]:
-        """The kind of a half-space, and A, B, C of its plane in cells; of a side in any unit."""
-        right, away, up = self.turned(normal)
-        form = (-right / self.scale, up / self.scale, far - away * self.nearest
+    def half_space(self, plane: exact.Plane) -> tuple[str, tuple[float, ...]]:
+        """The kind of a half-space, and A, B, C of its plane in cells; of a side, whose plane is along the axis
+        exactly, in any unit."""
+        right, away, up = plane.along(self.rows)
+        form = (-right / self.scale, up / self.scale, plane.far - away * self.nearest
                 + (right * self.left - up * self.top) / self.scale)
-        if abs(away) < STEEP:
+        if away == 0:
             return "side", form
         return "front" if away < 0 else "back", tuple(self.cells / away * part for part in form)
+
+    def face(self, plane: exact.Plane, corners: kinds.Points) -> Any:
+        """The box of a face by its corners: column, row and depth, from and to."""
+        places = [(*place, (self.turned(corner)[1] - self.nearest) * self.cells)
+                  for place, corner in zip(self.places(corners), corners)]
+        return [[end(parts) for parts in zip(*places)] for end in (min, max)]
 
     def notes(self) -> list[str]:
         """Comments that the scene begins with."""
         return []
 
-    def where(self, normal: kinds.Vector, far: float) -> Any:
+    def where(self, plane: exact.Plane) -> Any:
         """Where a plane is to be true: in the middle of these corners, here those of the picture."""
         return (0, 0, 0), (self.size[0] - 1, self.size[1] - 1, 0)
 
@@ -78,8 +84,7 @@ def box_of(rows: Any, points: Any) -> Any:
     if hasattr(points, "shape"):
         seen = [points @ row for row in rows]
         return [float(own.min()) for own in seen], [float(own.max()) for own in seen]
-    seen = [turns.turned(rows, point) for point in points]
-    return [min(point[i] for point in seen) for i in range(3)], [max(point[i] for point in seen) for i in range(3)]
+    return facets.box_of([turns.turned(rows, point) for point in points])
 
 
 def shown(rows: kinds.Points, tree: Any) -> Any:
@@ -104,8 +109,7 @@ def met(boxes: Any) -> Any:
 def around(boxes: Any) -> Any:
     if not boxes:
         return None
-    return ([min(low[i] for low, _ in boxes) for i in range(3)],
-            [max(high[i] for _, high in boxes) for i in range(3)])
+    return ([min(low[i] for low, _ in boxes) for i in range(3)], [max(high[i] for _, high in boxes) for i in range(3)])
 
 
 def fitted(turn: kinds.Vector, size: Sequence[int], scale: Any, far: float, tree: kinds.Tree) -> View:
