@@ -244,7 +244,8 @@ def picture(scene: Scene, how: Reading, x: Whole, y: Whole) -> Picture:
     z = np.concatenate([start, found.first] + ([found.end] if how.backs else []))
     end = scene.far * (unit if how.real else 1)
     inside = fold(scene.show, found, z, False)[0]
-    first: Whole = np.where(inside, z, BEFORE).max(0) if how.farthest else np.where(inside, z, end + 1).min(0)
+    met = np.concatenate([start == start, found.has] + ([found.has] if how.backs else []))
+    first: Whole = np.where(inside & met, z, BEFORE).max(0) if how.farthest else np.where(inside, z, end + 1).min(0)
     shown = inside.any(0) & (first <= end)
     first = np.where(shown, first, end)
     face = fold(scene.show, found, first, True)[1]
