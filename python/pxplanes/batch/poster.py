@@ -54,8 +54,7 @@ def enlarged(text: bytes, wide: int, high: int) -> bytes:
         for side in solid.sides:
             side.plane = smallest(x * side.plane[0], y * side.plane[1], Fraction(side.plane[2]))
     scene.fraction_bits += bits
-    written: str = texts.text_of(scene)
-    return written.encode()
+    return texts.text_of(scene).encode()
 
 
 def smallest(*plane: Fraction) -> Plane:
