@@ -3,6 +3,7 @@ from __future__ import annotations
 
 import ctypes
 import importlib
+import struct
 from typing import Any, List, Optional, Sequence
 
 numpy: Any
@@ -11,15 +12,13 @@ try:
 except ImportError:
     numpy = None
 
-SIZES = {"B": 1, "I": 4, "i": 4, "Q": 8}
-
 
 class Buffer:
     """Room for so many elements of a kind: B, I, i or Q, of 1, 4, 4 and 8 bytes, or another of a size that is given.
     The system hands out its pages as they are written, so too much room costs nothing."""
 
     def __init__(self, kind: str, count: int, size: int = 0):
-        self.kind, self.count, self.size = kind, count, size or SIZES[kind]
+        self.kind, self.count, self.size = kind, count, size or struct.calcsize("=" + kind)
         self.room = bytearray(self.size * count)
 
     def given(self) -> tuple[Optional[int], int]:

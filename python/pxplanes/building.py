@@ -7,11 +7,11 @@ import re
 from typing import Any, Iterable, Iterator, List, NoReturn, Optional, Sequence, Tuple, Union
 
 from . import pictures
+from .scene import limits
 
 NAME = re.compile(r"[A-Za-z_][A-Za-z0-9_]{0,31}")
 GREY = (200, 200, 200)
-MOST_SIDE, MOST_DEPTH, MOST_FRACTION, MOST_PART, MOST_PLANES = 512, 24, 8, 255, 32
-MOST_SLOPE, MOST_OFFSET = 1 << 23, 1 << 33
+MOST_PART = 255
 FIRST_HEADER, HEADER_OF_SIGN, HEADER_OF_FRACTION = 1, 2, 3
 
 Numbers = Sequence[int]
@@ -87,8 +87,8 @@ class Solid(Expression):
                            for at, plane in enumerate(listed(sides, self.called("sides"))))
         counts = {kind + "s": sum(each == kind for each, _ in self.faces) for kind in ("front", "back")}
         for word, count in dict(counts, sides=len(self.sides)).items():
-            if count > MOST_PLANES:
-                raise ValueError("%s are %d; there may be %d" % (self.called(word), count, MOST_PLANES))
+            if count > limits.MAX_PLANES_OF_A_KIND:
+                raise ValueError("%s are %d; there may be %d" % (self.called(word), count, limits.MAX_PLANES_OF_A_KIND))
 
     def called(self, word: str) -> str:
         """What a part of it is called in an error."""
@@ -100,7 +100,7 @@ class Solid(Expression):
         numbers = whole(plane, what)
         if len(numbers) not in ((3, 6) if has_colour else (3,)):
             raise ValueError("%s has %d numbers in place of 3%s" % (what, len(numbers), ", or 6 with a colour" * has_colour))
-        for letter, number, most in zip("ABC", numbers, (MOST_SLOPE, MOST_SLOPE, MOST_OFFSET)):
+        for letter, number, most in zip("ABC", numbers, (limits.MAX_SLOPE, limits.MAX_SLOPE, limits.MAX_CONSTANT)):
             within(number, -most, most, "%s: %s" % (what, letter))
         if not has_colour:
             return tuple(numbers)
@@ -129,12 +129,12 @@ class Scene:
         if len(self.size) != 2:
             raise ValueError("size has %d numbers in place of 2, width and height" % len(self.size))
         for word, number in zip(("width", "height"), self.size):
-            within(number, 1, MOST_SIDE, word)
+            within(number, 1, limits.MAX_PICTURE_SIZE, word)
         bits = whole(depth if hasattr(depth, "__iter__") else (depth,), "depth")
         if len(bits) not in (1, 2):
             raise ValueError("depth has %d numbers in place of 1, or 2 with fraction bits" % len(bits))
-        within(bits[0], 1, MOST_DEPTH, "depth")
-        within(sum(bits[1:]), 0, min(MOST_FRACTION, MOST_DEPTH - bits[0]), "fraction bits")
+        within(bits[0], 1, limits.MAX_DEPTH_BITS, "depth")
+        within(sum(bits[1:]), 0, min(limits.MAX_FRACTION_BITS, limits.MAX_DEPTH_BITS - bits[0]), "fraction bits")
         self.depth = bits[0], sum(bits[1:])
         self.show = show
         self.solids = show.solids if solids is None else listed(solids, "solids")

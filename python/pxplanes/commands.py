@@ -11,13 +11,14 @@ from typing import Any, Iterator, Optional
 from .arrays import Buffer, put, shaped
 from .calls import Text, asked, content
 from .errors import Limit, Malformed, Refused
+from .image import netpbm
 from .machine import sessions
 from .machine.states import State, clocks_of, state
 from .pictures import Out, Picture, Window, check, counted, drawn, taken, within
 from .running import Progress, run
 from .scene import limits, scenes, texts
 
-FACTORS, WIDEST = (2, 4), 4096
+FACTORS, WIDEST = (2, 4), limits.MAX_WIDE_PICTURE_SIZE
 
 
 def scene_of(text: Text) -> Any:
@@ -65,8 +66,8 @@ def tile(text: Text, width: int, height: int, clocks: Optional[int] = None, prog
     # The command refuses by the first tile, or draws where the scene's own picture is refused, and the first tile is
     # smaller.
     maps = taken(out, width, height)
-    for array, found in zip(maps, maps_of(run(text, "tile %d %d" % (width, height), progress))):
-        put(array, 0, 0, numbers(*found))
+    for array, found in zip(maps, netpbm.images(run(text, "tile %d %d" % (width, height), progress))):
+        put(array, 0, 0, numbers(found))
     return Picture(*maps, width, height)
 
 
@@ -94,8 +95,8 @@ def refine(text: Text, factor: int, clocks: Optional[int] = None, progress: Opti
     with contextlib.suppress(Refused):
         if clocks is not None:
             within(check(texts.text_of(texts.finer(scene_of(text), operator.index(factor)))).clocks, clocks)
-    (wide, high, body), = maps_of(run(text, "refine %d" % factor, progress))
-    return shaped(memoryview(bytearray(body)), "B", (high, wide, 3))
+    image, = netpbm.images(run(text, "refine %d" % factor, progress))
+    return shaped(memoryview(image.samples), "B", (image.height, image.width, 3))
 
 
 def shadow(text: Text, clocks: Optional[int] = None, progress: Optional[Progress] = None) -> Any:
@@ -111,27 +112,15 @@ def shadow(text: Text, clocks: Optional[int] = None, progress: Optional[Progress
     scene, _ = sessions.parted(content(text))
     with contextlib.suppress(Refused):
         within(check(scene).clocks, clocks)
-    return numbers(*maps_of(run(text, "shadow", progress))[0])
+    return numbers(netpbm.images(run(text, "shadow", progress))[0])
 
 
-def maps_of(output: bytes) -> list[tuple[int, int, memoryview]]:
-    """The columns, the rows and the bytes of each pixel map that a command wrote."""
-    found, rest = [], memoryview(output)
-    while rest:
-        head = bytes(rest[:32]).split(b"\n", 3)
-        width, height = map(int, head[1].split())
-        begin, size = sum(map(len, head[:3])) + 3, 3 * width * height
-        found.append((width, height, rest[begin:begin + size]))
-        rest = rest[begin + size:]
-    return found
-
-
-def numbers(width: int, height: int, body: memoryview) -> Any:
-    """The numbers of a map with three bytes for each, the highest first."""
-    flat = bytearray(4 * width * height)
+def numbers(image: netpbm.Image) -> Any:
+    """The numbers of an image with three bytes for each, the highest first."""
+    flat = bytearray(4 * image.width * image.height)
     for place, byte in enumerate((2, 1, 0)):
-        flat[byte::4] = body[place::3]
-    return shaped(memoryview(flat), "I", (height, width))
+        flat[byte::4] = bytes(image.samples[place::3])
+    return shaped(memoryview(flat), "I", (image.height, image.width))
 
 
 def listing(text: Text) -> str:

@@ -11,6 +11,7 @@ from typing import TYPE_CHECKING, Any, Callable, NamedTuple, Optional, Sequence,
 from .arrays import Buffer, put, rows, shaped
 from .calls import LONGEST_NAME, FoundFace, Text, asked, content, word_of
 from .errors import OverBudget, Refused
+from .image import netpbm
 from .running import MANY, Progress, done, filled, gathered, run
 from .scene.limits import MAX_PICTURE_SIZE, MAX_WIDE_PICTURE_SIZE
 
@@ -83,7 +84,7 @@ class Picture(NamedTuple):
     def save(self, path: Union[str, "os.PathLike[str]"], what: str = "depths") -> None:
         """Writes an image, in place of an older file: a PNG of the depths in greys, or of the faces in colours if
         `what` is `faces`. A path that doesn't end in .png gets both `maps()`."""
-        from .image import netpbm, show
+        from .image import show
         flat = [[number for row in rows(each) for number in row] for each in self[:2]]
         if what not in ("depths", "faces"):
             raise ValueError("what is 'depths' or 'faces', and not %r" % (what,))
@@ -110,7 +111,7 @@ def image(numbers: Any, width: int, height: int) -> bytes:
     body = bytearray(3 * width * height)
     for place, byte in enumerate((2, 1, 0)):
         body[place::3] = flat[byte::4]
-    return b"P6\n%d %d\n255\n" % (width, height) + bytes(body)
+    return netpbm.header(width, height) + bytes(body)
 
 
 def check(text: Text) -> Cost:

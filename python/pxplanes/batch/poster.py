@@ -11,13 +11,14 @@ import os
 import re
 import threading
 from fractions import Fraction
-from math import gcd
+from math import gcd, lcm
 from typing import Any, Iterator, NamedTuple
 
 from pxplanes import ends
 from pxplanes.batch import engine
 from pxplanes.batch.scenes_drawn import REFUSALS, drop
 from pxplanes.errors import Trouble
+from pxplanes.image import netpbm
 from pxplanes.scene import limits, scenes, texts
 
 LARGEST_PIECE, SAMPLES = limits.MAX_WIDE_PICTURE_SIZE, 3
@@ -53,17 +54,14 @@ def enlarged(text: bytes, wide: int, high: int) -> bytes:
         for side in solid.sides:
             side.plane = smallest(x * side.plane[0], y * side.plane[1], Fraction(side.plane[2]))
     scene.fraction_bits += bits
-    written: str = texts.text_of(scene)
-    return written.encode()
+    return texts.text_of(scene).encode()
 
 
 def smallest(*plane: Fraction) -> Plane:
     """The least whole numbers in the same proportion: only the sign of a side counts."""
-    common = 1
-    for each in plane:
-        common = common * each.denominator // gcd(common, each.denominator)
+    common = lcm(*(each.denominator for each in plane))
     a, b, c = (int(each * common) for each in plane)
-    least = gcd(gcd(a, b), c) or 1
+    least = gcd(a, b, c) or 1
     return a // least, b // least, c // least
 
 
@@ -98,16 +96,12 @@ def pieces_of(wide: int, high: int, side: int) -> Iterator[Piece]:
             yield Piece(x0, y0, min(side, wide - x0), min(side, high - y0))
 
 
-def header(wide: int, high: int) -> bytes:
-    return b"P6\n%d %d\n255\n" % (wide, high)
-
-
 class Picture:
     """A file of two images of one size, written row by row wherever a row has its place; and, in a file next to it,
     the pieces that are in it, a line each after the sum of what it is made of."""
 
     def __init__(self, path: str, wide: int, high: int, total: str):
-        self.path, self.wide, self.head = path, wide, header(wide, high)
+        self.path, self.wide, self.head = path, wide, netpbm.header(wide, high)
         self.image, self.lock = len(self.head) + SAMPLES * wide * high, threading.Lock()
         self.part, self.list = path + ".part", path + ".done"
         lines = ends.content(self.list).decode().split("\n") if os.path.exists(self.list) else []
@@ -127,7 +121,7 @@ class Picture:
 
     def put(self, piece: Piece, data: bytes) -> None:
         """Copies both images of a piece into their places."""
-        head, row = header(piece.wide, piece.high), SAMPLES * piece.wide
+        head, row = netpbm.header(piece.wide, piece.high), SAMPLES * piece.wide
         size = len(head) + row * piece.high
         if len(data) != 2 * size or not data.startswith(head):
             raise Trouble("a piece has not the form of an image")

@@ -69,8 +69,7 @@ def ending_of(command: str) -> str:
 def content_of(path: str) -> Optional[bytes]:
     """The bytes of a file, or None where it cannot be read."""
     try:
-        data: bytes = ends.content(path)
-        return data
+        return ends.content(path)
     except OSError:
         return None
 

@@ -12,7 +12,7 @@ from __future__ import annotations
 import argparse
 import json
 import re
-from typing import TYPE_CHECKING, Any, Callable
+from typing import TYPE_CHECKING, Any
 
 from pxplanes.cli.frame import whole_number
 from pxplanes.errors import Trouble
@@ -74,8 +74,7 @@ def of_mesh(options: argparse.Namespace) -> int:
     """Compares a mesh with the model or the scene that it was made of."""
     from pxplanes.compare import meshes
     said = {name: getattr(options, name) for name in ("sides", "cuts", "size", "out") if getattr(options, name) is not None}
-    compared: Callable[..., int] = meshes.report
-    return compared(options.ours, options.theirs, **said)
+    return meshes.report(options.ours, options.theirs, **said)
 
 
 def allowed_by(options: argparse.Namespace) -> Allowed:
@@ -96,9 +95,7 @@ def is_of_mesh(options: argparse.Namespace) -> bool:
     """Whether the files are a model or a scene, and a mesh, by their names."""
     from pxplanes.compare import meshes
     from pxplanes.mesh import modelling
-    is_mesh: Callable[[str], bool] = meshes.is_mesh
-    kind_of: Callable[[str], str] = meshes.kind_of
-    return is_mesh(options.theirs) or kind_of(options.ours) in modelling.KINDS
+    return meshes.is_mesh(options.theirs) or meshes.kind_of(options.ours) in modelling.KINDS
 
 
 class Pair:
@@ -109,13 +106,12 @@ class Pair:
         from pxplanes import ends
         from pxplanes.compare import picture, report
         from pxplanes.image import maps
-        content: Callable[[str], bytes] = ends.content
         self.scene, self.notes = None, []
         self.names: list[str] = []
         self.words: list[str] = []
         self.colours: list[tuple[int, int, int]] = []
         if options.scene is not None:
-            self.scene, named = picture.of_text(content(options.scene), options.scene)
+            self.scene, named = picture.of_text(ends.content(options.scene), options.scene)
             self.names, self.words, self.colours = names_of(named)
         our_maps = maps.read(options.ours)
         self.their_maps = maps.read(options.theirs, (our_maps[0].width, our_maps[0].height), options.channel)

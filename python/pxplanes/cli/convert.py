@@ -108,7 +108,7 @@ def scene_in(path: str) -> bytes:
     """The text of a file, if its first word is that of a scene's header; otherwise nothing."""
     if path != "-" and os.path.splitext(path)[1][1:].lower() in modelling.KINDS:
         return b""
-    text: bytes = ends.content(path)
+    text = ends.content(path)
     is_scene = listings.first_word(text) == b"pxscene"
     if not is_scene and path == "-":
         raise Trouble("a model from standard input needs --kind")

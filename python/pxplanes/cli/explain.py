@@ -130,8 +130,7 @@ def ray(text: bytes, at: list[int]) -> list[str]:
     scene = scenes.read(text)
     if at[0] >= scene.width or at[1] >= scene.height:
         raise Trouble("the picture has columns to %d and rows to %d" % (scene.width - 1, scene.height - 1))
-    lines: list[str] = looks.ray(scene, *at)
-    return lines
+    return looks.ray(scene, *at)
 
 
 def is_scene(text: bytes) -> bool:

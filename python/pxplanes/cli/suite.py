@@ -94,9 +94,8 @@ def run_suite(options: argparse.Namespace) -> int:
 
 def run_shrink(options: argparse.Namespace) -> int:
     from pxplanes.suite import shrinking
-    content: Callable[[str], bytes] = ends.content
     try:
-        found = shrinking.shrink(content(options.scene), options.renderer, settings_of(options), options.seconds, say)
+        found = shrinking.shrink(ends.content(options.scene), options.renderer, settings_of(options), options.seconds, say)
     except Trouble as trouble:
         raise Trouble("%s: %s" % (options.scene, str(trouble).replace("scene/small: ", ""))) from None
     if found is None:

@@ -224,8 +224,7 @@ def leave(picture: Picture, path: str, is_one_of_two: bool) -> None:
 def png(picture: Picture) -> bytes:
     """A picture as PNG; a small one is enlarged by a whole factor."""
     if isinstance(picture.colours, list):
-        plain: bytes = netpbm.png(picture.width, picture.height, picture.colours)
-        return plain
+        return netpbm.png(picture.width, picture.height, picture.colours)
     from pxplanes.image import maps, shades
     return maps.png(shades.enlarged(picture.colours))
 

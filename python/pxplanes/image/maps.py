@@ -10,7 +10,7 @@ import os
 import re
 import tempfile
 from dataclasses import dataclass
-from typing import Any, Callable, Optional, Sequence
+from typing import Any, Optional, Sequence
 
 import numpy as np
 from numpy.typing import NDArray
@@ -23,19 +23,13 @@ from pxplanes.image.libraries import needed
 
 Numbers = NDArray[Any]
 Size = tuple[int, int]
-GAP = rb"(?:\s|#[^\n]*\n)+"
-NETPBM = re.compile(rb"\s*P([2356])%s(\d{1,9})%s(\d{1,9})%s(\d{1,9})\s" % (GAP, GAP, GAP))
 PFM = re.compile(rb"P[fF]\s+(\d{1,9})\s+(\d{1,9})\s+[-+.0-9eE]+\s")
 PAM = re.compile(rb"P7\n(.*?)ENDHDR\n", re.S)
 TEXT = re.compile(rb"\s*(#(?!\?)|[-+.]?[0-9]|[-+]?(inf|nan)\b)", re.I)
 SCENE = re.compile(rb"(?:\s|#[^\n]*\n)*pxscene\s")
-LARGEST_SIDE = 65536
 # Channels that have depths, without regard to capitals; and those of a plain picture.
 DEPTHS = ("z", "*.z", "depth", "depth.*", "*.depth*")
 PLAIN = {"Y", "I", "A", "R", "G", "B"}
-content_of: Callable[[str], bytes] = ends.content
-kind_of: Callable[[bytes], Any] = kinds.kind
-png_file: Callable[..., bytes] = netpbm.png_file
 OTHERS = {b"\x1f\x8b": "a gzip file", b"PK\3\4": "a ZIP archive", b"%PDF": "a PDF document", b"\x7fELF": "a program", b"<": "a text in XML or HTML",
           b"{": "a text in JSON"}
 
@@ -79,7 +73,7 @@ def read(name: str, size: Optional[Size] = None, channel: Optional[str] = None) 
     one to take. Raises `Trouble` for what is no picture, with its kind, and for a picture without depths, and
     `OSError`."""
     try:
-        return maps_of(content_of(name), name, size, channel)
+        return maps_of(ends.content(name), name, size, channel)
     except Trouble as trouble:
         raise Trouble("%s: %s" % (name, trouble)) from None
 
@@ -97,7 +91,7 @@ def maps_of(data: bytes, name: str = "-", size: Optional[Size] = None, channel: 
         return of_netpbm(data)
     if SCENE.match(data):
         raise Trouble("this is a scene, and not a map: `pxplanes render` draws it")
-    if TEXT.match(data[:4096]) and not kind_of(data):
+    if TEXT.match(data[:4096]) and not kinds.kind(data):
         return [of_text(data)]
     return [by_library(data, name, channel)]
 
@@ -142,58 +136,8 @@ def of_numbers(numbers: Numbers) -> Map:
 
 def of_netpbm(data: bytes) -> list[Map]:
     """The images of a file of P2, P3, P5 or P6, which may follow one another."""
-    found: list[Map] = []
-    if re.match(rb"\s*P[23]", data):
-        data = re.sub(rb"#[^\n]*", b"", data)
-    at = 0
-    while not found or re.compile(rb"\s*\S").match(data, at):
-        if len(found) == 2:
-            raise Trouble("there is more after two images")
-        samples, largest, at = netpbm_image(data, at)
-        found.append(of_samples(samples, largest))
-    if len({each.numbers.shape for each in found}) > 1:
-        raise Trouble("the two images differ in size")
-    return found
-
-
-def netpbm_image(data: bytes, at: int) -> tuple[Numbers, int, int]:
-    """The samples of the image that begins at a byte, the greatest that they may be, and the byte after them."""
-    head = NETPBM.match(data, at)
-    if not head:
-        raise Trouble("no image begins at byte %d: P2, P3, P5 or P6 with width, height and greatest sample is expected" % at)
-    kind, width, height, largest = (int(word) for word in head.groups())
-    check_size(width, height, largest)
-    shape = height, width, 3 if kind in (3, 6) else 1
-    count = shape[0] * shape[1] * shape[2]
-    if kind in (5, 6):
-        samples = raw(data, head.end(), ">u2" if largest > 255 else "u1", count)
-        end = head.end() + count * samples.itemsize
-    else:
-        words = data[head.end():].split(None, count)
-        if len(words) < count:
-            raise Trouble("the image ends early: %d samples of %d" % (len(words), count))
-        wrong = next((at for at, word in enumerate(words[:count]) if not word.isdigit() or int(word) > largest), None)
-        if wrong is not None:
-            raise Trouble("sample %d of the image is no number to %d" % (wrong + 1, largest))
-        samples, end = np.array(words[:count], np.uint16), len(data) - len(words[count] if len(words) > count else b"")
-        samples = samples.astype(np.uint8) if largest <= 255 else samples
-    if largest not in (255, 65535) and samples.max() > largest:
-        raise Trouble("a sample is greater than %d" % largest)
-    return samples.reshape(shape), largest, end
-
-
-def check_size(width: int, height: int, largest: int) -> None:
-    for what, number, most in (("width", width, LARGEST_SIDE), ("height", height, LARGEST_SIDE), ("greatest sample", largest, 65535)):
-        if not 1 <= number <= most:
-            raise Trouble("the %s is no number from 1 to %d" % (what, most))
-
-
-def raw(data: bytes, at: int, form: str, count: int) -> Numbers:
-    """So many numbers that begin at a byte."""
-    size = np.dtype(form).itemsize * count
-    if at + size > len(data):
-        raise Trouble("the image ends early: %d bytes of %d" % (len(data) - at, size))
-    return np.frombuffer(data, form, count, at)
+    return [of_samples(np.asarray(each.samples).reshape(each.height, each.width, each.channels), each.largest)
+            for each in netpbm.images(data)]
 
 
 def of_pam(data: bytes) -> Map:
@@ -203,11 +147,11 @@ def of_pam(data: bytes) -> Map:
     if head is None or len(words) != 4:
         raise Trouble("the head of the P7 file is not whole")
     width, height, channels, largest = (int(words[name]) for name in (b"WIDTH", b"HEIGHT", b"DEPTH", b"MAXVAL"))
-    check_size(width, height, largest)
+    netpbm.check_size(width, height, largest)
     if not 1 <= channels <= 4:
         raise Trouble("P7 is read with 1 to 4 channels, not %d" % channels)
-    samples = raw(data, head.end(), ">u2" if largest > 255 else "u1", width * height * channels)
-    return of_samples(samples.reshape(height, width, channels), largest)
+    samples, _ = netpbm.raw_samples(data, head.end(), width * height * channels, largest)
+    return of_samples(np.asarray(samples).reshape(height, width, channels), largest)
 
 
 def of_npy(data: bytes) -> Map:
@@ -261,8 +205,8 @@ def by_library(data: bytes, name: str, channel: Optional[str]) -> Map:
 
 def refused(data: bytes, message: str) -> str:
     """What is wrong with a file that is not read: what it is, or why the library refuses it."""
-    found = kind_of(data)
-    kind = found[0] if found and found[1] else next((said for head, said in OTHERS.items() if data.lstrip().startswith(head)), None)
+    found = kinds.kind(data)
+    kind = found[0] if found and found[1] else next((said for head, said in OTHERS.items() if data.lstrip().startswith(head)), "")
     if kind:
         return "this is %s, and not a picture" % kind
     if not data:
@@ -348,7 +292,7 @@ def png(pixels: Numbers) -> bytes:
     """A PNG file of greys of 16 bits, for uint16 of shape (height, width), or of colours, for uint8 of shape (height,
     width, 3)."""
     lines = [b"\0" + row.tobytes() for row in (pixels.astype(">u2") if pixels.ndim == 2 else pixels)]
-    return png_file(pixels.shape[1], pixels.shape[0], *((16, 0) if pixels.ndim == 2 else (8, 2)), lines)
+    return netpbm.png_file(pixels.shape[1], pixels.shape[0], *((16, 0) if pixels.ndim == 2 else (8, 2)), lines)
 
 
 def png_of_numbers(numbers: Numbers) -> bytes:

@@ -1,25 +1,37 @@
 """Reads images of Netpbm and writes pictures as PNG: what the tools share. It is no tool itself."""
 from __future__ import annotations
 
+import array
+import itertools
+import re
 import struct
+import sys
 import zlib
+from dataclasses import dataclass
 from typing import Iterable, Sequence
 
 from pxplanes.errors import Trouble
 
 CHANNELS = {b"P2": 1, b"P3": 3, b"P5": 1, b"P6": 3}
 PLAIN = (b"P2", b"P3")
-BLANK = b" \t\r\n\v\f"
+COMMENT = rb"#[^\n]*(?:\n|\Z)"
+GAP = rb"(?:\s|%s)" % COMMENT
+HEAD = re.compile(rb"%s*(P[2356])%s+(\d{1,9})%s+(\d{1,9})%s+(\d{1,9})(?!\d)" % ((GAP,) * 4))
+MORE = re.compile(rb"%s*[^\s#]" % GAP)
+WORD = re.compile(rb"%s|[^\s#]+" % COMMENT)
 LARGEST_SIDE = 65536
 PNG_HEAD = b"\x89PNG\r\n\x1a\n"
 
 
+@dataclass(frozen=True)
 class Image:
-    """`samples` has one or three numbers a pixel, row by row from the top, each to `largest`."""
+    """`samples` has one or three numbers a pixel, row by row from the top, each to `largest`: bytes, if that is less than 256."""
 
-    def __init__(self, width: int, height: int, channels: int, largest: int, samples: list[int]) -> None:
-        self.width, self.height, self.channels = width, height, channels
-        self.largest, self.samples = largest, samples
+    width: int
+    height: int
+    channels: int
+    largest: int
+    samples: array.array[int]
 
     def numbers(self) -> list[int]:
         """One number a pixel: a grey sample, or three bytes, highest byte first."""
@@ -27,7 +39,11 @@ class Image:
             return list(self.samples)
         if self.largest != 255:
             raise Trouble("a pixel map with samples to %d holds no numbers; 255 is expected" % self.largest)
-        return of_three_bytes(self.samples)
+        count = self.width * self.height
+        padded = bytearray(4 * count)
+        for at in range(3):
+            padded[at + 1::4] = bytes(self.samples[at::3])
+        return list(struct.unpack(">%dI" % count, padded))
 
     def colours(self) -> list[tuple[int, int, int]]:
         """Red, green and blue to 255 of each pixel."""
@@ -38,84 +54,74 @@ class Image:
         return list(zip(flat[0::3], flat[1::3], flat[2::3]))
 
 
-def of_three_bytes(samples: Sequence[int]) -> list[int]:
-    """The numbers of three bytes each, highest byte first."""
-    count = len(samples) // 3
-    padded = bytearray(4 * count)
-    for at in range(3):
-        padded[at + 1::4] = bytes(samples[at::3])
-    return list(struct.unpack(">%dI" % count, padded))
+def check_size(width: int, height: int, largest: int) -> None:
+    """Refuses an image of no size, or of one that is too large."""
+    for what, number, most in (("width", width, LARGEST_SIDE), ("height", height, LARGEST_SIDE), ("greatest sample", largest, 65535)):
+        if not 1 <= number <= most:
+            raise Trouble("the %s is no number from 1 to %d" % (what, most))
 
 
-def word_at(data: bytes, at: int) -> tuple[bytes, int]:
-    """The next word of a header, without comments, and the place after it."""
-    while at < len(data) and (data[at] in BLANK or data[at:at + 1] == b"#"):
-        if data[at:at + 1] == b"#":
-            stop = data.find(b"\n", at)
-            at = len(data) if stop < 0 else stop
-        at += 1
-    start = at
-    while at < len(data) and data[at] not in BLANK and data[at:at + 1] != b"#":
-        at += 1
-    return data[start:at], at
+def room_for(largest: int) -> array.array[int]:
+    """An empty list of samples."""
+    return array.array("H" if largest > 255 else "B")
 
 
-def number_at(data: bytes, at: int, what: str, least: int, most: int) -> tuple[int, int]:
-    word, at = word_at(data, at)
-    if not word.isdigit() or len(word) > 9 or not least <= int(word) <= most:
-        raise Trouble("%s is no number from %d to %d" % (what, least, most))
-    return int(word), at
+def plain_samples(data: bytes, at: int, count: int, largest: int) -> tuple[array.array[int], int]:
+    """So many samples in digits from a byte on, and the byte after them."""
+    samples, words = room_for(largest), (word for word in WORD.finditer(data, at) if word[0][:1] != b"#")
+    for word in itertools.islice(words, count):
+        if not word[0].isdigit() or len(word[0]) > 9 or int(word[0]) > largest:
+            raise Trouble("sample %d of the image is no number to %d" % (len(samples) + 1, largest))
+        samples.append(int(word[0]))
+        at = word.end()
+    if len(samples) < count:
+        raise Trouble("the image ends early: %d samples of %d" % (len(samples), count))
+    return samples, at
 
 
-def plain_samples(data: bytes, at: int, count: int, largest: int) -> tuple[list[int], int]:
-    words: list[int] = []
-    for _ in range(count):
-        word, at = word_at(data, at)
-        if not word.isdigit() or len(word) > 9 or int(word) > largest:
-            raise Trouble("sample %d of the image is no number to %d" % (len(words) + 1, largest))
-        words.append(int(word))
-    return words, at
-
-
-def raw_samples(data: bytes, at: int, count: int, largest: int) -> tuple[list[int], int]:
-    at += 1
-    size = count * (2 if largest > 255 else 1)
+def raw_samples(data: bytes, at: int, count: int, largest: int) -> tuple[array.array[int], int]:
+    """So many samples of one byte or two from a byte on, and the byte after them."""
+    samples = room_for(largest)
+    size = count * samples.itemsize
     if at + size > len(data):
         raise Trouble("the image ends early: %d bytes of %d" % (max(len(data) - at, 0), size))
-    body = data[at:at + size]
-    samples = list(struct.unpack(">%dH" % count, body) if largest > 255 else body)
-    if largest not in (255, 65535) and samples and max(samples) > largest:
+    samples.frombytes(data[at:at + size])
+    if sys.byteorder == "little":
+        samples.byteswap()
+    if largest not in (255, 65535) and max(samples) > largest:
         raise Trouble("a sample is greater than %d" % largest)
     return samples, at + size
 
 
 def image_at(data: bytes, at: int) -> tuple[Image, int]:
-    kind, at = word_at(data, at)
-    if kind not in CHANNELS:
-        raise Trouble("no image begins here: P2, P3, P5 or P6 is expected")
-    width, at = number_at(data, at, "the width", 1, LARGEST_SIDE)
-    height, at = number_at(data, at, "the height", 1, LARGEST_SIDE)
-    largest, at = number_at(data, at, "the greatest sample", 1, 65535)
-    count = width * height * CHANNELS[kind]
-    if kind in PLAIN and 2 * count - 1 > len(data) - at:
-        raise Trouble("the image ends early: %d samples are expected" % count)
+    """The image that begins at a byte, and the byte after it."""
+    head = HEAD.match(data, at)
+    if head is None:
+        raise Trouble("no image begins at byte %d: P2, P3, P5 or P6 with width, height and greatest sample is expected" % at)
+    kind, (width, height, largest) = head[1], map(int, head.groups()[1:])
+    check_size(width, height, largest)
     take = plain_samples if kind in PLAIN else raw_samples
-    samples, at = take(data, at, count, largest)
+    samples, at = take(data, head.end() + 1, width * height * CHANNELS[kind], largest)
     return Image(width, height, CHANNELS[kind], largest, samples), at
 
 
-def images(data: bytes, most: int = 2) -> list[Image]:
-    """The images of a file, one after another; blanks may follow the last."""
+def images(data: bytes) -> list[Image]:
+    """The images of a file, one after another, two at most; blanks and comments may follow the last."""
     found: list[Image] = []
     at = 0
-    while not found or word_at(data, at)[0]:
-        if len(found) == most:
-            raise Trouble("there is more after %s" % ("the image" if most == 1 else "two images"))
+    while not found or MORE.match(data, at):
+        if len(found) == 2:
+            raise Trouble("there is more after two images")
         image, at = image_at(data, at)
         found.append(image)
     if any((each.width, each.height) != (found[0].width, found[0].height) for each in found):
         raise Trouble("the two images differ in size")
     return found
+
+
+def header(width: int, height: int) -> bytes:
+    """What an image of three bytes a pixel begins with."""
+    return b"P6\n%d %d\n255\n" % (width, height)
 
 
 def png(width: int, height: int, colours: Sequence[Sequence[int]], wanted_side: int = 512) -> bytes:

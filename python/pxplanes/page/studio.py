@@ -30,8 +30,7 @@ def sum_of(text: bytes | None) -> str:
 def read(path: str) -> bytes | None:
     """What a file has; None where it is not there."""
     try:
-        content: bytes = ends.content(path)
-        return content
+        return ends.content(path)
     except FileNotFoundError:
         return None
 
