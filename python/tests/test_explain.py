@@ -106,9 +106,9 @@ def test_names_that_come_together():
 def test_first_cure_is_what_fix_writes():
     """The line of the first cure is in the mended text."""
     text = open(os.path.join(support.TOP, "docs", "scenes", "first.scene")).read().replace("\nside 0 1 -13", "\nsdie 0 1 -13").encode()
-    told = explaining.told(explaining.Judge(), text, "a.scene")
-    cure = next(line for line in told.lines if line.startswith("cure: "))
-    assert told.lines[0] == "a.scene:16:1: 'sdie' is not expected here (did you mean 'side'?) [unexpected]"
+    answer = explaining.answer_about(explaining.Judge(), text, "a.scene")
+    cure = next(line for line in answer.lines if line.startswith("cure: "))
+    assert answer.lines[0] == "a.scene:16:1: 'sdie' is not expected here (did you mean 'side'?) [unexpected]"
     assert cure == "cure: write side 0 1 -13" and b"\nside 0 1 -13\n" in readings.mended(text).text
 
 

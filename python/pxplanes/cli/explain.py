@@ -53,7 +53,7 @@ def run(options: argparse.Namespace) -> int:
         return fix(options.file, text, options)
     if options.cost:
         return cost(text, options)
-    found = told(text, options)
+    found = answer_about(text, options)
     if options.json or options.sarif:
         print(json.dumps(as_sarif(found, options.file) if options.sarif else as_json(found, text, options.file), ensure_ascii=False))
     else:
@@ -61,14 +61,14 @@ def run(options: argparse.Namespace) -> int:
     return frame.SUCCESS if found.is_accepted else frame.DIFFERS
 
 
-def as_json(found: explaining.Told, text: bytes, path: str) -> dict[str, Any]:
+def as_json(found: explaining.Answer, text: bytes, path: str) -> dict[str, Any]:
     """The answer for programs; of an accepted scene with its size and its faces."""
     places = [{key: value for key, value in place._asdict().items() if key != "shown"} for place in found.places]
     out = {"accepted": found.is_accepted, "file": name_of(path), "mistakes": places, "lines": found.lines}
     return {**out, **explaining.faces_of(scenes.read(text))} if found.is_accepted and is_scene(text) else out
 
 
-def as_sarif(found: explaining.Told, path: str) -> dict[str, Any]:
+def as_sarif(found: explaining.Answer, path: str) -> dict[str, Any]:
     """The mistakes as SARIF 2.1.0."""
     results = [{"ruleId": place.cause, "level": "error", "message": {"text": place.message}, "locations": [{"physicalLocation": {
         "artifactLocation": {"uri": name_of(path)},
@@ -77,16 +77,16 @@ def as_sarif(found: explaining.Told, path: str) -> dict[str, Any]:
             "runs": [{"tool": {"driver": {"name": "pxplanes explain"}}, "results": results}]}
 
 
-def told(text: bytes, options: argparse.Namespace) -> explaining.Told:
+def answer_about(text: bytes, options: argparse.Namespace) -> explaining.Answer:
     """The answer about a text."""
     if options.play and is_scene(text):
-        return explaining.Told(IS_A_SCENE, False, [])
+        return explaining.Answer(IS_A_SCENE, False, [])
     if not listings.is_listing(text):
         return of_scene(text, options.draw, options.at, name_of(options.file))
     if options.at or options.draw:
         raise Trouble("a listing has no picture; `pxplanes play` makes its memory")
     lines, status = of_listing(text)
-    return explaining.Told(lines, status == frame.SUCCESS, [])
+    return explaining.Answer(lines, status == frame.SUCCESS, [])
 
 
 class Program(explaining.Judge):
@@ -114,15 +114,15 @@ class Program(explaining.Judge):
         ends.say("pxplanes explain", line)
 
 
-def of_scene(text: bytes, draw: bool, at: Optional[list[int]], name: str = "scene") -> explaining.Told:
+def of_scene(text: bytes, draw: bool, at: Optional[list[int]], name: str = "scene") -> explaining.Answer:
     """The answer about a scene."""
     built = program.find(None)
     judge = explaining.Judge() if built is None else Program(built, draw)
     if built is None:
         ends.say("pxplanes explain", "no program is built; this is the tool's own reading (./pxplanes builds it)")
     if at and not judge.note(text) and explaining.own_reading(text)[0]:
-        return explaining.Told(ray(text, at), True, [])
-    return explaining.told(judge, text, name)
+        return explaining.Answer(ray(text, at), True, [])
+    return explaining.answer_about(judge, text, name)
 
 
 def ray(text: bytes, at: list[int]) -> list[str]:
@@ -183,7 +183,7 @@ def fix(path: str, text: bytes, options: argparse.Namespace) -> int:
 
 def print_unsure(text: bytes, name: str) -> None:
     """Prints each mistake of a text that is not mended, with what it may have been."""
-    for place in explaining.told(explaining.Judge(), text, name).places:
+    for place in explaining.answer_about(explaining.Judge(), text, name).places:
         where = "%s:%d:%d: " % (name, place.line, place.column)
         print("%s%s [%s]" % (where, place.message, place.cause), file=sys.stderr)
         for said in [place.cure] if place.cure else place.candidates[:explaining.MOST_CANDIDATES]:

@@ -70,7 +70,7 @@ def row_of(found: Any, counts: dict[str, int]) -> str:
     return "%-10s %5s  %s" % (found.side.name, found.cut or "-", " ".join("%8d" % counts[word] for word in COUNTS))
 
 
-def told(found: Any) -> str:
+def first_wrong(found: Any) -> str:
     """The first pixel of a picture that is wrong."""
     at = next(at for at, word in enumerate(found.words) if word in (MISSING, TOO_MUCH))
     width, far = found.side.scene.width, found.side.scene.far()
@@ -99,7 +99,7 @@ def report(expression: str, result: str, sides: int = verifying.SIDES, cuts: int
         counts = {word: found.words.count(word) for word in COUNTS}
         print(row_of(found, counts))
         if verifying.is_wrong(counts):
-            first = first or told(found)
+            first = first or first_wrong(found)
             if out:
                 verifying.leave(out, found)
         if not found.cut:

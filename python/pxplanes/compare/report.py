@@ -142,8 +142,8 @@ def ways(ours: Maps, theirs: Maps, found: Comparison, words: Sequence[str], far:
     if not keys:
         return []
     rows, counts = np.unique(np.stack(keys), axis=1, return_counts=True)
-    told = list(names)
-    lines = [(int(count), ", ".join(filter(None, (told[n] if title else signs[n] for title, n in zip(titles, row)))))
+    sides = list(names)
+    lines = [(int(count), ", ".join(filter(None, (sides[n] if title else signs[n] for title, n in zip(titles, row)))))
              for row, count in zip(rows.T.tolist(), counts)]
     lines.sort(key=lambda row: (-row[0], row[1]))
     return ["  %d pixel%s: %s" % (count, "s"[count == 1:], said) for count, said in lines]

@@ -64,7 +64,7 @@ def explain(text: Text, clocks: Optional[int] = None, progress: Optional[Progres
     ((20, 'write show ((pyramid - shaft) + bar)'),)
     """
     data = content(text)
-    found = explaining.told(judge_of(clocks, progress), data)
+    found = explaining.answer_about(judge_of(clocks, progress), data)
     lines, places = tuple(found.lines), tuple(found.places)
     if found.is_accepted or kinds.cure(data):
         return Explanation(found.is_accepted, lines, None, (), places)

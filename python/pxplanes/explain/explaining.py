@@ -10,7 +10,7 @@ from pxplanes.explain import cures, kinds, looks, readings
 from pxplanes.scene import limits, scenes
 
 WIDE = 76
-MOST_TOLD, MOST_CANDIDATES = 20, 5
+MOST_SHOWN, MOST_CANDIDATES = 20, 5
 OF_PRODUCTS = (
     "no list of products is longer than %d on the way to the shown one" % limits.MAX_PRODUCTS,
     "intersect and subtract first and join by + last, or draw the scene in parts")
@@ -51,7 +51,7 @@ class Place(NamedTuple):
     candidates: tuple[str, ...]
 
 
-class Told(NamedTuple):
+class Answer(NamedTuple):
     """The answer about a text: its lines, whether it is accepted, and its mistakes."""
 
     lines: list[str]
@@ -73,7 +73,7 @@ def meant(old: bytes, changes: list[readings.Change]) -> str:
     """The words that may have been meant, if each change is another word in one place."""
     before, found = re.findall(r"\w+|\S", readings.cut(old)[0]), []
     for change in changes[:2]:
-        after = re.findall(r"\w+|\S", change.told.partition("write ")[2])
+        after = re.findall(r"\w+|\S", change.sentence.partition("write ")[2])
         other = [new for word, new in zip(before, after) if word != new]
         if len(before) != len(after) or len(set(other)) != 1:
             return ""
@@ -93,16 +93,16 @@ def place_of(text: bytes, note: str, known: scenes.Refusal, number: int, mistake
     limit = note.rpartition(": ")[2] + " is past a limit"
     said = SAID.get(cause, limit) if note.startswith("malformed") else limit
     said = (said % word if "%s" in said else said) + (meant(line, changes) if known.span else "")
-    cure = mistake.change.told if mistake and mistake.change else None
+    cure = mistake.change.sentence if mistake and mistake.change else None
     rest = [("expected", known.due), ("limit", known.limit)]
     if cure:
         rest.append(("cure", cure))
     else:
         rest.append(("hint", other or cures.of(text, known) or known.cure))
-        rest += [("candidate", each.told) for each in changes[:MOST_CANDIDATES]]
+        rest += [("candidate", each.sentence) for each in changes[:MOST_CANDIDATES]]
     shown = [re.sub(r"line \d+", "line %d" % number, note, count=1) if own else note]
     shown += (marked(line, known.span) if known.span else []) + ["%s: %s" % each for each in rest if each[1]]
-    return Place(number, column, end, said, cause, tuple(shown), cure, tuple(each.told for each in changes if not cure))
+    return Place(number, column, end, said, cause, tuple(shown), cure, tuple(each.sentence for each in changes if not cure))
 
 
 def refused(judge: Judge, text: bytes, note: str, known: scenes.Refusal) -> list[Place]:
@@ -119,7 +119,7 @@ def refused(judge: Judge, text: bytes, note: str, known: scenes.Refusal) -> list
     elif not found or found[0].refusal.note != note:
         return [place_of(text, note, known, number, None, other)]
     for at, mistake in enumerate(found):
-        if at and at < MOST_TOLD and judge.note(mistake.text) != mistake.refusal.note:
+        if at and at < MOST_SHOWN and judge.note(mistake.text) != mistake.refusal.note:
             judge.say("the program reads the text with the first mistakes mended in another way")
             break
         places.append(place_of(mistake.text, str(mistake.refusal.note), mistake.refusal, mistake.number, mistake, None))
@@ -129,12 +129,12 @@ def refused(judge: Judge, text: bytes, note: str, known: scenes.Refusal) -> list
 def lines_of(places: list[Place], name: str) -> list[str]:
     """The lines about the mistakes of a text of some name."""
     out: list[str] = []
-    for place in places[:MOST_TOLD]:
+    for place in places[:MOST_SHOWN]:
         out += ["%s:%d:%d: %s [%s]" % (name, place.line, place.column, place.message, place.cause), *place.shown]
     if len(places) == 1:
         return out
     sure = all(place.cure for place in places)
-    left = len(places) - MOST_TOLD
+    left = len(places) - MOST_SHOWN
     said = "%d more" % left if left > 0 else looks.plural(len(places), "mistake") + " in all"
     return out + ["%s; %s" % (said, "--fix writes the mended text" if sure else "--fix is not sure of all of them, and writes nothing")]
 
@@ -179,7 +179,7 @@ def own_reading(text: bytes) -> tuple[Any, Optional[scenes.Refusal]]:
         return None, refusal
 
 
-def told(judge: Judge, text: bytes, name: str = "scene") -> Told:
+def answer_about(judge: Judge, text: bytes, name: str = "scene") -> Answer:
     """The answer about a text, which messages call by this name."""
     scene, known = own_reading(text)
     note = judge.note(text)
@@ -187,12 +187,12 @@ def told(judge: Judge, text: bytes, name: str = "scene") -> Told:
         known = scenes.Refusal(note, None, None, *OF_PRODUCTS)
     if note != (known.note if known else ""):
         judge.say("the program reads this text in another way; its answer is below")
-        return Told([note or "accepted"], not note, [])
+        return Answer([note or "accepted"], not note, [])
     if known:
         places = refused(judge, text, note, known)
-        return Told(lines_of(places, name), False, places)
+        return Answer(lines_of(places, name), False, places)
     found = looks.all_looks(scene)
     hints = looks.before_drawing(scene, found)
     faces, why = judge.faces(text, scene)
     hints += [hint for hint in looks.from_picture(scene, faces, found) if not hint[1].endswith(looks.NO_BACK)] if faces else []
-    return Told(accepted(scene, hints, [why] if why else [], found, faces), True, [])
+    return Answer(accepted(scene, hints, [why] if why else [], found, faces), True, [])

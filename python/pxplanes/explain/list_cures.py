@@ -49,5 +49,5 @@ def of(text: bytes, refusal: Any) -> list[str]:
     """The lines after a refusal: what was expected, or the limit."""
     if hasattr(refusal, "kind"):
         return ["limit: " + LIMITS[refusal.kind]] if refusal.kind in LIMITS else []
-    told = due(text, refusal)
-    return ["expected: " + told[0]] + ["cure: " + cure for cure in told[1:]]
+    expected = due(text, refusal)
+    return ["expected: " + expected[0]] + ["cure: " + cure for cure in expected[1:]]

@@ -27,13 +27,13 @@ Lines = list[bytes]
 
 
 class Change(NamedTuple):
-    """The lines from `first` up to `end`, counted from 0, become `lines`; `told` says so. `is_safe` is whether all numbers, signs
+    """The lines from `first` up to `end`, counted from 0, become `lines`; `sentence` says so. `is_safe` is whether all numbers, signs
     and names stay."""
 
     first: int
     end: int
     lines: tuple[bytes, ...]
-    told: str
+    sentence: str
     is_safe: bool
 
     def applied(self, lines: Lines) -> Lines:
@@ -258,8 +258,8 @@ class Search:
         """A change of lines to another text, which has their comment too."""
         lines = tuple(map(bytes_of, text.split("\n")))
         old, new = (" ".join(cut(line)[0] for line in each) for each in (self.lines[first:end], lines))
-        told = "write " + " and ".join(" ".join(words_of(line)) for line in lines)
-        return Change(first, end, lines, printable(told), keeps(old, new, self.before.names))
+        sentence = "write " + " and ".join(" ".join(words_of(line)) for line in lines)
+        return Change(first, end, lines, printable(sentence), keeps(old, new, self.before.names))
 
     def keyed(self) -> Iterator[Change]:
         """The edits of one key in the refused line, and its line end."""
@@ -343,19 +343,19 @@ class Search:
         for at in range(MOST_STEPS):
             if at and any(misplaced([kinds[place] for place in order]) is None for order in any_step(tuple(self.statements), kinds)):
                 return []       # one line may have come from several places
-            orders = {new: "; ".join(filter(None, (told, more))) for order, told in orders.items() for new, more in steps(order, kinds)}
-            found = [self.ordered(order, told) for order, told in orders.items() if misplaced([kinds[place] for place in order]) is None]
+            orders = {new: "; ".join(filter(None, (sentence, more))) for order, sentence in orders.items() for new, more in steps(order, kinds)}
+            found = [self.ordered(order, sentence) for order, sentence in orders.items() if misplaced([kinds[place] for place in order]) is None]
             if found:
                 return list({change.lines: change for change in found}.values())
         return []
 
-    def ordered(self, order: tuple[int, ...], told: str) -> Change:
+    def ordered(self, order: tuple[int, ...], sentence: str) -> Change:
         """The lines with words in another order; all others stay where they are."""
         lines = list(self.lines)
         for place, own in zip(self.statements, order):
             lines[place] = self.lines[own]
         other = [place for place, own in zip(self.statements, order) if place != own]
-        return Change(other[0], other[-1] + 1, tuple(lines[other[0]:other[-1] + 1]), told, True)
+        return Change(other[0], other[-1] + 1, tuple(lines[other[0]:other[-1] + 1]), sentence, True)
 
     def readings(self) -> tuple[Optional[Change], list[Change]]:
         """The change that is sure, or None; and the nearest candidates, each another scene."""
@@ -414,20 +414,20 @@ def plain(text: bytes) -> tuple[bytes, Optional[str]]:
         return text[3:], "the byte-order mark before the text is gone"
     if b"\n" not in text and b"\r" in text:
         return text.replace(b"\r", b"\n"), "its lines ended in carriage returns alone; they end in line feeds now"
-    out, told = [], None
+    out, sentence = [], None
     for line in scenes.cut_lines(text):
         body, comment = cut(line)
         new = unicodedata.normalize("NFKC", NOTHING.sub("", DASHES.sub("-", body)))
         if not body.isascii() and new.isascii():
-            line, told = bytes_of(new + comment), "signs and spaces of other alphabets are plain ones now"
+            line, sentence = bytes_of(new + comment), "signs and spaces of other alphabets are plain ones now"
         out.append(line)
-    return (joined(out), told) if told else (text, None)
+    return (joined(out), sentence) if sentence else (text, None)
 
 
 def mended(text: bytes) -> Mending:
     """Mends what is sure, and finds the mistakes of the text in the order of its lines."""
-    new, told = plain(text)
-    changes = [(0, told)] if told else []
+    new, sentence = plain(text)
+    changes = [(0, sentence)] if sentence else []
     lines = scenes.cut_lines(new)
     mistakes: list[Mistake] = []
     numbers, is_whole = list(range(1, len(lines) + 1)), True
@@ -442,7 +442,7 @@ def mended(text: bytes) -> Mending:
             good, shown = sure.applied(good), sure.applied(shown)
             more = len(sure.lines) - (sure.end - sure.first)
             numbers[sure.first:sure.end] = (numbers[sure.first:sure.end] + [number] * more)[:len(sure.lines)]
-            changes.append((number, sure.told))
+            changes.append((number, sure.sentence))
         else:
             is_whole = False
             if instead is None:
