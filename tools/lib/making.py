@@ -242,7 +242,7 @@ class Proof:
         is used."""
         try:
             if program.is_newer():
-                building.Proved(self.room, 2).make_program(building.SECOND)
+                building.Proved(self.room, 2).make_program(builds.SECOND)
         except (Trouble, OSError) as why:
             self.note(why)
 
