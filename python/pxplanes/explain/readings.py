@@ -18,8 +18,6 @@ KEYS = "abcdefghijklmnopqrstuvwxyzABCDEFGHIJKLMNOPQRSTUVWXYZ0123456789_- ()+*^\n
 LONGEST, MOST_LINES, MOST_MISTAKES = 300, 5000, 200
 DASHES = re.compile("[\u2010-\u2015\u2212\ufe63\uff0d]")
 NOTHING = re.compile("[\u200b-\u200d\u2060\ufeff]")
-# After these causes lines may be in the wrong order; so many steps are looked for.
-OF_ORDER, MOST_STEPS = ("unexpected", "after-end", "not-header", "unknown-name"), 2
 # After these causes the rest of the text can be read on.
 OWN_LINE = ("not-number", "word-count", "bad-name", "second-name", "bad-expression", "unknown-name")
 DUE = scenes.DUE
@@ -79,15 +77,6 @@ class Judge(scenes.Reader):
         for line in lines:
             new.take(line)
         return new
-
-    def completed(self, lines: Lines) -> Any:
-        """The scene that the text is with the rest of its lines; None if it is none."""
-        try:
-            rest = self.after(lines)
-            scenes.pixel_memory(rest.scene)
-            return rest.scene if rest.step == 7 else None
-        except scenes.Refusal:
-            return None
 
 
 def meaning(scene: Any, named: bool = False) -> tuple[Any, ...]:
@@ -197,55 +186,6 @@ def keeps(old: str, new: str, names: Any) -> bool:
     return has[0] == "pxscene" or numerals(had) == numerals(has) or len(had) == len(has) and had[own:] == has[own:]
 
 
-def keyword_of(first: str) -> str:
-    """The keyword that the first word of a line is, is near to, or has glued to more; empty if there is none."""
-    near = sorted((distance(first, word), word) for word in KEYWORDS if is_near(first, word))
-    return near[0][1] if near else next((word for word in KEYWORDS if first.startswith(word)), "")
-
-
-def misplaced(kinds: list[str]) -> Optional[int]:
-    """The place of the first keyword that is not expected there; None if all are in order. The first and the last may be missing."""
-    step = 1 if "pxscene" in kinds else 2
-    for at, kind in enumerate(kinds):
-        if kind.encode() not in (DUE[step] or [b"pxscene"] * (step == 1)):
-            return at
-        step = 5 if step == 5 and kind != "show" else {"solid": 5, "show": 6}.get(kind, step + 1)
-    return None if step == 7 or step == 6 and "end" not in kinds else len(kinds)
-
-
-def steps(order: tuple[int, ...], kinds: dict[int, str]) -> Iterator[tuple[tuple[int, ...], str]]:
-    """The orders that come of one exchange or move: of a line that has one place in a scene alone, or of the first one out of order
-    with its neighbours."""
-    own = [kinds[place] for place in order]
-    bad = misplaced(own)
-    if bad is None:
-        return
-    for near in (bad - 1, bad):
-        if 0 <= near < len(order) - 1:
-            new = order[:near] + (order[near + 1], order[near]) + order[near + 2:]
-            yield new, "put line %d above line %d" % (order[near + 1] + 1, order[near] + 1)
-    firsts = [word for word in KEYWORDS[:3] if word in own]
-    lasts = [word for word in KEYWORDS[-2:] if word in own]
-    for word, due in [*zip(firsts, range(3)), *zip(lasts, range(len(order) - len(lasts), len(order)))]:
-        at = own.index(word)
-        if own.count(word) == 1 and at != due:
-            exchanged, moved = list(order), list(order)
-            exchanged[at], exchanged[due] = order[due], order[at]
-            yield tuple(exchanged), "exchange line %d and line %d" % (order[at] + 1, order[due] + 1)
-            moved.insert(due, moved.pop(at))
-            yield tuple(moved), "put line %d %s line %d" % (order[at] + 1, "above" if at > due else "below", order[due] + 1)
-
-
-def any_step(order: tuple[int, ...], kinds: dict[int, str]) -> Iterator[tuple[int, ...]]:
-    """The orders that come of one exchange of any two lines, or of one that is put anywhere else, at the first one out of order."""
-    for one in range(1 + (misplaced([kinds[place] for place in order]) or 0)):
-        for other in range(one + 1, len(order)):
-            before, between, after = order[:one], order[one + 1:other], order[other + 1:]
-            yield before + order[other:other + 1] + between + order[one:one + 1] + after
-            yield before + between + order[other:other + 1] + order[one:one + 1] + after
-            yield before + order[other:other + 1] + order[one:one + 1] + between + after
-
-
 class Search:
     """Finds the readings of one refused line."""
 
@@ -319,9 +259,8 @@ class Search:
 
     def versions(self) -> Iterator[Change]:
         """The header with another version, or the header and the end that are missing."""
-        end = b"\r" if self.lines and self.lines[0].endswith(b"\r") else b""
-        kinds = [keyword_of(words_of(self.lines[place])[0]) for place in self.statements]
-        if self.cause == "not-header" and "pxscene" not in kinds and kinds[0]:
+        at, end = self.at, b"\r" if self.lines and self.lines[0].endswith(b"\r") else b""
+        if self.cause == "not-header" and is_near(words_of(self.lines[at])[0], "picture"):
             for version in (version_of(self.lines), b"1", b"2", b"3"):
                 place = self.statements[0] if self.statements else 0
                 yield Change(place, place, (b"pxscene " + version + end,), "add a line above this one: pxscene %s" % version.decode(), True)
@@ -333,53 +272,63 @@ class Search:
                 new = re.sub(rb"(?<=pxscene)([ \t]+)\d", rb"\g<1>" + version, self.lines[place], count=1)
                 yield Change(place, place + 1, (new,), "write pxscene %s in the first line" % version.decode(), True)
 
-    def arranged(self) -> list[Change]:
-        """The other orders of the lines, by the fewest of one or two steps, in which each begins like one that is expected there,
-        whatever else is wrong in it."""
-        kinds = {place: keyword_of(words_of(self.lines[place])[0]) for place in self.statements}
-        orders: dict[tuple[int, ...], str] = {tuple(self.statements): ""}
-        if self.cause not in OF_ORDER or misplaced(list(kinds.values())) is None:
-            return []
-        for at in range(MOST_STEPS):
-            if at and any(misplaced([kinds[place] for place in order]) is None for order in any_step(tuple(self.statements), kinds)):
-                return []       # one line may have come from several places
-            orders = {new: "; ".join(filter(None, (sentence, more))) for order, sentence in orders.items() for new, more in steps(order, kinds)}
-            found = [self.ordered(order, sentence) for order, sentence in orders.items() if misplaced([kinds[place] for place in order]) is None]
-            if found:
-                return list({change.lines: change for change in found}.values())
-        return []
+    def swapped(self) -> Iterator[Change]:
+        """The refused line in the place of the one before it or the one after it."""
+        if self.at in self.statements and self.cause in ("unexpected", "after-end", "not-header"):
+            here = self.statements.index(self.at)
+            for one, other in zip(self.statements[max(0, here - 1):here + 1], self.statements[max(1, here):here + 2]):
+                yield self.moved(one, other)
 
-    def ordered(self, order: tuple[int, ...], sentence: str) -> Change:
-        """The lines with words in another order; all others stay where they are."""
-        lines = list(self.lines)
-        for place, own in zip(self.statements, order):
-            lines[place] = self.lines[own]
-        other = [place for place, own in zip(self.statements, order) if place != own]
-        return Change(other[0], other[-1] + 1, tuple(lines[other[0]:other[-1] + 1]), sentence, True)
+    def moved(self, one: int, other: int) -> Change:
+        """Two lines in each other's place."""
+        lines = (self.lines[other], *self.lines[one + 1:other], self.lines[one])
+        sentence = printable("put line %d above line %d: %s" % (other + 1, one + 1, " ".join(words_of(self.lines[other]))))
+        return Change(one, other + 1, lines, sentence, True)
+
+    def placed(self) -> Iterator[Change]:
+        """Each line that has one place in a scene alone, put there, or in exchange with what is there."""
+        if self.cause not in ("unexpected", "after-end", "not-header", "unknown-name"):
+            return
+        order = [place for word in KEYWORDS[:3] for place in self.statements if words_of(self.lines[place])[0] == word]
+        order += [place for word in ("show", "end") for place in self.statements if words_of(self.lines[place])[0] == word]
+        if len(order) != 5:
+            return
+        for place, due in zip(order, self.statements[:3] + self.statements[-2:]):
+            if place != due:
+                first, last = sorted((place, due))
+                yield self.moved(first, last)
+                between = self.lines[first:last + 1]
+                between = between[1:] + between[:1] if place == first else between[-1:] + between[:-1]
+                sentence = "put line %d %s line %d" % (place + 1, "below" if place == first else "above", due + 1)
+                yield Change(first, last + 1, tuple(between), sentence, True)
 
     def readings(self) -> tuple[Optional[Change], list[Change]]:
         """The change that is sure, or None; and the nearest candidates, each another scene."""
-        near = self.judged([*self.keyed(), *self.renamed(1), *self.versions()])
-        arranged = [] if near[0] else self.arranged()
-        far = ({}, {}) if near[0] or arranged else self.judged([*self.spelled(2), *self.renamed(2)])
-        found = list((near[0] or far[0]).values()) or arranged or list((near[1] or far[1]).values())
-        return found[0] if len(found) == 1 and found[0].is_safe else None, found
+        near = self.judged([*self.keyed(), *self.renamed(1), *self.versions(), *self.swapped()])
+        far = ({}, {}) if near[0] else self.judged([*self.spelled(2), *self.renamed(2), *self.placed()])
+        found = near[0] or far[0] or near[1] or far[1]
+        only = next(iter(found.values())) if len(found) == 1 else None
+        return only if only and only.is_safe else None, list(found.values())
 
     def judged(self, changes: list[Change]) -> tuple[dict[Any, Change], dict[Any, Change]]:
         """The changes that make the whole text a scene, and those that make one up to this line; one for each meaning."""
         wholes: dict[Any, Change] = {}
         parts: dict[Any, Change] = {}
         for change in changes:
-            new = change.applied(self.lines)
             stop = change.first + len(change.lines)
-            if change.first != self.at or change.end > self.at + 1:
-                stop = min(len(new), max(stop, self.at + 1 + stop - change.end))
+            passed = max(stop, self.at + len(change.lines) - (change.end - change.first) + 1)
+            new = change.applied(self.lines)
             try:
-                state = self.before.after(new[self.at:stop]) if change.first == self.at else Judge().after(new[:stop])
+                if change.first == self.at and change.end <= self.at + 1:
+                    state = self.before.after(list(change.lines))
+                else:
+                    state = Judge().after(new[:min(passed, len(new))])
             except scenes.Refusal:
                 continue
-            whole = state.completed(new[stop:])
-            key, found = (meaning(whole), wholes) if whole else (meaning(state.scene, self.cause != "unknown-name"), parts)
+            if first_mistake(new)[0] is None:
+                key, found = meaning(scenes.read(joined(new))), wholes
+            else:
+                key, found = meaning(state.scene, self.cause != "unknown-name"), parts
             if key not in found or change.is_safe and not found[key].is_safe:
                 found[key] = change
         return wholes, parts
