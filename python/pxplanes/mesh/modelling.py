@@ -421,7 +421,7 @@ def tell(shown: Any, view: Any, worst: Any, choices: Any, wanted: Any) -> None:
             off, 2 ** choices.bits[0] - 1, "its face" if wanted else "the picture", where))
     if wanted:
         distances = view.camera.distances
-        say("near %.4g, far %.4g; a distance is off by at most %.2g, at far; the picture wants --depth %d %d" % (
+        say("near %.4g, far %.4g; a distance is off by at most %.2g, at far; the picture needs --depth %d %d" % (
             distances.near, distances.far, (off + 1) * distances.far ** 2 / distances.scale, *wanted))
     tell_of_edges(view, not rays.shows_anything(shown))
 
