@@ -53,8 +53,9 @@ def look(page):
           page.run("document.querySelectorAll('.wave .clocks').length"), "clocks")
     moves = []
     for key in "smpbMPr":
+        before = page.run("document.body.dataset.shown")
         page.press(key)
-        page.until("document.body.dataset.shown === document.getElementById('clock').value")
+        page.until("document.body.dataset.shown !== '%s'" % before)
         moves.append("%s %s" % (key, page.run("document.body.dataset.shown")))
     print("keys:", ", ".join(moves))
 
