@@ -76,17 +76,16 @@ export class Wall {
 
   // Gives the sheet the size of the wall, and draws all of it.
   lay() {
-    const {root, sheet, tiles, shown} = this, times = devicePixelRatio;
+    const {sheet, tiles, shown} = this, times = devicePixelRatio;
     // (the sheet itself must not be what makes the wall as wide and high as it was)
     Object.assign(sheet.style, {width: 0, height: 0});
-    Object.assign(sheet, {width: root.scrollWidth * times, height: root.scrollHeight * times});
-    Object.assign(sheet.style, {width: root.scrollWidth + "px", height: root.scrollHeight + "px"});
+    const boxes = tiles.map(({place}) => [place.offsetLeft, place.offsetTop, place.offsetWidth, place.offsetHeight]);
+    const ends = [0, 1].map(way => Math.max(0, ...boxes.map(box => box[way] + box[way + 2])));
+    Object.assign(sheet, {width: ends[0] * times, height: ends[1] * times});
+    Object.assign(sheet.style, {width: ends[0] + "px", height: ends[1] + "px"});
     const [width, height] = this.of.split(" ").map(Number), isFine = width > COARSE;
     this.pen = Object.assign(sheet.getContext("2d"), {imageSmoothingEnabled: isFine, imageSmoothingQuality: "medium"});
-    for (const tile of tiles) {
-      const {offsetLeft, offsetTop, offsetWidth, offsetHeight} = tile.place;
-      tile.box = [offsetLeft, offsetTop, offsetWidth, offsetHeight].map(each => each * times);
-    }
+    tiles.forEach((tile, at) => { tile.box = boxes[at].map(each => each * times); });
     this.step = isFine && height >= SMALL && tiles[0].box[2] <= width / SMALL ? SMALL : 1;
     Object.assign(this.page, {width: width / this.step, height: height / this.step});
     this.pixels = new Uint32Array(this.page.width * this.page.height);
