@@ -81,7 +81,7 @@ def test_nothing_overlaps_or_is_cut(browser: Browser, width: int, height: int, d
 
 def test_the_wall_becomes_narrow_with_the_window(browser: Browser) -> None:
     browser.size(900, 600)
-    pages.alone(browser, behind=link(HOUSE, "machine", clock=40000))
+    pages.alone(browser, fragment=link(HOUSE, "machine", clock=40000))
     browser.until("document.body.dataset.shown === '40000' && document.querySelector('.sheet').offsetWidth")
     browser.size(640, 600)
     browser.until("(({clientWidth, scrollWidth}) => clientWidth < 640 && clientWidth === scrollWidth)(document.getElementById('planes'))", 10)
