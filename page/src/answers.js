@@ -9,17 +9,11 @@ import {rayOf} from "./ray.js";
 import {refusalOf} from "./refusals.js";
 import {Life} from "./replay.js";
 import {isListing, readScene} from "./scene.js";
-import {fillBits, onesOf} from "./state.js";
+import {fillBits, kept, onesOf} from "./state.js";
 
 const MOST_CLOCKS = 100, MOST_SMALL = 256, MOST_GROUPS = 200, MALFORMED = 3, LIMIT = 4, NO_CLOCK = 9, IDLE = 200;
 // `idle` makes ready what may be asked next, where nothing is asked for a moment; `lived` is the pixel whose life was asked last.
 let px = null, idle = null, lived = null;
-
-// What is made of a text, kept for the text that came last.
-function kept(make) {
-  let known = null;
-  return text => known?.text === text ? known.value : (known = {text, value: make(text)}).value;
-}
 
 // (`check` throws where the library refuses the text)
 const sceneIn = kept(text => px.check(text) && readScene(text));

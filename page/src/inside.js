@@ -34,10 +34,12 @@ export class Inside {
     if (!state || at("machine").hidden) return;
     at("pixel-name").textContent = isIn ? pixel.join(", ") : "";
     if (!isIn) return at("inside").replaceChildren(made("p", "quiet", "Point at a pixel of the array, or click one to keep it."));
-    const found = formOf(course?.operations[state.operation]?.[1] ?? ""), room = at("inside").clientWidth - GAP, used = usedBits(state, fields), high = at("inside").parentElement.clientHeight - at("inside").offsetTop + at("inside").parentElement.offsetTop;
-    const circuit = height => [circuitOf(state.next, state.pixel(...pixel), used, [room, height])];
+    const found = formOf(course?.operations[state.operation]?.[1] ?? ""), used = usedBits(state, fields);
+    // (what is asked of the layout takes long, so it is asked only where a part needs it)
+    const circuit = high => [circuitOf(state.next, state.pixel(...pixel), used, [at("inside").clientWidth - GAP, high])];
+    const room = ({parentElement, offsetTop}) => parentElement.clientHeight - offsetTop + parentElement.offsetTop - GAP;
     // (a wide page has room for the circuit below the bits)
-    const shown = {bits: () => [...pixelOf(state, before, fields, ...pixel), ...matchMedia("(min-width: 100rem)").matches ? circuit(0) : []], circuit: () => circuit(high - GAP),
+    const shown = {bits: () => [...pixelOf(state, before, fields, ...pixel), ...matchMedia("(min-width: 100rem)").matches ? circuit(0) : []], circuit: () => circuit(room(at("inside"))),
       way: () => [wayOf(state, found?.form ?? null, found?.bits, pixel)], life: () => []};
     // (a waveform is asked for where nobody waits for the next state)
     if (part === "waveform") return player.isPlaying || this.fetchWave(...pixel);
