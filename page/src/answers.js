@@ -169,7 +169,7 @@ async function answered({name, words, text}) {
 }
 
 // The first message has the module of the library, and each other one a question.
-let ready = null;
+let ready = null, text = null;
 globalThis.onmessage = async ({data}) => {
   clearTimeout(idle);
   if (data.module) {
@@ -178,7 +178,8 @@ globalThis.onmessage = async ({data}) => {
   }
   try {
     px = await ready;
-    const answer = await answered(data);
+    text = data.text ?? text;
+    const answer = await answered({...data, text});
     postMessage(answer, (GIVEN[data.name] ?? []).flatMap(name => answer[name]?.buffer ?? []));
   } catch (error) {
     postMessage({failed: `${error.name}: ${error.message}`});

@@ -2,7 +2,7 @@
 import {ask, latest} from "./ask.js";
 import {circuitOf} from "./circuit.js";
 import {formOf} from "./passes.js";
-import {pixelOf, usedBits} from "./pixel.js";
+import {Bits, usedBits} from "./pixel.js";
 import {choice} from "./rove.js";
 import {at, made} from "./show.js";
 import {waveform} from "./wave.js";
@@ -13,7 +13,7 @@ const GAP = 4, PARTS = ["bits", "circuit", "way", "waveform", "life"];
 export class Inside {
   // `machine` has the state, the course and the fields.
   constructor(machine) {
-    Object.assign(this, {machine, part: "bits", waves: {}});
+    Object.assign(this, {machine, part: "bits", waves: {}, bits: new Bits()});
     this.fetchWave = latest((x, y) => this.takeWave(x, y).catch(machine.tell));
     this.mark = choice(at("inside-parts"), "inside", PARTS, part => this.choose(part));
     this.choose("bits");
@@ -39,11 +39,12 @@ export class Inside {
     const circuit = high => [circuitOf(state.next, state.pixel(...pixel), used, [at("inside").clientWidth - GAP, high])];
     const room = ({parentElement, offsetTop}) => parentElement.clientHeight - offsetTop + parentElement.offsetTop - GAP;
     // (a wide page has room for the circuit below the bits)
-    const shown = {bits: () => [...pixelOf(state, before, fields, ...pixel), ...matchMedia("(min-width: 100rem)").matches ? circuit(0) : []], circuit: () => circuit(room(at("inside"))),
+    const shown = {bits: () => [...this.bits.of(state, before, fields, ...pixel), ...matchMedia("(min-width: 100rem)").matches ? circuit(0) : []], circuit: () => circuit(room(at("inside"))),
       way: () => [wayOf(state, found?.form ?? null, found?.bits, pixel)], life: () => []};
     // (a waveform is asked for where nobody waits for the next state)
     if (part === "waveform") return player.isPlaying || this.fetchWave(...pixel);
-    at("inside").replaceChildren(...shown[part]());
+    const own = shown[part](), known = at("inside").children;
+    if (own.length !== known.length || own.some((each, place) => each !== known[place])) at("inside").replaceChildren(...own);
     document.body.dataset.inside = `${pixel.join(" ")} ${state.clock}`;
   }
 

@@ -49,7 +49,7 @@ export class Screen {
     if (isOther || !this.image) this.image = new ImageData(width, height);
     this.inner = inner;
     fill(new Uint32Array(this.image.data.buffer));
-    this.canvas.getContext("2d").putImageData(this.image, 0, 0);
+    this.canvas.getContext("2d", {alpha: false}).putImageData(this.image, 0, 0);
     if (this.kept && (this.kept[0] >= width || this.kept[1] >= height)) this.keep(null);
     if (!isPlaced) this.place();
   }

@@ -186,7 +186,7 @@ export class Strip {
   // Marks the clock that is shown.
   mark() {
     const [from, to] = this.course.view;
-    at("now").style.left = 100 * (this.clock - from) / Math.max(1, to - from) + "%";
+    at("now").style.transform = `translateX(${100 * (this.clock - from) / Math.max(1, to - from)}%)`;
   }
 }
 
