@@ -9,7 +9,7 @@ import {NAMES, formOf} from "./passes.js";
 import {Inside} from "./inside.js";
 import {Player} from "./play.js";
 import {Predict} from "./predict.js";
-import {Screen, at, made, passChip} from "./show.js";
+import {Screen, at, made, passChip, set, write} from "./show.js";
 import {changedPlanes, fieldsOf, isAnyOf, onesOf, viewsOf} from "./state.js";
 import {Strip} from "./strip.js";
 import {isShown, treeOf} from "./tree.js";
@@ -186,8 +186,8 @@ export class Machine {
     const {width, height} = state, now = state.operationClock - 1 - state.levels;
     this.edges.show(found && {...found, width, height, now});
     const isSaid = this.edges.isOn && found && this.pixel;
-    at("sum").textContent = isSaid ? saidOf({...found, now}, this.pixel) : "";
-    at("sum").hidden = !isSaid;
+    write(at("sum"), isSaid ? saidOf({...found, now}, this.pixel) : "");
+    set(at("sum"), "hidden", !isSaid);
   }
 
   // The pass, the operation and the microinstruction that come next, in words.
@@ -198,13 +198,18 @@ export class Machine {
     const end = this.head.layout ? "all is done: key B has the picture" : "all is done";
     const place = isDone ? `${count.toLocaleString("en")} operations in ${state.clocks.toLocaleString("en")} clocks`
       : `operation ${operation} (of 0 to ${count - 1}), next its clock ${state.operationClock} (of 0 to ${course.startOf(operation + 1) - first - 1})`;
-    const number = made("span", "label", `pass ${pass + 1} of ${course.passes.length}`);
-    at("pass").replaceChildren(passChip(kind), number, ...worded(said));
-    at("operation").replaceChildren(...worded(isDone ? end : words));
-    write("#line code", isDone ? "" : line);
-    write("#line .quiet", place);
-    write("#micro code", state.micro ?? "nothing");
-    write("#micro .quiet", state.micro ? treeWords(state.micro) : "");
+    if (this.told?.course !== course || this.told.pass !== pass)
+      at("pass").replaceChildren(passChip(kind), made("span", "label", `pass ${pass + 1} of ${course.passes.length}`), ...worded(said));
+    this.told = {course, pass};
+    this.tellOperation(isDone ? end : words);
+    const parts = {"#line code": isDone ? "" : line, "#line .quiet": place, "#micro code": state.micro ?? "nothing",
+      "#micro .quiet": state.micro ? treeWords(state.micro) : ""};
+    for (const [selector, said] of Object.entries(parts)) write(document.querySelector(selector), said);
+  }
+
+  tellOperation(words) {
+    if (words !== this.operation) at("operation").replaceChildren(...worded(words));
+    this.operation = words;
   }
 
   fillViews() {
@@ -272,7 +277,7 @@ export class Machine {
       if (view) this.paintOne(this.screens[place], view, !isSame || isAnyOf(changed, view.planes));
     });
     this.painted = `${this.view} ${this.beside}`;
-    at("count").textContent = this.screens[0].said;
+    write(at("count"), this.screens[0].said);
   }
 
   // Makes room for what is shown large.
@@ -343,7 +348,7 @@ export class Machine {
     const {state} = this;
     if (!state || at("machine").hidden) return;
     const pixel = this.pixel && this.pixel[0] < state.width && this.pixel[1] < state.height ? this.pixel : null;
-    at("tree-part").hidden = !isShown(state);
+    set(at("tree-part"), "hidden", !isShown(state));
     const width = isShown(state) ? at("tree-part").parentElement.clientWidth - GAP : 0;
     if (width > 0) at("tree").replaceChildren(treeOf(state, pixel, width));
     this.parts.show();
@@ -355,8 +360,6 @@ export class Machine {
     return view.group === "memory" ? [[`bit ${view.plane}`, view.plane]] : alive ? [["alive", alive.at]] : [];
   }
 }
-
-function write(selector, words) { document.querySelector(selector).textContent = words; }
 
 // The part of an image of the array that is the picture.
 function cut(pixels, wide, {width, height}) {

@@ -1,5 +1,5 @@
 // What a pixel holds: its registers, its keys as numbers, and the bits of its memory in rows.
-import {made} from "./show.js";
+import {made, set, write} from "./show.js";
 import {REGISTERS} from "../library/pxplanes.mjs";
 
 const BITS_IN_ROW = 24, KEYS = [["best", "key B"], ["candidate", "key T"]];
@@ -19,11 +19,11 @@ export class Bits {
     const next = state.next?.hasPlace ? state.next.place : -1;
     for (const {which, element, words, kind} of this.cells) {
       const bit = state.bit(which, x, y), isChanged = isAlike && before.bit(which, x, y) !== bit;
-      write(element, "className", kinds(kind, bit && "on", isChanged && "changed", which === next && "next"));
-      write(words, "textContent", String(bit));
+      set(element, "className", kinds(kind, bit && "on", isChanged && "changed", which === next && "next"));
+      write(words, String(bit));
     }
     for (const {words, own} of this.keys)
-      write(words, "textContent", own.map(({name, at, length}) => `${name.split(" ")[1]} ${state.number(at, length, x, y)}`).join(", "));
+      write(words, own.map(({name, at, length}) => `${name.split(" ")[1]} ${state.number(at, length, x, y)}`).join(", "));
     return this.parts;
   }
 
@@ -61,7 +61,5 @@ export class Bits {
     return table;
   }
 }
-
-function write(element, name, words) { if (element[name] !== words) element[name] = words; }
 
 const kinds = (...names) => names.filter(Boolean).join(" ");

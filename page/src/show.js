@@ -209,6 +209,14 @@ export function made(name, kind = "", text = "", ...inside) {
   return element;
 }
 
+// Gives an element words or a property that are not its own yet: a browser lays out again also what is written as it was.
+export function write(element, words) {
+  if (element.textContent === words) return;
+  if (element.firstChild) element.firstChild.data = words; else element.textContent = words;
+}
+
+export function set(element, name, value) { if (element[name] !== value) element[name] = value; }
+
 // A small square of a colour, as CSS writes it; and of the colour of a kind of passes.
 export const chip = colour => Object.assign(made("i", "chip"), {style: `background: ${colour}`});
 export const passChip = kind => chip(`var(--pass-${kind})`);
