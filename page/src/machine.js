@@ -20,7 +20,7 @@ const GAP = 4, PICTURE = "best colours", FIRST_VIEW = "enable";
 
 export class Machine {
   constructor(tell) {
-    Object.assign(this, {tell, text: null, head: null, course: null, state: null, before: null, pixel: null});
+    Object.assign(this, {tell, text: null, head: null, course: null, state: null, before: null, pixel: null, fields: []});
     // What is shown large, and what next to it: names of views; none next to it is "".
     Object.assign(this, {view: PICTURE, beside: "", wanted: 0, frames: 0});
     this.player = new Player(this);
