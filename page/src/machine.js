@@ -299,6 +299,7 @@ export class Machine {
     const {clientWidth: wide, clientHeight: high} = at("stages"), {width, height} = this.state;
     const scale = (columns, rows) => Math.min(wide / columns / width, high / rows / height);
     at("stages").classList.toggle("stacked", scale(1, 2) > scale(2, 1));
+    at("machine").classList.toggle("square", width <= height && !this.beside && !isShown(this.state));
   }
 
   paintOne(screen, view, isChanged) {
