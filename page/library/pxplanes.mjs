@@ -18,8 +18,9 @@ const KINDS = ["all", "keep-sign", "keep-bit", "load-linear", "keep-at-most", "a
   "keep-less"];
 const FACES = ["near", "front", "back"];
 const ROLES = [null, "start", "open", "candidate", "drop", "clear", "front", "confirm", "begin", "turn", "close", "merge"];
-// A machine keeps so many states, and goes on from one that is so many clocks before at most; farther, a state of the text is faster.
-const LATEST = 1000, KEPT_BYTES = 1 << 27, NEAR = 24, STRETCH = 4096;
+// A machine keeps so many states, and goes on from one that is so many clocks before at most; farther, a state of the text is faster. It
+// makes so many states ready to go back to.
+const LATEST = 1000, KEPT_BYTES = 1 << 27, NEAR = 128, READY = 24, STRETCH = 4096;
 
 // Why a text is refused, or a call not answered: `status` is the program's, `line` the first bad line, `cause` or `kind` the word of
 // why, `number` what was found there, and `clocks` or `operations` how many there are, where one past the last was asked.
@@ -441,7 +442,7 @@ export class Machine {
     Object.assign(this, {library, text, starts, kept: new Map(), packed: [0, new BigUint64Array(0)]});
     this.first = library.state(text, 0);
     this.clocks = this.first.clocks;
-    this.most = Math.max(2 * NEAR, Math.min(LATEST, Math.floor(KEPT_BYTES / this.first.words.byteLength)));
+    this.most = Math.max(2 * READY, Math.min(LATEST, Math.floor(KEPT_BYTES / this.first.words.byteLength)));
     this.canStep = library.hasClocks && starts !== null;
     this.#keep(this.first);
   }
@@ -468,8 +469,8 @@ export class Machine {
   // Makes the states before a clock, as many as are near, so that going back finds them.
   prepare(clock) {
     whole(clock, "clock", this.clocks);
-    if (!this.canStep || clock < NEAR || this.kept.has(clock - 1)) return;
-    let known = this.#keep(this.#ofText(clock - NEAR));
+    if (!this.canStep || clock < READY || this.kept.has(clock - 1)) return;
+    let known = this.#keep(this.#ofText(clock - READY));
     while (known.clock + 1 < clock) known = this.#keep(this.#after(known, known.clock + 1));
   }
 
