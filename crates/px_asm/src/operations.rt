@@ -65,6 +65,7 @@ fn make_one<A: Operating>(array: &mut A, m: &Macro, rest: &[Macro], behind: &[Ma
 }
 
 /// Whether the rest and those behind it begin anew all that an operation does.
+#[tactic(auto, using(crate::proofs::OperationsLemmas::renewed_both))]
 fn is_overtaken(m: &Macro, rest: &[Macro], behind: &[Macro]) -> bool
     ensures { OnTrue result (IsOvertaken m.now (rest.now ++ behind.now)) }
 {
@@ -85,6 +86,7 @@ fn left_by(m: &Macro) -> Renewal
 }
 
 /// What is known behind the clocks of some operations, where so much was known before.
+#[tactic(auto, using(px_num::proofs::Basics::common_steps, crate::proofs::OperationsLemmas::all_stay))]
 fn known_after(before: Renewal, operations: &[Macro]) -> Renewal
     ensures { known_of result ≡ all_renewed operations.now (known_of before) }
 {

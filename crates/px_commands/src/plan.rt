@@ -15,6 +15,7 @@ use std::alloc::Global;
 /// (docs/SCENES.md, "Commands").
 ///
 /// At most `MAX_PRODUCTS` are kept. `Memory` is answered for want of memory alone.
+#[tactic(auto, using(std::proofs::lemmas::Grind::common_steps))]
 pub fn plan_text(
     alloc: Global,
     solids: &[Solid],

@@ -132,6 +132,7 @@ impl<'s> Job<'s> {
     }
 
     /// How many clocks are left.
+    #[tactic(auto, using(crate::proofs::PlaceLemmas::clock_within))]
     fn left(&self) -> u64
         ensures left { result ≡ total self.now.scene - self.now.place.clock }
         ensures within { self.now.place.clock ≤ total self.now.scene }
@@ -143,6 +144,7 @@ impl<'s> Job<'s> {
     }
 
     /// How many clocks were made.
+    #[tactic(auto, using(crate::proofs::PlaceLemmas::clock_within))]
     pub fn now(&self) -> u64
         ensures clock { result ≡ self.now.place.clock }
         ensures within { result ≤ total self.now.scene }

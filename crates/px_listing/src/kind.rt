@@ -166,19 +166,7 @@ impl Shape {
 pub fn kind_number(m: &Macro) -> u32
     ensures { result ≡ operation_kind m.now }
 {
-    match m {
-        Macro::All => 1,
-        Macro::KeepSign(_) => 2,
-        Macro::KeepBit(..) => 3,
-        Macro::LoadLinear(..) => 4,
-        Macro::KeepAtMost(..) => 5,
-        Macro::AddLinear(..) => 6,
-        Macro::LoadConst(..) => 7,
-        Macro::SetBit(..) => 8,
-        Macro::Toggle(_) => 9,
-        Macro::Copy(..) => 10,
-        Macro::KeepLess(..) => 11,
-    }
+    Kind::of(m) as u32 + 1
 }
 
 /// The numbers of an operation, in the order of its line (docs/LISTINGS.md, "Operations").

@@ -51,6 +51,7 @@ impl SolidSet {
     }
 
     /// The solids of the set, in ascending order.
+    #[tactic(auto, using(crate::proofs::EndLemmas::none_below, crate::proofs::EndLemmas::all_below))]
     pub fn solids(&self) -> ArrayVec<u8, 256>
         ensures { result.items ≡ solids self.now }
     {

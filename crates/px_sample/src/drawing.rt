@@ -78,6 +78,7 @@ fn measure_text<O: Sink, A: Operating>(
 }
 
 /// Draws a scene, and prints its numbers.
+#[tactic(auto, using(px_commands::proofs::RunLaws::serves_front, px_commands::proofs::RunLaws::serves_whole))]
 fn measure<O: Sink, A: Operating>(
     alloc: Global,
     scene: &Scene,

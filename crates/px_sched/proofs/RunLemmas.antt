@@ -75,14 +75,7 @@ classified l end s plain k =
 pub ended : (b d n : ℕ) (a inside plain : Bool)
     → (if beq (a && inside) (not plain) then keys_of b d n false (a && inside) else keys_of b d n a (a && inside))
     ≡ keys_of b d n (a && (if plain then inside else not inside)) (a && inside)
-ended b d n true true true = refl
-ended b d n true true false = refl
-ended b d n true false true = refl
-ended b d n true false false = refl
-ended b d n false true true = refl
-ended b d n false true false = refl
-ended b d n false false true = refl
-ended b d n false false false = refl
+ended b d n a inside plain = grind arith
 
 module _ (covering : CoveringLaw) (parity : ValueParityLaw) (scene : SceneView) (l : KeyedPixel)
     (big : end_of (depths_of scene) < 2 ^ (l.depth_bits + l.fraction_bits)) where

@@ -202,6 +202,7 @@ fn draw_tiles<A: Operating>(
 }
 
 /// Draws a tile that is not refused, and puts its picture into the numbers.
+#[tactic(auto, using(crate::proofs::DrawLemmas::rows_inside))]
 fn draw_tile<A: Operating>(
     alloc: Global,
     scene: &Scene,
