@@ -1,4 +1,4 @@
--- What the micros of an operation do not begin anew they leave as it was.
+-- What the micros of an operation do not reset they leave as it was.
 use Rattle.px_num.proofs.Basics.{arith, ◌≡◌, ℕ, zero, suc, ◌+◌, ◌^◌, ◌<◌, Bool, true, false}
 use Rattle.px_num.proofs.Basics.{if◌then◌else◌, refl, sym}
 use Rattle.px_asm.proofs.Words.{Act, act_at, after_act, after_clocks, cycles, HasGrid, Hold}

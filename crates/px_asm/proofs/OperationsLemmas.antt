@@ -23,7 +23,7 @@ pub renewed_both : (xs ys : List Macro) (k : Known) → all_renewed (xs ++ ys) k
 renewed_both [] ys k = refl
 renewed_both (x ∷ xs) ys k = renewed_both xs ys (renewed x k)
 
--- an operation that is made at once leaves what its clocks leave, once those that begin anew what it does are made
+-- an operation that is made at once leaves what its clocks leave, once those that reset what it does are made
 pub overtaken : StayKnown → BecomeTheSameAgain → (bits : ℕ) (op : Macro) (rest : List Macro) (before now : Device)
     → CanMake bits (op ∷ rest) before → IsOperated bits op before now → IsOvertaken op rest
     → all_made rest now ≡ all_made (op ∷ rest) before
@@ -56,7 +56,7 @@ own_grid : (bits nx ny : ℕ) (d : Device) → HasGrid bits nx ny d.state
     → HasGrid bits d.state.tree.nx d.state.tree.ny d.state
 own_grid bits nx ny d grid = grind arith
 
--- what is left of two lists is an operation, the rest of the first, and the second
+-- what remains of two lists is an operation, the rest of the first, and the second
 pub left_is : (ops behind : List Macro) (i : ℕ) (d : Macro) → i < length ops
     → drop i (ops ++ behind) ≡ get_or ops i d ∷ (between (i + 1) (length ops) ops ++ behind)
 left_is ops behind i d low = grind (arith, between_to_end, drop-append-le, drop-cons)

@@ -1,4 +1,4 @@
--- What is left of one pixel by acts that store a field, bit by bit.
+-- What remains of one pixel by acts that store a field, bit by bit.
 use Rattle.px_num.proofs.Basics.{rules, ◌≡◌, ℕ, zero, suc, ◌+◌, ◌*◌, ◌<◌, ◌≤◌, Bool, List, length, if◌then◌else◌, ◌⊎◌}
 use Rattle.px_num.proofs.Basics.{inl, inr, refl, sym, ap, subst, ◌∙◌, arith, nat_tests}
 use Rattle.px_asm.proofs.Words.{Act, after_act, AreApart, bit_at, bits_of, BitsOfNumber, copy_act, Field, nat_bit}

@@ -59,7 +59,7 @@ impl<'s> Job<'s> {
     /// Opens an array for a scene.
     ///
     /// The array is opened last: every refusal leaves it as it was, its slots and its work too, but
-    /// for want of the memory of the array itself, after which none is open. A new array has no slot
+    /// where memory for the array itself runs out: then none is open. A new array has no slot
     /// saved, and its work is 0.
     pub fn open<A: Array>(
         alloc: Global,

@@ -1,5 +1,5 @@
 //! The operations by their lines: the word of each, its numbers, and what they write. One that is added
-//! has a line in each table here; all else of a line follows from them.
+//! has a line in each table here; everything else of a line follows from them.
 ghost use Rattle.std.specs.Prelude.{◌≡◌, ◌≤◌, IfSome, None, length};
 ghost use Rattle.std.specs.Str.{bytes_eq};
 ghost use Rattle.px_macro.specs.Macros.{IsLawful};

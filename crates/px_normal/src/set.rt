@@ -131,7 +131,7 @@ fn used_bits(word: u64) -> usize
     (u64::BITS - word.leading_zeros()) as usize
 }
 
-/// Whether a word has a bit: its range, which sets of numbers do not show, is told besides.
+/// Whether a word has a bit: its range, which sets of numbers do not show, is said besides.
 fn has_bit(word: u64) -> bool
     ensures bit { result ≡ not (nat_eq word 0) }
     ensures range { word < 2 ^ 64 }

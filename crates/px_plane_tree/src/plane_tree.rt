@@ -18,7 +18,7 @@ use std::marker::Model;
 /// A tree of `2^nx` by `2^ny` leaves, whose outputs and carries are two rows of words.
 ///
 /// Node `i` of level `k` is bit `place mod 64` of word `place div 64`, where `place = 2^k + i`. So
-/// a level of 64 nodes or more is whole words, and the children of the nodes in word `h` stand in
+/// a level of 64 nodes or more is whole words, and the children of the nodes in word `h` are in
 /// the words `2h` and `2h + 1`.
 #[derive(Drop)]
 pub struct PlaneTree {

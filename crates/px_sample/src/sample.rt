@@ -29,7 +29,7 @@ use px_scene::{
 use px_show::Version;
 use std::alloc::Global;
 
-/// How many blocks stand in a row.
+/// How many blocks are in a row.
 const COLUMNS: u32 = 16;
 
 /// The text of a scene of `n` blocks, 1 to `MAX_BLOCKS`, with one cut through all of them

@@ -1,4 +1,4 @@
-//! One line of a scene text, parsed: what its words say, where it is due and its form is good
+//! One line of a scene text, parsed: what its words say, where it is expected and its form is good
 //! (docs/SCENES.md, "Lines that are due").
 ghost use Rattle.std.specs.Prelude.{◌≡◌, ◌≤◌, IfOk, length, true};
 ghost use Rattle.px_text.specs.LentWords.{now_of};
@@ -10,7 +10,7 @@ use px_num::Linear;
 use px_show::{Cause, Version};
 use px_text::{is_name, number_of};
 
-/// What a line says that is due and of good form, with its numbers; what stands before it is not
+/// What a line says that is expected and of good form, with its numbers; what stands before it is not
 /// asked yet.
 #[derive(Clone, Copy)]
 pub(crate) enum Statement<'t> {
@@ -26,7 +26,7 @@ pub(crate) enum Statement<'t> {
 }
 
 impl<'t> Statement<'t> {
-    /// What a first word and the words after it say, by the version and by what is due.
+    /// What a first word and the words after it say, by the version and by what is expected.
     pub(crate) fn parse(
         version: Version,
         due: Due,
@@ -55,7 +55,7 @@ impl<'t> Statement<'t> {
         }
     }
 
-    /// What is due on the line after its own.
+    /// What is expected on the line after its own.
     pub(crate) fn due_after(self) -> Due
         ensures { result ≡ due_after (stated self.entry) }
     {

@@ -60,7 +60,7 @@ alive_odd true t is = turned_is_odd t false is ∙ turned_from_false (is_odd (co
 alive_odd false t [] = refl
 alive_odd false t (i ∷ is) = alive_odd false t is
 
--- a candidate at depth z is where a literal wants it
+-- a candidate at depth z is where a literal needs it
 abbrev pub suits : SolidView → (plain : Bool) → (end x y z : ℕ) → Bool
 suits s plain end x y z = if plain then is_inside_at s end x y z else not (is_inside_at s end x y z)
 

@@ -53,7 +53,7 @@ impl Stage {
         }
     }
 
-    /// What comes behind the step here.
+    /// What comes after the step here.
     pub(crate) fn next(self, scene: &Scene, products: &[Product]) -> Stage
         requires drawn { All (HasKnownLiterals scene.now) products.now }
         requires stage { IsStage scene.now products.now self }

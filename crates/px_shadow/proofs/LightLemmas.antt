@@ -134,7 +134,7 @@ module _ (scene : SceneView) (l : LayoutView) (ready : IsReady l (end_of (depths
     pub lights : (place : ℕ) → place < length sets → bit_at now (light_bit l light + place)
         ≡ lit (light_at sets place) before
 
-  -- a light is told by the stored key alone
+  -- a light is found from the stored key alone
   lit_same : (set : SolidSet) (light : ℕ) (before now : List Bool) → Keeps l.par (light_bit l light) before now
       → lit set now ≡ lit set before
   lit_same set light before now keeps =

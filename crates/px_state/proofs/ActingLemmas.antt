@@ -1,4 +1,4 @@
--- What an act leaves of a pixel whose bits stand in words.
+-- What an act leaves of a pixel whose bits are in words.
 use Rattle.px_num.proofs.Basics.{◌≡◌, ◌≢◌, ℕ, ◌+◌, ◌*◌, ◌^◌, ◌<◌, Bool, true, false, if◌then◌else◌, List}
 use Rattle.px_num.proofs.Basics.{length, get_or, slice_set, refl, sym, ap, subst, ◌∙◌, arith, inl, inr}
 use Rattle.px_num.proofs.Basics.{cases_lt, length-replicate, pow-add}
