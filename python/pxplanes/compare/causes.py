@@ -19,7 +19,7 @@ from typing import Any, Callable, Iterable, Iterator, Optional, Sequence
 import numpy as np
 
 from pxplanes.compare.picture import (
-    BEFORE, KINDS, RIGHT, Bools, Node, Picture, Plane, Reading, Reals, Row, Scene, Solid, Whole, ends, grid,
+    BEFORE, KINDS, RIGHT, Asked, Bools, Node, Picture, Plane, Reading, Reals, Row, Scene, Solid, Whole, ends, grid,
     picture)
 from pxplanes.compare.verdict import FACES, Sample
 from pxplanes.scene.rays import folded
@@ -47,6 +47,7 @@ Change = Callable[[Scene], Scene]
 Place = Callable[[Whole, Whole, Scene], tuple[Whole, Whole]]
 Write = Callable[[Picture, Scene], Picture]
 Rows = Callable[[list[Row]], list[Row]]
+How = Callable[[Scene], Reading] | Reading
 Term = Callable[[int, int], Any]      # a term of a plane changed, and the fraction bits
 
 
@@ -58,7 +59,7 @@ class Cause:
     said: str
     kind: str
     change: Optional[Change] = None
-    how: Callable[[Scene], Reading] | Reading = RIGHT
+    how: How = RIGHT
     place: Optional[Place] = None
     write: Optional[Write] = None
     slack: float = 0.0
@@ -66,8 +67,10 @@ class Cause:
     paint: Optional[Callable[[Whole], Whole]] = None     # what is shown in place of a face's colour
     real: Optional[bool] = None      # depths as real numbers, or as cells, whatever the maps have
 
-    def reading(self, scene: Scene) -> Reading:
-        return self.how(scene) if callable(self.how) else self.how
+    @property
+    def shows(self) -> tuple[Any, ...]:
+        """What decides what is drawn of a scene: two mistakes in one way are drawn once."""
+        return self.change, self.how, self.place, self.real
 
     def and_also(self, other: Cause) -> Optional[Cause]:
         """Both mistakes at once; None if they are of one kind, or about one thing."""
@@ -78,25 +81,25 @@ class Cause:
         return Cause(
             "%s, and %s" % (self.said, other.said), "%s, and %s" % (self.kind, other.kind),
             both(self.change, other.change, lambda one, after: lambda s: after(one(s))),
-            lambda s: merged(self.reading(s), other.reading(s)),
+            merged(self.how, other.how),
             both(self.place, other.place, lambda one, after: lambda x, y, s: one(*after(x, y, s), s)),
             both(self.write, other.write, lambda one, after: lambda shown, s: after(one(shown, s), s)),
             self.slack + other.slack, self.rounding + other.rounding,
             both(self.paint, other.paint, lambda one, after: lambda rgb: after(one(rgb))),
             other.real if self.real is None else self.real)
 
-    def fits(self, sample: Sample) -> tuple[Bools, Bools]:
-        """Where theirs is as predicted, and where anything is predicted."""
+    def asked(self, sample: Sample) -> Asked:
+        """What is drawn of a scene for it."""
         scene, x, y = self.change(sample.scene) if self.change else sample.scene, sample.x, sample.y
-        real = not sample.whole if self.real is None else self.real
-        known = np.ones(x.shape, bool)
         if self.place:
             x, y = self.place(x, y, scene)
-            known = (x >= 0) & (x < scene.width) & (y >= 0) & (y < scene.height)
-        if scene is sample.scene and self.reading(scene) == RIGHT and not self.place:
-            shown = sample.real if real else sample.cells
-        else:
-            shown = picture(scene, replace(self.reading(scene), real=real), x, y)
+        how, real = read(self.how, scene), not sample.whole if self.real is None else self.real
+        return Asked(scene, how if how.real == real else replace(how, real=real), x, y)
+
+    def fits(self, sample: Sample, asked: Asked, shown: Picture) -> tuple[Bools, Bools]:
+        """Where theirs is as predicted, and where anything is predicted."""
+        scene, x, y = asked.scene, asked.x, asked.y
+        known = (x >= 0) & (x < scene.width) & (y >= 0) & (y < scene.height) if self.place else np.ones(x.shape, bool)
         if self.paint and sample.labels is not None:
             sample = replace(sample, labels=self.paint(sample.labels))
         depths, faces, off = self.predicted(sample, scene, shown, x, y)
@@ -119,11 +122,18 @@ class Cause:
         return written.depths, written.faces, off + slack
 
 
-def merged(one: Reading, other: Reading) -> Reading:
+def merged(one: How, other: How) -> How:
     """A reading with the mistakes of both; where both have one, that of the other."""
-    own = {each.name: getattr(other, each.name) for each in fields(Reading)
-           if getattr(other, each.name) != getattr(RIGHT, each.name)}
-    return replace(one, **own)
+    if one is RIGHT or other is RIGHT:
+        return other if one is RIGHT else one
+    if callable(one) or callable(other):
+        return lambda scene: merged(read(one, scene), read(other, scene))
+    return replace(one, **{each.name: getattr(other, each.name) for each in fields(Reading)
+                           if getattr(other, each.name) != getattr(RIGHT, each.name)})
+
+
+def read(how: How, scene: Scene) -> Reading:
+    return how(scene) if callable(how) else how
 
 
 @dataclass(frozen=True)
@@ -166,17 +176,27 @@ def together(names: Sequence[str]) -> list[str]:
     return ["".join(group).replace("#", " or ".join(map(str, sorted(numbers)))) for group, numbers in groups.items()]
 
 
-def judged(cause: Cause, samples: Sequence[Sample], most: float = np.inf) -> tuple[float, int]:
-    """The errors of a cause, what it does not explain and what it contradicts; and the pixels that it explains. It ends where the
-    errors are more than `most`."""
-    explained, errors = 0, 0.0
+@dataclass
+class Judged:
+    """The errors of a cause, what it does not explain and what it contradicts; and the pixels that it explains."""
+
+    cause: Cause
+    errors: float = 0.0
+    explained: int = 0
+
+
+def judged(causes: Sequence[Cause], samples: Sequence[Sample], most: float = np.inf) -> list[Judged]:
+    """The causes that have at most so many errors. A cause with more is tried no further."""
+    found = [Judged(cause) for cause in causes]
     for sample in samples:
-        fits, known = cause.fits(sample)
-        explained += int((known & fits & sample.differs).sum())
-        errors += int((known & ~fits & sample.differs).sum()) + sample.weight * int((known & ~fits & sample.right).sum())
-        if errors > most:
-            break
-    return errors, explained
+        asked = {shows: cause.asked(sample) for shows, cause in {each.cause.shows: each.cause for each in found}.items()}
+        drawn = dict(zip(asked, sample.shown(list(asked.values()))))
+        for each in found:
+            fits, known = each.cause.fits(sample, asked[each.cause.shows], drawn[each.cause.shows])
+            each.explained += int((known & fits & sample.differs).sum())
+            each.errors += int((known & ~fits & sample.differs).sum()) + sample.weight * int((known & ~fits & sample.right).sum())
+        found = [each for each in found if each.errors <= most]
+    return found
 
 
 def find(samples: Sequence[Sample]) -> Found:
@@ -199,23 +219,23 @@ def chosen(causes: Sequence[Cause], few: Sequence[Sample], samples: Sequence[Sam
     """What of some causes is named. Some pixels of a few scenes leave most causes out."""
     total, where = (sum(numbers) for numbers in zip(*((int(each.differs.sum()), bool(each.differs.any())) for each in samples)))
     most = ROUGH * sum(int(each.differs.sum()) for each in few)
-    rows = [(*judged(cause, order, ASIDE * total), cause) for cause in causes if judged(cause, few, most)[0] <= most]
-    rows = sorted((row for row in rows if row[1] >= EXPLAINED * total), key=lambda row: row[0])
+    rows = [each for cause in judged(causes, few, most) for each in judged([cause.cause], order, ASIDE * total)]
+    rows = sorted((row for row in rows if row.explained >= EXPLAINED * total), key=lambda row: row.errors)
     if not rows:
         return Found([], total, where, 0, 0)
-    errors, explained, best = rows[0]
+    best, errors = rows[0].cause, rows[0].errors
     close = min(max(MARGIN * errors, PIXELS), ASIDE * total)
-    alike = [cause for wrong, _, cause in rows if wrong < close] or [best]
+    alike = [row.cause for row in rows if row.errors < close] or [best]
     enough = total >= PIXELS and where >= SCENES or total >= ALONE and errors == 0 and pairs(samples) >= PAIRS
     is_named = enough and errors <= ERRORS * total and all(cause.kind == best.kind for cause in alike)
-    equals = {cause.kind: cause.said for wrong, _, cause in rows[::-1] if wrong == 0} if enough and not is_named else {}
-    return Found([cause.said for cause in alike] if is_named else [], total, where, explained, int(errors), list(equals.values())[::-1][:NAMED])
+    equals = {row.cause.kind: row.cause.said for row in rows[::-1] if row.errors == 0} if enough and not is_named else {}
+    return Found([cause.said for cause in alike] if is_named else [], total, where, rows[0].explained, int(errors), list(equals.values())[::-1][:NAMED])
 
 
 def two_at_once(causes: Sequence[Cause], few: Sequence[Sample]) -> list[Cause]:
     """The pairs of causes one of which alone explains most in a few scenes."""
     first: list[Cause] = []
-    for cause in [causes[at] for at in np.argsort([judged(cause, few)[0] for cause in causes], kind="stable")]:
+    for cause in (row.cause for row in sorted(judged(causes, few), key=lambda row: row.errors)):
         if len(first) < FIRST and sum(cause.kind == each.kind for each in first) < OF_A_KIND:
             first.append(cause)
     made = (one.and_also(other) for at, one in enumerate(first) for other in causes if other not in first[:at])
@@ -351,7 +371,7 @@ def short_boxes(edges: str) -> Change:
         return with_sides(scene, [[plane for edge, plane in {
             "last column": (-1, 0, int(x[own].max()) - 1), "last row": (0, -1, int(y[own].max()) - 1),
             "first column": (1, 0, -1 - int(x[own].min())), "first row": (0, 1, -1 - int(y[own].min()))}.items()
-            if edge in edges.split(" and the ")] if own.any() else [] for own in ends(scene, RIGHT, x, y).has])
+            if edge in edges.split(" and the ")] if own.any() else [] for own in ends([scene], RIGHT, x[np.newaxis], y[np.newaxis]).has[:, 0]])
     return change
 
 
@@ -363,9 +383,9 @@ def culled(edges: str) -> Change:
                  "bottom": (across, 0 * across + scene.height - 1), "eye": grid(scene), "far": grid(scene)}
         touch = np.zeros(len(scene.solids), bool)
         for each in edges.split(" or "):
-            found = ends(scene, RIGHT, *lines[each])
+            found = ends([scene], RIGHT, *(line[np.newaxis] for line in lines[each]))
             is_there = found.first <= 0 if each == "eye" else found.end >= scene.far if each == "far" else found.has
-            touch |= (found.has & is_there).any(1)
+            touch |= (found.has & is_there).any((1, 2))
         return hidden(lambda at, _: bool(touch[at]))(scene)
     return change
 

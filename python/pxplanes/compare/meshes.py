@@ -58,8 +58,8 @@ def volume_of(side: Any) -> Volume:
     """The volume along the rays of a side."""
     scene, ours = picture.of_scene(side.scene, side.name), 0
     for row in range(scene.height):
-        x = np.arange(scene.width)
-        found = picture.ends(scene, picture.RIGHT, x, np.full_like(x, row))
+        x = np.arange(scene.width)[np.newaxis]
+        found = picture.ends([scene], picture.RIGHT, x, np.full_like(x, row))
         marks = np.sort(np.concatenate([found.first, found.end]).clip(0, scene.far), 0)
         ours += int(np.diff(marks, axis=0)[picture.fold(scene.show, found, marks[:-1], False)[0]].sum())
     spans = [span for y in range(scene.height) for x in range(scene.width) for span in side.crossings.cells(x, y, scene.far)]

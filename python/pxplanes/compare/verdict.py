@@ -15,7 +15,7 @@ from typing import Optional, Sequence
 
 import numpy as np
 
-from pxplanes.compare.picture import REAL, RIGHT, Bools, Picture, Reading, Reals, Scene, Whole, picture
+from pxplanes.compare.picture import REAL, RIGHT, Asked, Bools, Picture, Reading, Reals, Scene, Whole, picture, pictures
 
 ROUNDING = 2.0 ** -24      # half of the last bit of a float32, relative
 ROUNDINGS = 64.0           # so many of them are let pass
@@ -71,6 +71,13 @@ class Sample:
     @cached_property
     def real(self) -> Picture:
         return picture(self.scene, REAL, self.x, self.y)
+
+    def shown(self, asked: Sequence[Asked]) -> list[Picture]:
+        """What is asked of this scene, or of it changed."""
+        known = [None if each.scene is not self.scene or each.x is not self.x else self.cells if each.how == RIGHT else
+                 self.real if each.how == REAL else None for each in asked]
+        new = iter(pictures([each for each, own in zip(asked, known) if own is None]))
+        return [next(new) if own is None else own for own in known]
 
     @property
     def ours(self) -> Picture:
