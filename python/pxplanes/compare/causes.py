@@ -123,17 +123,22 @@ class Cause:
 
 
 def merged(one: How, other: How) -> How:
-    """A reading with the mistakes of both; where both have one, that of the other."""
+    """A reading with the mistakes of both."""
     if one is RIGHT or other is RIGHT:
         return other if one is RIGHT else one
-    if callable(one) or callable(other):
-        return lambda scene: merged(read(one, scene), read(other, scene))
+    if isinstance(one, Reading) and isinstance(other, Reading):
+        return with_both(one, other)
+    return lambda scene: with_both(read(one, scene), read(other, scene))
+
+
+def with_both(one: Reading, other: Reading) -> Reading:
+    """A reading with the mistakes of both; where both have one, that of the other."""
     return replace(one, **{each.name: getattr(other, each.name) for each in fields(Reading)
                            if getattr(other, each.name) != getattr(RIGHT, each.name)})
 
 
 def read(how: How, scene: Scene) -> Reading:
-    return how(scene) if callable(how) else how
+    return how if isinstance(how, Reading) else how(scene)
 
 
 @dataclass(frozen=True)

@@ -19,7 +19,7 @@ Row = tuple[Plane, int]               # a plane, and its face number; that of a 
 Node = int | str                      # the index of a solid, or a sign, in postorder
 NONE, BEFORE = 1 << 20, -(1 << 50)    # no face; before all depths
 KINDS = ("front", "back", "side")
-PIECE = 1 << 19                       # so many planes, and pairs of solids, times samples are drawn at once
+PIECE = 1 << 19                       # so many planes and ends of solids, times samples, are drawn at once
 read_text: Callable[[bytes], Any] = scenes.read
 pixel_memory: Callable[[Any], None] = scenes.pixel_memory
 
@@ -249,7 +249,8 @@ class Asked:
 
     @property
     def work(self) -> int:
-        return 1 + sum(len(solid.fronts) + len(solid.backs) + len(solid.sides) + len(self.scene.solids) for solid in self.scene.solids)
+        """Planes and ends of solids."""
+        return 1 + sum(2 + len(solid.fronts) + len(solid.backs) + len(solid.sides) for solid in self.scene.solids)
 
     @property
     def form(self) -> tuple[Any, ...]:

@@ -74,8 +74,9 @@ class Sample:
 
     def shown(self, asked: Sequence[Asked]) -> list[Picture]:
         """What is asked of this scene, or of it changed."""
-        known = [None if each.scene is not self.scene or each.x is not self.x else self.cells if each.how == RIGHT else
-                 self.real if each.how == REAL else None for each in asked]
+        is_own = [each.scene is self.scene and each.x is self.x and each.y is self.y for each in asked]
+        known = [self.cells if own and each.how == RIGHT else self.real if own and each.how == REAL else None
+                 for own, each in zip(is_own, asked)]
         new = iter(pictures([each for each, own in zip(asked, known) if own is None]))
         return [next(new) if own is None else own for own in known]
 
