@@ -234,7 +234,8 @@ def chosen(causes: Sequence[Cause], few: Sequence[Sample], samples: Sequence[Sam
     enough = total >= PIXELS and where >= SCENES or total >= ALONE and errors == 0 and pairs(samples) >= PAIRS
     is_named = enough and errors <= ERRORS * total and all(cause.kind == best.kind for cause in alike)
     equals = {row.cause.kind: row.cause.said for row in rows[::-1] if row.errors == 0} if enough and not is_named else {}
-    return Found([cause.said for cause in alike] if is_named else [], total, where, rows[0].explained, int(errors), list(equals.values())[::-1][:NAMED])
+    names = [cause.said for cause in alike] if is_named else []
+    return Found(names, total, where, rows[0].explained, int(errors), list(equals.values())[::-1][:NAMED])
 
 
 def two_at_once(causes: Sequence[Cause], few: Sequence[Sample]) -> list[Cause]:
@@ -376,7 +377,8 @@ def short_boxes(edges: str) -> Change:
         return with_sides(scene, [[plane for edge, plane in {
             "last column": (-1, 0, int(x[own].max()) - 1), "last row": (0, -1, int(y[own].max()) - 1),
             "first column": (1, 0, -1 - int(x[own].min())), "first row": (0, 1, -1 - int(y[own].min()))}.items()
-            if edge in edges.split(" and the ")] if own.any() else [] for own in ends([scene], RIGHT, x[np.newaxis], y[np.newaxis]).has[:, 0]])
+            if edge in edges.split(" and the ")] if own.any() else []
+            for own in ends([scene], RIGHT, x[np.newaxis], y[np.newaxis]).has[:, 0]])
     return change
 
 
