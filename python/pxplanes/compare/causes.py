@@ -19,8 +19,7 @@ from typing import Any, Callable, Iterable, Iterator, Optional, Sequence
 import numpy as np
 
 from pxplanes.compare.picture import (
-    BEFORE, KINDS, RIGHT, Asked, Bools, Node, Picture, Plane, Reading, Reals, Row, Scene, Solid, Whole, ends, grid,
-    picture)
+    BEFORE, KINDS, RIGHT, Asked, Bools, Node, Picture, Plane, Reading, Reals, Row, Scene, Solid, Whole, picture)
 from pxplanes.compare.verdict import FACES, Sample
 from pxplanes.scene.rays import folded
 
@@ -372,28 +371,24 @@ def only(sides: Callable[[Scene], list[Plane]]) -> Change:
 
 def short_boxes(edges: str) -> Change:
     """Some of the outermost rows and columns of each solid are left out."""
+    own = edges.split(" and the ")
+
     def change(scene: Scene) -> Scene:
-        x, y = grid(scene)
+        (left, top, _), (right, low, _) = (each.tolist() for each in scene.extents)
         return with_sides(scene, [[plane for edge, plane in {
-            "last column": (-1, 0, int(x[own].max()) - 1), "last row": (0, -1, int(y[own].max()) - 1),
-            "first column": (1, 0, -1 - int(x[own].min())), "first row": (0, 1, -1 - int(y[own].min()))}.items()
-            if edge in edges.split(" and the ")] if own.any() else []
-            for own in ends([scene], RIGHT, x[np.newaxis], y[np.newaxis]).has[:, 0]])
+            "last column": (-1, 0, right[at] - 1), "last row": (0, -1, low[at] - 1),
+            "first column": (1, 0, -1 - left[at]), "first row": (0, 1, -1 - top[at])}.items() if edge in own]
+            if left[at] <= right[at] else [] for at in range(len(scene.solids))])
     return change
 
 
 def culled(edges: str) -> Change:
     """Solids left out whole that touch an edge of the picture, the eye or the far limit, by the pixels there."""
     def change(scene: Scene) -> Scene:
-        across, down = np.arange(scene.width), np.arange(scene.height)
-        lines = {"left": (0 * down, down), "right": (0 * down + scene.width - 1, down), "top": (across, 0 * across),
-                 "bottom": (across, 0 * across + scene.height - 1), "eye": grid(scene), "far": grid(scene)}
-        touch = np.zeros(len(scene.solids), bool)
-        for each in edges.split(" or "):
-            found = ends([scene], RIGHT, *(line[np.newaxis] for line in lines[each]))
-            is_there = found.first <= 0 if each == "eye" else found.end >= scene.far if each == "far" else found.has
-            touch |= (found.has & is_there).any((1, 2))
-        return hidden(lambda at, _: bool(touch[at]))(scene)
+        (left, top, first), (right, low, end) = scene.extents
+        touch = {"left": left == 0, "right": right == scene.width - 1, "top": top == 0, "bottom": low == scene.height - 1,
+                 "eye": first <= 0, "far": end >= scene.far}
+        return hidden(lambda at, _: any(touch[each][at] for each in edges.split(" or ")))(scene)
     return change
 
 

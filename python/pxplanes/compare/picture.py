@@ -3,7 +3,8 @@ membership by the expression. All in whole numbers of 64 bits. Each way to misre
 from __future__ import annotations
 
 from dataclasses import dataclass, field, replace
-from typing import Any, Callable, Sequence
+from functools import cached_property
+from typing import Any, Callable, Iterator, Sequence
 
 import numpy as np
 from numpy.typing import NDArray
@@ -57,6 +58,23 @@ class Scene:
     @property
     def far(self) -> int:
         return (1 << self.bits) - 1
+
+    @cached_property
+    def extents(self) -> tuple[Whole, Whole]:
+        """Of each solid, where rays meet it: its least column, row and cell, and its greatest column, row and end."""
+        x, y = grid(self)
+        least, most = np.full((3, len(self.solids)), -BEFORE), np.full((3, len(self.solids)), BEFORE)
+        for part in pieces(self, x.size):
+            found = ends([self], RIGHT, x[np.newaxis, part], y[np.newaxis, part])
+            has = found.has[:, 0]
+            least = np.minimum(least, [np.where(has, each, -BEFORE).min(-1) for each in (x[part], y[part], found.first[:, 0])])
+            most = np.maximum(most, [np.where(has, each, BEFORE).max(-1) for each in (x[part], y[part], found.end[:, 0])])
+        return least, most
+
+    @property
+    def work(self) -> int:
+        """Planes and ends of solids."""
+        return 1 + sum(2 + len(solid.fronts) + len(solid.backs) + len(solid.sides) for solid in self.solids)
 
     def planes(self, change: Callable[[Plane, str], Plane]) -> Scene:
         """The scene with each plane changed."""
@@ -248,20 +266,20 @@ class Asked:
     y: Whole
 
     @property
-    def work(self) -> int:
-        """Planes and ends of solids."""
-        return 1 + sum(2 + len(solid.fronts) + len(solid.backs) + len(solid.sides) for solid in self.scene.solids)
-
-    @property
     def form(self) -> tuple[Any, ...]:
         """What those have in common that can be drawn at once."""
         return tuple(self.scene.show), self.how, self.scene.bits, self.scene.fraction, len(self.scene.solids), self.x.size
 
 
+def pieces(scene: Scene, count: int, size: int = 1) -> Iterator[slice]:
+    """So many things, of so many samples each, in pieces that are drawn at once."""
+    step = max(1, PIECE // (scene.work * max(size, 1)))
+    return (slice(at, at + step) for at in range(0, count, step))
+
+
 def picture(scene: Scene, how: Reading, x: Whole, y: Whole) -> Picture:
     """The depth and the face at each of the samples, which are flat arrays of columns and rows."""
-    step = max(1, PIECE // Asked(scene, how, x, y).work)
-    parts = [drawn([Asked(scene, how, x[at:at + step], y[at:at + step])]) for at in range(0, max(x.size, 1), step)]
+    parts = [drawn([Asked(scene, how, x[part], y[part])]) for part in pieces(scene, max(x.size, 1))]
     return Picture(np.concatenate([part.depths[0] for part in parts]), np.concatenate([part.faces[0] for part in parts]))
 
 
@@ -272,10 +290,9 @@ def pictures(asked: Sequence[Asked]) -> list[Picture]:
         forms.setdefault(each.form, []).append(at)
     found: dict[int, Picture] = {}
     for places in forms.values():
-        step = max(1, PIECE // (asked[places[0]].work * max(1, asked[places[0]].x.size)))
-        for at in range(0, len(places), step):
-            shown = drawn([asked[place] for place in places[at:at + step]])
-            found.update((place, Picture(*maps)) for place, *maps in zip(places[at:at + step], shown.depths, shown.faces))
+        for part in pieces(asked[places[0]].scene, len(places), asked[places[0]].x.size):
+            shown = drawn([asked[place] for place in places[part]])
+            found.update((place, Picture(*maps)) for place, *maps in zip(places[part], shown.depths, shown.faces))
     return [found[at] for at in range(len(asked))]
 
 
