@@ -46,7 +46,6 @@ Change = Callable[[Scene], Scene]
 Place = Callable[[Whole, Whole, Scene], tuple[Whole, Whole]]
 Write = Callable[[Picture, Scene], Picture]
 Rows = Callable[[list[Row]], list[Row]]
-How = Callable[[Scene], Reading] | Reading
 Term = Callable[[int, int], Any]      # a term of a plane changed, and the fraction bits
 
 
@@ -58,7 +57,7 @@ class Cause:
     said: str
     kind: str
     change: Optional[Change] = None
-    how: How = RIGHT
+    how: Reading = RIGHT
     place: Optional[Place] = None
     write: Optional[Write] = None
     slack: float = 0.0
@@ -80,7 +79,7 @@ class Cause:
         return Cause(
             "%s, and %s" % (self.said, other.said), "%s, and %s" % (self.kind, other.kind),
             both(self.change, other.change, lambda one, after: lambda s: after(one(s))),
-            merged(self.how, other.how),
+            with_both(self.how, other.how),
             both(self.place, other.place, lambda one, after: lambda x, y, s: one(*after(x, y, s), s)),
             both(self.write, other.write, lambda one, after: lambda shown, s: after(one(shown, s), s)),
             self.slack + other.slack, self.rounding + other.rounding,
@@ -92,8 +91,8 @@ class Cause:
         scene, x, y = self.change(sample.scene) if self.change else sample.scene, sample.x, sample.y
         if self.place:
             x, y = self.place(x, y, scene)
-        how, real = read(self.how, scene), not sample.whole if self.real is None else self.real
-        return Asked(scene, how if how.real == real else replace(how, real=real), x, y)
+        real = not sample.whole if self.real is None else self.real
+        return Asked(scene, self.how if self.how.real == real else replace(self.how, real=real), x, y)
 
     def fits(self, sample: Sample, asked: Asked, shown: Picture) -> tuple[Bools, Bools]:
         """Where theirs is as predicted, and where anything is predicted."""
@@ -121,23 +120,10 @@ class Cause:
         return written.depths, written.faces, off + slack
 
 
-def merged(one: How, other: How) -> How:
-    """A reading with the mistakes of both."""
-    if one is RIGHT or other is RIGHT:
-        return other if one is RIGHT else one
-    if isinstance(one, Reading) and isinstance(other, Reading):
-        return with_both(one, other)
-    return lambda scene: with_both(read(one, scene), read(other, scene))
-
-
 def with_both(one: Reading, other: Reading) -> Reading:
     """A reading with the mistakes of both; where both have one, that of the other."""
     return replace(one, **{each.name: getattr(other, each.name) for each in fields(Reading)
                            if getattr(other, each.name) != getattr(RIGHT, each.name)})
-
-
-def read(how: How, scene: Scene) -> Reading:
-    return how if isinstance(how, Reading) else how(scene)
 
 
 @dataclass(frozen=True)
@@ -364,11 +350,6 @@ def planes_of_others(others: Callable[[list[Solid], int], list[Solid]], kinds: S
         for at, solid in enumerate(scene.solids)])
 
 
-def only(sides: Callable[[Scene], list[Plane]]) -> Change:
-    """Only the pixels on one side of some lines are drawn."""
-    return lambda scene: with_sides(scene, [sides(scene)] * len(scene.solids))
-
-
 def short_boxes(edges: str) -> Change:
     """Some of the outermost rows and columns of each solid are left out."""
     own = edges.split(" and the ")
@@ -405,22 +386,6 @@ def on_planes(change: Term, terms: str = "abc", kinds: Sequence[str] = ("front",
 
 def exchanged(*kinds: str) -> Change:
     return lambda scene: scene.planes(lambda plane, own: (plane[1], plane[0], plane[2]) if own in kinds else plane)
-
-
-def half_float(v: int, _: int) -> int:
-    return int(np.float16(v)) if abs(v) <= 65504 else v
-
-
-def wrapped(bits: int) -> Term:
-    return lambda v, _: (v + (1 << bits - 1)) % (1 << bits) - (1 << bits - 1)
-
-
-def unsigned(bits: int) -> Term:
-    return lambda v, _: v % (1 << bits)
-
-
-def limited(bits: int) -> Term:
-    return lambda v, _: max(-1 << bits - 1, min(v, (1 << bits - 1) - 1))
 
 
 def dropped(keep: int) -> Term:
@@ -481,13 +446,10 @@ def unseen(out: Callable[[Reals, Scene], Bools]) -> Write:
                                         np.where(out(shown.depths, scene), 0, shown.faces))
 
 
-def bytes_of_depths(size: int) -> Write:
-    return depths(lambda v, scene: swapped(size, v.astype(np.int64)).astype(np.float64))
-
-
-def bytes_of_both(size: int) -> Write:
-    return lambda shown, scene: Picture(
-        swapped(size, shown.depths.astype(np.int64)).astype(np.float64), swapped(size, shown.faces))
+def lowest_first(size: int, faces: bool) -> Write:
+    """The bytes of depths, or of both maps, in the other order."""
+    return lambda shown, scene: Picture(swapped(size, shown.depths.astype(np.int64)).astype(np.float64),
+                                        swapped(size, shown.faces) if faces else shown.faces)
 
 
 def rows_of(scene: Scene) -> list[tuple[int, int, int]]:
@@ -517,12 +479,6 @@ def with_sides_counted(shown: Picture, scene: Scene) -> Picture:
         new.update((solid.near + which, solid.near + before + at) for which, at in enumerate(own))
         before += len(solid.sides)
     return Picture(shown.depths, looked_up(new, shown.faces))
-
-
-def on_kind(kind: int, gap: float) -> Write:
-    """The depths of faces of a kind written that much greater."""
-    return lambda shown, scene: Picture(
-        shown.depths + gap * looked_up({n: 1 for _, k, n in rows_of(scene) if k == kind}, shown.faces), shown.faces)
 
 
 def from_0_to(top: float, gamma: float, more: int = 0) -> Write:
@@ -636,10 +592,10 @@ def places() -> Iterator[Cause]:
     for kinds in (KINDS[:2], *((kind,) for kind in KINDS)):
         yield from aside((1, 2), (1, 1), kinds=kinds)
     axes = [("columns", 1, 0), ("rows", 0, 1), ("columns and rows", 1, 1)]
-    yield from family("samples of %s are apart so that the last is at the size of the picture", "stretch", axes, how=lambda _, x, y: lambda s: Reading(
-        grid=(s.width - 1) * (s.height - 1), wide=x * (s.height - 1), high=y * (s.width - 1)))
-    yield from family("samples of %s are apart so that all are one less", "stretch", axes, how=lambda _, x, y: lambda s: Reading(
-        grid=s.width * s.height, wide=-x * s.height, high=-y * s.width))
+    yield from family("samples of %s are apart so that the last is at the size of the picture", "stretch", axes,
+                      how=lambda _, x, y: Reading(stretch=(-1, x, y)))
+    yield from family("samples of %s are apart so that all are one less", "stretch", axes,
+                      how=lambda _, x, y: Reading(stretch=(0, -x, -y)))
     yield from tables("place", "place", {
         "every second row repeats the one before": lambda x, y, s: (x, y - y % 2),
         "every second column repeats the one before": lambda x, y, s: (x - x % 2, y),
@@ -666,7 +622,7 @@ def frames() -> Iterator[Cause]:
 
 
 def framed(names: Sequence[str], most: int) -> Change:
-    return only(lambda scene: [EDGES[each](scene, most) for each in names])
+    return lambda scene: with_sides(scene, [[EDGES[each](scene, most) for each in names]] * len(scene.solids))
 
 
 def edge_said(name: str, most: int) -> str:
@@ -715,7 +671,7 @@ def terms() -> Iterator[Cause]:
         "left out": (lambda v, _: 0, "a b c ab"), "without minus signs": (lambda v, _: abs(v), "a b c ab"),
         "with the other sign": (lambda v, _: -v, "a b c ab abc"), "0 for what is below 0": (lambda v, _: max(v, 0), "a b c ab"),
         "0 for what is above 0": (lambda v, _: min(v, 0), "a b c ab"), "twice as great": (lambda v, _: 2 * v, "a b c ab"),
-        "halved": (lambda v, _: v // 2, "a b c ab"), "as half floats": (half_float, "a b c ab abc")}
+        "halved": (lambda v, _: v // 2, "a b c ab"), "as half floats": (lambda v, _: int(np.float16(v)) if abs(v) <= 65504 else v, "a b c ab abc")}
     for kinds, word in ((KINDS, "planes"), (KINDS[:2], "fronts and backs"), *(((kind,), kind + "s") for kind in KINDS)):
         for said, (change, owns) in changes.items():
             for own in owns.split():
@@ -728,20 +684,20 @@ def terms() -> Iterator[Cause]:
         yield from family(word + ": only %d fraction bits, the rest is dropped", "fraction", range(8),
                           change=lambda keep, own=own: on_planes(dropped(keep), own))
         yield from family(word + ": rounded to %d fraction bits", "fraction", range(8), change=lambda keep, own=own: on_planes(rounded(keep), own))
+    limits: dict[str, Callable[[int, int], int]] = {
+        "is cut to %d bits": lambda v, bits: (v + (1 << bits - 1)) % (1 << bits) - (1 << bits - 1),
+        "is read as %d bits without a sign": lambda v, bits: v % (1 << bits),
+        "ends at the limits of %d bits": lambda v, bits: max(-1 << bits - 1, min(v, (1 << bits - 1) - 1))}
     yield Cause("fraction bits are taken for cells", "fraction", lambda s: replace(s, fraction=0) if s.fraction else s)
     for word, own, kinds in (("C of fronts and backs", "c", KINDS[:2]), ("C of all planes", "c", KINDS), ("each of A, B and C", "abc", KINDS)):
-        for said, to in (("is cut to %d bits", wrapped), ("is read as %d bits without a sign", unsigned), ("ends at the limits of %d bits", limited)):
+        for said, to in limits.items():
             yield from family("%s %s" % (word, said), "bits", range(8, 41), change=lambda bits, to=to, own=own, kinds=kinds: on_planes(
-                to(bits), own, kinds))
-
-
-def without_kind(own: int) -> Callable[[list[tuple[int, int, int]]], Any]:
-    return lambda rows: {n: n for _, k, n in rows if k != own}
+                lambda v, _: to(v, bits), own, kinds))
 
 
 def numbers_written() -> Iterator[Cause]:
-    yield from family("the %d bytes of both maps are lowest first", "bytes", (2, 3), write=bytes_of_both)
-    yield from family("the %d bytes of depths are lowest first", "bytes", (2, 3), write=bytes_of_depths)
+    yield from family("the %d bytes of both maps are lowest first", "bytes", (2, 3), write=lambda size: lowest_first(size, True))
+    yield from family("the %d bytes of depths are lowest first", "bytes", (2, 3), write=lambda size: lowest_first(size, False))
     for top in (255, 65535, (1 << 24) - 1, 1):
         for said, gamma in (("", 1.0), (" with a gamma of 2.2", 1 / 2.2), (" with a gamma of 1 / 2.2", 2.2)):
             yield Cause("depths are from 0 to %d%s" % (top, said), "scale", write=from_0_to(top, gamma), slack=1e-6,
@@ -773,7 +729,9 @@ def numbers_written() -> Iterator[Cause]:
         "backs have the face of their solid": lambda rows: {
             n: n if kind != 2 else next(m for own, k, m in rows if own == at and k == 0) for at, kind, n in rows},
         "faces are numbered by kind": lambda rows: {n: i for i, (_, n) in enumerate(sorted((k, n) for _, k, n in rows), 1)},
-        **{"%s are face 0" % word: without_kind(own) for own, word in enumerate(FACE_KINDS)}}
+        "near faces are face 0": lambda rows: {n: n for _, k, n in rows if k != 0},
+        "fronts are face 0": lambda rows: {n: n for _, k, n in rows if k != 1},
+        "backs are face 0": lambda rows: {n: n for _, k, n in rows if k != 2}}
     yield from tables("faces", "write", {said: renumbered(order) for said, order in orders.items()})
     yield Cause("sides have face numbers too", "faces", write=with_sides_counted)
 
@@ -805,16 +763,16 @@ def fitted(samples: Sequence[Sample]) -> Iterator[Cause]:
         for real in (None, False):
             base = ours if real is None else np.concatenate([s.cells.depths[there] for s, there, _ in shown])
             gap = float("%.5g" % np.median(theirs - base))
-            for also, word in ((False, ""), (True, ", the background too")) if gap else ():
-                yield Cause("depths are off by %g%s%s" % (gap, word, ", from whole cells" * (real is False)), "off",
-                            write=added(gap, also), slack=1e-5 * abs(gap), real=real)
+            yield from family("depths are off by %g%s" + ", from whole cells" * (real is False), "off", [
+                (gap, "", False), (gap, ", the background too", True)] if gap else [], slack=1e-5 * abs(gap), real=real,
+                write=lambda gap, _, also: depths(lambda v, s: v + gap, also))
         yield from scaled(theirs[ours > 0], ours[ours > 0])
         far = np.concatenate([np.full(int(there.sum()), s.scene.far) for s, there, _ in shown])
         inner = (ours > 0) & (ours < far) & (theirs > 0) & (theirs < far)
         power = float(np.median(np.log(theirs[inner] / far[inner]) / np.log(ours[inner] / far[inner]))) if inner.any() else 1.0
-        for power in {float("%.3g" % power), round(2 * power) / 2} - {0.0, 1.0}:
-            yield Cause("depths are bent by a power of %g of their share of far" % power, "scale", rounding=UNIT, slack=1e-6,
-                        write=bent_by(power))
+        yield from family("depths are bent by a power of %g of their share of far", "scale", {
+            float("%.3g" % power), round(2 * power) / 2} - {0.0, 1.0}, rounding=UNIT, slack=1e-6, write=lambda power: depths(
+                lambda v, s: s.far * np.clip(v / s.far, 0, 1) ** power))
         ends_at, begins_at = float(theirs.max()), float(theirs.min())
         yield Cause("depths end at %g" % ends_at, "ends", write=depths(lambda v, s: np.minimum(v, ends_at), False))
         yield Cause("depths begin at %g" % begins_at, "near", write=by(lambda v: np.maximum(v, begins_at)))
@@ -829,8 +787,9 @@ def fitted(samples: Sequence[Sample]) -> Iterator[Cause]:
         gaps = [theirs[at] - s.ours.depths[at] for s, theirs in rows for at in [
             np.isin(s.ours.faces, [n for _, k, n in rows_of(s.scene) if k == kind])]]
         gap = commonest(np.concatenate(gaps)) if sum(each.size for each in gaps) else 0.0
-        if gap:
-            yield Cause("depths of %s are off by %g" % (word, gap), "off" if kind else "near", write=on_kind(kind, gap), slack=1e-5 * abs(gap))
+        yield from family("depths of %s are off by %g", "off" if kind else "near", [(word, gap, kind)] if gap else [],
+                          slack=1e-5 * abs(gap), write=lambda _, gap, kind: lambda shown, scene: Picture(
+            shown.depths + gap * looked_up({n: 1 for _, k, n in rows_of(scene) if k == kind}, shown.faces), shown.faces))
     empty = [(theirs[s.ours.faces == 0], s.scene.far) for s, theirs in rows if (s.ours.faces == 0).any()]
     if empty:
         own = commonest(np.concatenate([theirs for theirs, _ in empty]))
@@ -838,14 +797,6 @@ def fitted(samples: Sequence[Sample]) -> Iterator[Cause]:
         more = commonest(np.concatenate([theirs - far for theirs, far in empty]))
         if more:
             yield Cause("the background is far %+.9g" % more, "background", write=behind(lambda s: s.far + more))
-
-
-def added(gap: float, also: bool) -> Write:
-    return depths(lambda v, s: v + gap, also)
-
-
-def bent_by(power: float) -> Write:
-    return depths(lambda v, s: s.far * np.clip(v / s.far, 0, 1) ** power)
 
 
 def scaled(theirs: Reals, ours: Reals) -> Iterator[Cause]:
@@ -880,27 +831,18 @@ def facts(samples: Sequence[Sample]) -> list[str]:
         out.append("%d nearer, %d farther, %d of the same depth; half of them are off by %.6g or less, the most by %.6g" % (
             (off < 0).sum(), (off > 0).sum(), (off == 0).sum(), np.median(abs(off)), abs(off).max()))
     if len(samples) < 2:
-        return out + by_solids(rows[0])
+        faces, counts = np.unique(rows[0].ours.faces[rows[0].differs], return_counts=True)
+        most = sorted(zip(counts.tolist(), faces.tolist()), key=lambda row: (-row[0], row[1]))[:5]
+        return out + ["most differ where our face is " + ", ".join("%d (%d)" % (face, count) for count, face in most)]
     for sign in "+-*^":
         own = [each for each in samples if sign in each.scene.show]
         bad = sum(bool(each.differs.any()) for each in own)
         if own:
             out.append("scenes that differ: %d of %d with %s, %d of %d without" % (
                 bad, len(own), sign, len(rows) - bad, len(samples) - len(own)))
-    sizes = sorted(len(each.scene.solids) for each in rows)
+    sizes, others = ([len(each.scene.solids) for each in samples if each.differs.any() == differs] for differs in (True, False))
     return out + ["solids of the scenes that differ: %d to %d; of the others: %s" % (
-        sizes[0], sizes[-1], ranged([len(each.scene.solids) for each in samples if not each.differs.any()]))]
-
-
-def ranged(numbers: Sequence[int]) -> str:
-    return "%d to %d" % (min(numbers), max(numbers)) if numbers else "there is none"
-
-
-def by_solids(sample: Sample) -> list[str]:
-    """The faces of ours where most pixels differ, by number."""
-    faces, counts = np.unique(sample.ours.faces[sample.differs], return_counts=True)
-    most = sorted(zip(counts.tolist(), faces.tolist()), key=lambda row: (-row[0], row[1]))[:5]
-    return ["most differ where our face is " + ", ".join("%d (%d)" % (face, count) for count, face in most)]
+        min(sizes), max(sizes), "%d to %d" % (min(others), max(others)) if others else "there is none")]
 
 
 def edges(sample: Sample) -> Bools:

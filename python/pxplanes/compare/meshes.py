@@ -66,10 +66,6 @@ def volume_of(side: Any) -> Volume:
     return Volume(ours, sum(end - first for first, end in spans), 2 * side.near * len(spans))
 
 
-def row_of(found: Any, counts: dict[str, int]) -> str:
-    return "%-10s %5s  %s" % (found.side.name, found.cut or "-", " ".join("%8d" % counts[word] for word in COUNTS))
-
-
 def first_wrong(found: Any) -> str:
     """The first pixel of a picture that is wrong."""
     at = next(at for at, word in enumerate(found.words) if word in (MISSING, TOO_MUCH))
@@ -97,7 +93,7 @@ def report(expression: str, result: str, sides: int = verifying.SIDES, cuts: int
     print("%-10s %5s  %s" % ("side", "cut", " ".join("%8s" % word for word in COUNTS)))
     for found in verifying.seen(sides_of(expression, mesh, sides, size), cuts, draw):
         counts = {word: found.words.count(word) for word in COUNTS}
-        print(row_of(found, counts))
+        print("%-10s %5s  %s" % (found.side.name, found.cut or "-", " ".join("%8d" % counts[word] for word in COUNTS)))
         if verifying.is_wrong(counts):
             first = first or first_wrong(found)
             if out:

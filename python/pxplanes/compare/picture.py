@@ -86,13 +86,15 @@ class Scene:
 @dataclass(frozen=True)
 class Reading:
     """How a scene is read; the values here are right. Samples are `dx / grid` and `dy / grid` of a pixel aside, and
-    `wide / grid` and `high / grid` of a pixel farther apart."""
+    `wide / grid` and `high / grid` of a pixel farther apart; or columns and rows are so stretched that all of a picture,
+    or all but the first, are one more, or one less: `stretch` has what is added to its size, and the two signs."""
 
     dx: int = 0
     dy: int = 0
     grid: int = 1
     wide: int = 0
     high: int = 0
+    stretch: tuple[int, int, int] = (0, 0, 0)
     kinds: tuple[str, ...] = KINDS     # the planes that are read at these samples
     real: bool = False           # depths in parts of a cell, and no cells
     fronts: str = "up"           # a front's value to its cell: up, down, half up, half down, half even, next (after it)
@@ -106,6 +108,12 @@ class Reading:
     farthest: bool = False       # the farthest surface shows
     single: str = ""             # planes in float32, in this order of terms: abc, cab
     bits: int = 64               # values are cut to so many bits
+
+    def of_size(self, width: int, height: int) -> Reading:
+        """The same for pictures of a size."""
+        more, wide, high = self.stretch
+        width, height = max(1, width + more), max(1, height + more)
+        return replace(self, grid=width * height, wide=wide * height, high=high * width) if wide or high else self
 
 
 RIGHT, REAL = Reading(), Reading(real=True)
@@ -298,7 +306,8 @@ def pictures(asked: Sequence[Asked]) -> list[Picture]:
 
 def drawn(asked: Sequence[Asked]) -> Picture:
     """The pictures of one form, a row for each."""
-    scene, how, x, y = asked[0].scene, asked[0].how, np.stack([each.x for each in asked]), np.stack([each.y for each in asked])
+    scene, x, y = asked[0].scene, np.stack([each.x for each in asked]), np.stack([each.y for each in asked])
+    how = asked[0].how.of_size(scene.width, scene.height)
     found, unit = ends([each.scene for each in asked], how, x, y), how.grid << scene.fraction
     start = np.full((1, *x.shape), min(how.near, 0))
     z = np.concatenate([start, found.first] + ([found.end] if how.backs else []))

@@ -11,7 +11,7 @@ from __future__ import annotations
 
 from dataclasses import dataclass, field, replace
 from functools import cached_property
-from typing import Optional, Sequence
+from typing import Any, Optional, Sequence
 
 import numpy as np
 
@@ -161,9 +161,9 @@ class Score:
         return self.exact + self.within + self.near_edge + self.wrong
 
 
-def filled(depths: Reals, far: float) -> Reals:
+def filled(depths: Any, far: float) -> Any:
     """Depths with the background where they are not finite."""
-    return np.where(np.isfinite(depths), depths, far)
+    return depths if depths.dtype.kind != "f" or np.isfinite(depths).all() else np.where(np.isfinite(depths), depths, far)
 
 
 def is_whole(maps: Sequence[Optional[Reals]]) -> bool:
