@@ -337,12 +337,6 @@ def planes_at(part: Rows, kinds: Sequence[str] = KINDS) -> Change:
     return change
 
 
-def first_planes(most: int) -> Change:
-    """The first planes of a solid in the order of the text."""
-    return lambda scene: replace(scene, solids=[
-        solid.with_rows(lambda rows, kind: rows[:solid.order[:most].count(kind)]) for solid in scene.solids])
-
-
 def planes_of_others(others: Callable[[list[Solid], int], list[Solid]], kinds: Sequence[str]) -> Change:
     """The planes of other solids in the place of a solid's own."""
     return lambda scene: replace(scene, solids=[
@@ -403,11 +397,6 @@ def wider(more: float) -> Change:
 
 
 # ---- where a pixel's numbers come from
-
-def transposed(x: Whole, y: Whole, scene: Scene) -> tuple[Whole, Whole]:
-    at = y * scene.width + x
-    return at // scene.height, at % scene.height
-
 
 def moved(dx: int, dy: int) -> Place:
     """The map moved; what comes in at the edge is predicted by nothing."""
@@ -508,7 +497,7 @@ def usual() -> Iterator[Cause]:
         "rows and columns are turned about": lambda x, y, s: (s.width - 1 - x, s.height - 1 - y),
         "the rows are from the bottom up, counted from 1": lambda x, y, s: (x, s.height - y),
         "the columns are from the right, counted from 1": lambda x, y, s: (s.width - x, y),
-        "the data is transposed under a right header": transposed})
+        "the data is transposed under a right header": lambda x, y, s: divmod(y * s.width + x, s.height)})
     yield from family("the map is moved by %d columns and %d rows", "place", AROUND, place=moved)
     yield from aside((1, 2))
     yield from roundings()
@@ -617,17 +606,13 @@ EDGES: dict[str, Callable[[Scene, int], Plane]] = {
 def frames() -> Iterator[Cause]:
     for names in (*((each,) for each in EDGES), *itertools.combinations(EDGES, 2), tuple(EDGES)):
         for most in NUMBERS:
-            yield Cause("not drawn of the picture: %s" % " and ".join(edge_said(each, most) for each in names), "frame", framed(names, most))
+            yield Cause("not drawn of the picture: %s" % " and ".join(
+                "the " + (each if most == 1 else each.replace(" ", " %d " % most) + "s") for each in names), "frame", framed(names, most))
         yield Cause("left out of each solid: the %s" % " and the ".join(names), "box", short_boxes(" and the ".join(names)))
 
 
 def framed(names: Sequence[str], most: int) -> Change:
     return lambda scene: with_sides(scene, [[EDGES[each](scene, most) for each in names]] * len(scene.solids))
-
-
-def edge_said(name: str, most: int) -> str:
-    which, what = name.split()
-    return "the %s" % name if most == 1 else "the %s %d %ss" % (which, most, what)
 
 
 def counted() -> Iterator[Cause]:
@@ -663,7 +648,9 @@ def planes_counted() -> Iterator[Cause]:
         yield from family("only the last %%d %s of a solid are taken" % word, "planes", (1, 2),
                           change=lambda most, kinds=kinds: planes_at(lambda rows: rows[-most:], kinds))
         yield from tables("others", "change", {"%s of a solid are %s" % (word, said): planes_of_others(which, kinds) for said, which in others.items()})
-    yield from family("only the first %d planes of a solid are taken, in the order of the text", "planes", range(1, 33), change=first_planes)
+    yield from family("only the first %d planes of a solid are taken, in the order of the text", "planes", range(1, 33),
+                      change=lambda most: lambda scene: replace(scene, solids=[solid.with_rows(
+                          lambda rows, kind, order=solid.order[:most]: rows[:order.count(kind)]) for solid in scene.solids]))
 
 
 def terms() -> Iterator[Cause]:
@@ -766,7 +753,10 @@ def fitted(samples: Sequence[Sample]) -> Iterator[Cause]:
             yield from family("depths are off by %g%s" + ", from whole cells" * (real is False), "off", [
                 (gap, "", False), (gap, ", the background too", True)] if gap else [], slack=1e-5 * abs(gap), real=real,
                 write=lambda gap, _, also: depths(lambda v, s: v + gap, also))
-        yield from scaled(theirs[ours > 0], ours[ours > 0])
+        times = float("%.9g" % np.median(theirs[ours > 0] / ours[ours > 0])) if (ours > 0).any() else 0.0
+        yield from family("depths are %g times as great%s", "scale", [
+            (times, "", False), (times, ", the background too", True)] if times not in (0, 1) else [],
+            rounding=UNIT if times != round(times) else 0.0, write=lambda times, _, also: depths(lambda v, s: v * times, also))
         far = np.concatenate([np.full(int(there.sum()), s.scene.far) for s, there, _ in shown])
         inner = (ours > 0) & (ours < far) & (theirs > 0) & (theirs < far)
         power = float(np.median(np.log(theirs[inner] / far[inner]) / np.log(ours[inner] / far[inner]))) if inner.any() else 1.0
@@ -797,14 +787,6 @@ def fitted(samples: Sequence[Sample]) -> Iterator[Cause]:
         more = commonest(np.concatenate([theirs - far for theirs, far in empty]))
         if more:
             yield Cause("the background is far %+.9g" % more, "background", write=behind(lambda s: s.far + more))
-
-
-def scaled(theirs: Reals, ours: Reals) -> Iterator[Cause]:
-    """Depths of faces, all above 0, times a number."""
-    times = float("%.9g" % np.median(theirs / ours)) if ours.size else 0
-    for also, word in ((False, ""), (True, ", the background too")) if times not in (0, 1) else ():
-        yield Cause("depths are %g times as great%s" % (times, word), "scale", rounding=UNIT if times != round(times) else 0.0,
-                    write=depths(lambda v, s: v * times, also))
 
 
 def commonest(numbers: Reals) -> float:

@@ -89,8 +89,10 @@ def compared(ours: tuple[Any, Any], theirs: tuple[Any, Any], allowed: Allowed, s
     high, wide = next(each for each in theirs if each is not None).shape
     step = max(1, PIECE // (2 * len(scene.solids) + 1 if scene else 3) // wide)
     bands = [slice(top, top + step) for top in range(0, high, step)]
+    # Without a scene the greatest of our depths that is finite is taken for the far limit.
     has_depths = ours[0] is not None and theirs[0] is not None
-    far = scene.far if scene else max((greatest(numpy, ours[0][rows]) for rows in bands), default=0) if has_depths else 0
+    far = scene.far if scene else max(
+        float(ours[0][rows].max(initial=0, where=numpy.isfinite(ours[0][rows]))) for rows in bands) if has_depths else 0
     is_whole = not has_depths or (whole if whole is not None else all(
         verdict.is_whole([verdict.filled(maps[0][rows], far)]) for maps in (theirs, ours) for rows in bands))
     if scene is not None and (high, wide) != (scene.height, scene.width):
@@ -111,11 +113,6 @@ def compared(ours: tuple[Any, Any], theirs: tuple[Any, Any], allowed: Allowed, s
     if whole is None and found.differ and is_whole and has_depths and scene is not None and theirs[0].dtype.kind == "f":
         return min(found, held(True), key=lambda each: each.differ)    # real numbers may all be whole by chance
     return found
-
-
-def greatest(numpy: Any, depths: Any) -> float:
-    """The greatest of our depths that is finite: without a scene that is taken for the far limit."""
-    return float(depths[numpy.isfinite(depths)].max(initial=0) if depths.dtype.kind == "f" else depths.max())
 
 
 def by_numbers(numpy: Any, ours: Any, theirs: Any, allowed: Allowed, is_whole: bool, far: float) -> tuple[Any, float]:

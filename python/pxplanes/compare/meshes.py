@@ -50,9 +50,6 @@ class Volume(NamedTuple):
     theirs: int
     room: float
 
-    def plus(self, other: Volume) -> Volume:
-        return Volume(self.ours + other.ours, self.theirs + other.theirs, self.room + other.room)
-
 
 def volume_of(side: Any) -> Volume:
     """The volume along the rays of a side."""
@@ -89,7 +86,7 @@ def report(expression: str, result: str, sides: int = verifying.SIDES, cuts: int
     side. A PNG of each picture with something wrong goes into the folder `out`: ours, theirs, and where the result misses
     something (red) or has too much (blue)."""
     draw, mesh = verifying.drawer(program.needed(None)), mesh_of(result)
-    first, volume = None, Volume(0, 0, 0)
+    first, volumes = None, list[Volume]()
     print("%-10s %5s  %s" % ("side", "cut", " ".join("%8s" % word for word in COUNTS)))
     for found in verifying.seen(sides_of(expression, mesh, sides, size), cuts, draw):
         counts = {word: found.words.count(word) for word in COUNTS}
@@ -99,11 +96,12 @@ def report(expression: str, result: str, sides: int = verifying.SIDES, cuts: int
             if out:
                 verifying.leave(out, found)
         if not found.cut:
-            volume = volume.plus(volume_of(found.side))
-    print("the volume: %d cells of ours, %d of theirs, which may differ by %.0f" % volume)
+            volumes.append(volume_of(found.side))
+    ours, theirs, room = (sum(each) for each in zip(*volumes))
+    print("the volume: %d cells of ours, %d of theirs, which may differ by %.0f" % (ours, theirs, room))
     for note in mesh.notes():
         print("the mesh: " + note)
-    if not first and abs(volume.ours - volume.theirs) > volume.room:
+    if not first and abs(ours - theirs) > room:
         first = "the volumes differ"
     print("wrong: " + first if first else "right")
     return 1 if first else 0

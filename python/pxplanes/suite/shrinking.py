@@ -2,6 +2,7 @@
 numbers."""
 from __future__ import annotations
 
+import itertools
 import pickle
 import time
 from typing import Any, Callable, Iterator, Optional
@@ -46,9 +47,7 @@ def parts(show: list[Any]) -> list[list[Any]]:
 
 def copies(scene: Any) -> Iterator[Any]:
     """Copies of a scene without end."""
-    kept = pickle.dumps(scene)
-    while True:
-        yield pickle.loads(kept)
+    return map(pickle.loads, itertools.repeat(pickle.dumps(scene)))
 
 
 def fewer_solids(scene: Any) -> Iterator[Any]:
