@@ -92,7 +92,7 @@ def compared(ours: tuple[Any, Any], theirs: tuple[Any, Any], allowed: Allowed, s
     # Without a scene the greatest of our depths that is finite is taken for the far limit.
     has_depths = ours[0] is not None and theirs[0] is not None
     far = scene.far if scene else max(
-        float(ours[0][rows].max(initial=0, where=numpy.isfinite(ours[0][rows]))) for rows in bands) if has_depths else 0
+        float(verdict.filled(ours[0][rows], 0).max()) for rows in bands) if has_depths else 0
     is_whole = not has_depths or (whole if whole is not None else all(
         verdict.is_whole([verdict.filled(maps[0][rows], far)]) for maps in (theirs, ours) for rows in bands))
     if scene is not None and (high, wide) != (scene.height, scene.width):
