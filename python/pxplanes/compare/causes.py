@@ -703,7 +703,7 @@ def numbers_written() -> Iterator[Cause]:
     yield Cause("depths are in parts of a cell", "parts", real=True, write=depths(
         lambda v, s: (v * (1 << s.fraction)).round(), False))
     yield Cause("depths are half floats", "half floats", write=by(
-        lambda v: np.where(v > 65504, 65504, v).astype(np.float16).astype(np.float64)))
+        lambda v: np.clip(v, -65504, 65504).astype(np.float16).astype(np.float64)))
     orders: dict[str, Callable[[list[tuple[int, int, int]]], Any]] = {
         "faces are counted from 0": lambda rows: {n: n - 1 for _, _, n in rows},
         "faces are counted from 2": lambda rows: {n: n + 1 for _, _, n in rows},
