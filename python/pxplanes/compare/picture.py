@@ -86,8 +86,8 @@ class Scene:
 @dataclass(frozen=True)
 class Reading:
     """How a scene is read; the values here are right. Samples are `dx / grid` and `dy / grid` of a pixel aside, and
-    `wide / grid` and `high / grid` of a pixel farther apart; or columns and rows are so stretched that all of a picture,
-    or all but the first, are one more, or one less: `stretch` has what is added to its size, and the two signs."""
+    `wide / grid` and `high / grid` of a pixel farther apart; or, of columns and of rows, `sign / (size + more)`, where
+    `stretch` has `more` and the two signs, and the size is that of the picture."""
 
     dx: int = 0
     dy: int = 0
