@@ -44,13 +44,11 @@ static void cross(struct solid *s, int x, int y)
 /* Whether a depth is inside of the expression that begins at *at; *at moves past it. */
 static int inside(const char **at, double z)
 {
-    char name[33];
-    int length, i = 0;
     while (**at == ' ') ++*at;
     if (**at != '(') {
-        sscanf(*at, "%32[A-Za-z0-9_]%n", name, &length);
+        size_t length = strcspn(*at, " ()+-*^\r\n"), i = 0;
+        while (strncmp(solids[i].name, *at, length) || solids[i].name[length]) i++;
         *at += length;
-        while (strcmp(solids[i].name, name)) i++;
         return solids[i].first <= z && z < solids[i].end;
     }
     ++*at;

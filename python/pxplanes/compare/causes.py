@@ -19,8 +19,7 @@ from typing import Any, Callable, Iterable, Iterator, Optional, Sequence
 import numpy as np
 
 from pxplanes.compare.picture import (
-    BEFORE, KINDS, RIGHT, Bools, Node, Picture, Plane, Reading, Reals, Row, Scene, Solid, Whole, ends, grid,
-    picture)
+    BEFORE, KINDS, RIGHT, Asked, Bools, Node, Picture, Plane, Reading, Reals, Row, Scene, Solid, Whole, picture)
 from pxplanes.compare.verdict import FACES, Sample
 from pxplanes.scene.rays import folded
 
@@ -58,7 +57,7 @@ class Cause:
     said: str
     kind: str
     change: Optional[Change] = None
-    how: Callable[[Scene], Reading] | Reading = RIGHT
+    how: Reading = RIGHT
     place: Optional[Place] = None
     write: Optional[Write] = None
     slack: float = 0.0
@@ -66,8 +65,10 @@ class Cause:
     paint: Optional[Callable[[Whole], Whole]] = None     # what is shown in place of a face's colour
     real: Optional[bool] = None      # depths as real numbers, or as cells, whatever the maps have
 
-    def reading(self, scene: Scene) -> Reading:
-        return self.how(scene) if callable(self.how) else self.how
+    @property
+    def shows(self) -> tuple[Any, ...]:
+        """What decides what is drawn of a scene: two mistakes in one way are drawn once."""
+        return self.change, self.how, self.place, self.real
 
     def and_also(self, other: Cause) -> Optional[Cause]:
         """Both mistakes at once; None if they are of one kind, or about one thing."""
@@ -78,25 +79,25 @@ class Cause:
         return Cause(
             "%s, and %s" % (self.said, other.said), "%s, and %s" % (self.kind, other.kind),
             both(self.change, other.change, lambda one, after: lambda s: after(one(s))),
-            lambda s: merged(self.reading(s), other.reading(s)),
+            with_both(self.how, other.how),
             both(self.place, other.place, lambda one, after: lambda x, y, s: one(*after(x, y, s), s)),
             both(self.write, other.write, lambda one, after: lambda shown, s: after(one(shown, s), s)),
             self.slack + other.slack, self.rounding + other.rounding,
             both(self.paint, other.paint, lambda one, after: lambda rgb: after(one(rgb))),
             other.real if self.real is None else self.real)
 
-    def fits(self, sample: Sample) -> tuple[Bools, Bools]:
-        """Where theirs is as predicted, and where anything is predicted."""
+    def asked(self, sample: Sample) -> Asked:
+        """What is drawn of a scene for it."""
         scene, x, y = self.change(sample.scene) if self.change else sample.scene, sample.x, sample.y
-        real = not sample.whole if self.real is None else self.real
-        known = np.ones(x.shape, bool)
         if self.place:
             x, y = self.place(x, y, scene)
-            known = (x >= 0) & (x < scene.width) & (y >= 0) & (y < scene.height)
-        if scene is sample.scene and self.reading(scene) == RIGHT and not self.place:
-            shown = sample.real if real else sample.cells
-        else:
-            shown = picture(scene, replace(self.reading(scene), real=real), x, y)
+        real = not sample.whole if self.real is None else self.real
+        return Asked(scene, self.how if self.how.real == real else replace(self.how, real=real), x, y)
+
+    def fits(self, sample: Sample, asked: Asked, shown: Picture) -> tuple[Bools, Bools]:
+        """Where theirs is as predicted, and where anything is predicted."""
+        scene, x, y = asked.scene, asked.x, asked.y
+        known = (x >= 0) & (x < scene.width) & (y >= 0) & (y < scene.height) if self.place else np.ones(x.shape, bool)
         if self.paint and sample.labels is not None:
             sample = replace(sample, labels=self.paint(sample.labels))
         depths, faces, off = self.predicted(sample, scene, shown, x, y)
@@ -119,11 +120,10 @@ class Cause:
         return written.depths, written.faces, off + slack
 
 
-def merged(one: Reading, other: Reading) -> Reading:
+def with_both(one: Reading, other: Reading) -> Reading:
     """A reading with the mistakes of both; where both have one, that of the other."""
-    own = {each.name: getattr(other, each.name) for each in fields(Reading)
-           if getattr(other, each.name) != getattr(RIGHT, each.name)}
-    return replace(one, **own)
+    return replace(one, **{each.name: getattr(other, each.name) for each in fields(Reading)
+                           if getattr(other, each.name) != getattr(RIGHT, each.name)})
 
 
 @dataclass(frozen=True)
@@ -166,17 +166,27 @@ def together(names: Sequence[str]) -> list[str]:
     return ["".join(group).replace("#", " or ".join(map(str, sorted(numbers)))) for group, numbers in groups.items()]
 
 
-def judged(cause: Cause, samples: Sequence[Sample], most: float = np.inf) -> tuple[float, int]:
-    """The errors of a cause, what it does not explain and what it contradicts; and the pixels that it explains. It ends where the
-    errors are more than `most`."""
-    explained, errors = 0, 0.0
+@dataclass
+class Judged:
+    """The errors of a cause, what it does not explain and what it contradicts; and the pixels that it explains."""
+
+    cause: Cause
+    errors: float = 0.0
+    explained: int = 0
+
+
+def judged(causes: Sequence[Cause], samples: Sequence[Sample], most: float = np.inf) -> list[Judged]:
+    """The causes that have at most so many errors. A cause with more is tried no further."""
+    found = [Judged(cause) for cause in causes]
     for sample in samples:
-        fits, known = cause.fits(sample)
-        explained += int((known & fits & sample.differs).sum())
-        errors += int((known & ~fits & sample.differs).sum()) + sample.weight * int((known & ~fits & sample.right).sum())
-        if errors > most:
-            break
-    return errors, explained
+        asked = {shows: cause.asked(sample) for shows, cause in {each.cause.shows: each.cause for each in found}.items()}
+        drawn = dict(zip(asked, sample.shown(list(asked.values()))))
+        for each in found:
+            fits, known = each.cause.fits(sample, asked[each.cause.shows], drawn[each.cause.shows])
+            each.explained += int((known & fits & sample.differs).sum())
+            each.errors += int((known & ~fits & sample.differs).sum()) + sample.weight * int((known & ~fits & sample.right).sum())
+        found = [each for each in found if each.errors <= most]
+    return found
 
 
 def find(samples: Sequence[Sample]) -> Found:
@@ -199,23 +209,24 @@ def chosen(causes: Sequence[Cause], few: Sequence[Sample], samples: Sequence[Sam
     """What of some causes is named. Some pixels of a few scenes leave most causes out."""
     total, where = (sum(numbers) for numbers in zip(*((int(each.differs.sum()), bool(each.differs.any())) for each in samples)))
     most = ROUGH * sum(int(each.differs.sum()) for each in few)
-    rows = [(*judged(cause, order, ASIDE * total), cause) for cause in causes if judged(cause, few, most)[0] <= most]
-    rows = sorted((row for row in rows if row[1] >= EXPLAINED * total), key=lambda row: row[0])
+    rows = [each for cause in judged(causes, few, most) for each in judged([cause.cause], order, ASIDE * total)]
+    rows = sorted((row for row in rows if row.explained >= EXPLAINED * total), key=lambda row: row.errors)
     if not rows:
         return Found([], total, where, 0, 0)
-    errors, explained, best = rows[0]
+    best, errors = rows[0].cause, rows[0].errors
     close = min(max(MARGIN * errors, PIXELS), ASIDE * total)
-    alike = [cause for wrong, _, cause in rows if wrong < close] or [best]
+    alike = [row.cause for row in rows if row.errors < close] or [best]
     enough = total >= PIXELS and where >= SCENES or total >= ALONE and errors == 0 and pairs(samples) >= PAIRS
     is_named = enough and errors <= ERRORS * total and all(cause.kind == best.kind for cause in alike)
-    equals = {cause.kind: cause.said for wrong, _, cause in rows[::-1] if wrong == 0} if enough and not is_named else {}
-    return Found([cause.said for cause in alike] if is_named else [], total, where, explained, int(errors), list(equals.values())[::-1][:NAMED])
+    equals = {row.cause.kind: row.cause.said for row in rows[::-1] if row.errors == 0} if enough and not is_named else {}
+    names = [cause.said for cause in alike] if is_named else []
+    return Found(names, total, where, rows[0].explained, int(errors), list(equals.values())[::-1][:NAMED])
 
 
 def two_at_once(causes: Sequence[Cause], few: Sequence[Sample]) -> list[Cause]:
     """The pairs of causes one of which alone explains most in a few scenes."""
     first: list[Cause] = []
-    for cause in [causes[at] for at in np.argsort([judged(cause, few)[0] for cause in causes], kind="stable")]:
+    for cause in (row.cause for row in sorted(judged(causes, few), key=lambda row: row.errors)):
         if len(first) < FIRST and sum(cause.kind == each.kind for each in first) < OF_A_KIND:
             first.append(cause)
     made = (one.and_also(other) for at, one in enumerate(first) for other in causes if other not in first[:at])
@@ -326,12 +337,6 @@ def planes_at(part: Rows, kinds: Sequence[str] = KINDS) -> Change:
     return change
 
 
-def first_planes(most: int) -> Change:
-    """The first planes of a solid in the order of the text."""
-    return lambda scene: replace(scene, solids=[
-        solid.with_rows(lambda rows, kind: rows[:solid.order[:most].count(kind)]) for solid in scene.solids])
-
-
 def planes_of_others(others: Callable[[list[Solid], int], list[Solid]], kinds: Sequence[str]) -> Change:
     """The planes of other solids in the place of a solid's own."""
     return lambda scene: replace(scene, solids=[
@@ -339,34 +344,26 @@ def planes_of_others(others: Callable[[list[Solid], int], list[Solid]], kinds: S
         for at, solid in enumerate(scene.solids)])
 
 
-def only(sides: Callable[[Scene], list[Plane]]) -> Change:
-    """Only the pixels on one side of some lines are drawn."""
-    return lambda scene: with_sides(scene, [sides(scene)] * len(scene.solids))
-
-
 def short_boxes(edges: str) -> Change:
     """Some of the outermost rows and columns of each solid are left out."""
+    own = edges.split(" and the ")
+
     def change(scene: Scene) -> Scene:
-        x, y = grid(scene)
+        (left, top, _), (right, low, _) = (each.tolist() for each in scene.extents)
         return with_sides(scene, [[plane for edge, plane in {
-            "last column": (-1, 0, int(x[own].max()) - 1), "last row": (0, -1, int(y[own].max()) - 1),
-            "first column": (1, 0, -1 - int(x[own].min())), "first row": (0, 1, -1 - int(y[own].min()))}.items()
-            if edge in edges.split(" and the ")] if own.any() else [] for own in ends(scene, RIGHT, x, y).has])
+            "last column": (-1, 0, right[at] - 1), "last row": (0, -1, low[at] - 1),
+            "first column": (1, 0, -1 - left[at]), "first row": (0, 1, -1 - top[at])}.items() if edge in own]
+            if left[at] <= right[at] else [] for at in range(len(scene.solids))])
     return change
 
 
 def culled(edges: str) -> Change:
     """Solids left out whole that touch an edge of the picture, the eye or the far limit, by the pixels there."""
     def change(scene: Scene) -> Scene:
-        across, down = np.arange(scene.width), np.arange(scene.height)
-        lines = {"left": (0 * down, down), "right": (0 * down + scene.width - 1, down), "top": (across, 0 * across),
-                 "bottom": (across, 0 * across + scene.height - 1), "eye": grid(scene), "far": grid(scene)}
-        touch = np.zeros(len(scene.solids), bool)
-        for each in edges.split(" or "):
-            found = ends(scene, RIGHT, *lines[each])
-            is_there = found.first <= 0 if each == "eye" else found.end >= scene.far if each == "far" else found.has
-            touch |= (found.has & is_there).any(1)
-        return hidden(lambda at, _: bool(touch[at]))(scene)
+        (left, top, first), (right, low, end) = scene.extents
+        touch = {"left": left == 0, "right": right == scene.width - 1, "top": top == 0, "bottom": low == scene.height - 1,
+                 "eye": first <= 0, "far": end >= scene.far}
+        return hidden(lambda at, _: any(touch[each][at] for each in edges.split(" or ")))(scene)
     return change
 
 
@@ -385,22 +382,6 @@ def exchanged(*kinds: str) -> Change:
     return lambda scene: scene.planes(lambda plane, own: (plane[1], plane[0], plane[2]) if own in kinds else plane)
 
 
-def half_float(v: int, _: int) -> int:
-    return int(np.float16(v)) if abs(v) <= 65504 else v
-
-
-def wrapped(bits: int) -> Term:
-    return lambda v, _: (v + (1 << bits - 1)) % (1 << bits) - (1 << bits - 1)
-
-
-def unsigned(bits: int) -> Term:
-    return lambda v, _: v % (1 << bits)
-
-
-def limited(bits: int) -> Term:
-    return lambda v, _: max(-1 << bits - 1, min(v, (1 << bits - 1) - 1))
-
-
 def dropped(keep: int) -> Term:
     return lambda v, fraction: v >> max(fraction - keep, 0) << max(fraction - keep, 0)
 
@@ -416,11 +397,6 @@ def wider(more: float) -> Change:
 
 
 # ---- where a pixel's numbers come from
-
-def transposed(x: Whole, y: Whole, scene: Scene) -> tuple[Whole, Whole]:
-    at = y * scene.width + x
-    return at // scene.height, at % scene.height
-
 
 def moved(dx: int, dy: int) -> Place:
     """The map moved; what comes in at the edge is predicted by nothing."""
@@ -459,13 +435,10 @@ def unseen(out: Callable[[Reals, Scene], Bools]) -> Write:
                                         np.where(out(shown.depths, scene), 0, shown.faces))
 
 
-def bytes_of_depths(size: int) -> Write:
-    return depths(lambda v, scene: swapped(size, v.astype(np.int64)).astype(np.float64))
-
-
-def bytes_of_both(size: int) -> Write:
-    return lambda shown, scene: Picture(
-        swapped(size, shown.depths.astype(np.int64)).astype(np.float64), swapped(size, shown.faces))
+def lowest_first(size: int, faces: bool) -> Write:
+    """The bytes of depths, or of both maps, in the other order."""
+    return lambda shown, scene: Picture(swapped(size, shown.depths.astype(np.int64)).astype(np.float64),
+                                        swapped(size, shown.faces) if faces else shown.faces)
 
 
 def rows_of(scene: Scene) -> list[tuple[int, int, int]]:
@@ -497,12 +470,6 @@ def with_sides_counted(shown: Picture, scene: Scene) -> Picture:
     return Picture(shown.depths, looked_up(new, shown.faces))
 
 
-def on_kind(kind: int, gap: float) -> Write:
-    """The depths of faces of a kind written that much greater."""
-    return lambda shown, scene: Picture(
-        shown.depths + gap * looked_up({n: 1 for _, k, n in rows_of(scene) if k == kind}, shown.faces), shown.faces)
-
-
 def from_0_to(top: float, gamma: float, more: int = 0) -> Write:
     return depths(lambda v, scene: v if (scene.far, gamma, more) == (top, 1, 0) else
                   top * np.clip(v / (scene.far + more), 0, 1) ** gamma)
@@ -530,7 +497,7 @@ def usual() -> Iterator[Cause]:
         "rows and columns are turned about": lambda x, y, s: (s.width - 1 - x, s.height - 1 - y),
         "the rows are from the bottom up, counted from 1": lambda x, y, s: (x, s.height - y),
         "the columns are from the right, counted from 1": lambda x, y, s: (s.width - x, y),
-        "the data is transposed under a right header": transposed})
+        "the data is transposed under a right header": lambda x, y, s: divmod(y * s.width + x, s.height)})
     yield from family("the map is moved by %d columns and %d rows", "place", AROUND, place=moved)
     yield from aside((1, 2))
     yield from roundings()
@@ -614,10 +581,10 @@ def places() -> Iterator[Cause]:
     for kinds in (KINDS[:2], *((kind,) for kind in KINDS)):
         yield from aside((1, 2), (1, 1), kinds=kinds)
     axes = [("columns", 1, 0), ("rows", 0, 1), ("columns and rows", 1, 1)]
-    yield from family("samples of %s are apart so that the last is at the size of the picture", "stretch", axes, how=lambda _, x, y: lambda s: Reading(
-        grid=(s.width - 1) * (s.height - 1), wide=x * (s.height - 1), high=y * (s.width - 1)))
-    yield from family("samples of %s are apart so that all are one less", "stretch", axes, how=lambda _, x, y: lambda s: Reading(
-        grid=s.width * s.height, wide=-x * s.height, high=-y * s.width))
+    yield from family("samples of %s are apart so that the last is at the size of the picture", "stretch", axes,
+                      how=lambda _, x, y: Reading(stretch=(-1, x, y)))
+    yield from family("samples of %s are apart so that all are one less", "stretch", axes,
+                      how=lambda _, x, y: Reading(stretch=(0, -x, -y)))
     yield from tables("place", "place", {
         "every second row repeats the one before": lambda x, y, s: (x, y - y % 2),
         "every second column repeats the one before": lambda x, y, s: (x - x % 2, y),
@@ -639,17 +606,13 @@ EDGES: dict[str, Callable[[Scene, int], Plane]] = {
 def frames() -> Iterator[Cause]:
     for names in (*((each,) for each in EDGES), *itertools.combinations(EDGES, 2), tuple(EDGES)):
         for most in NUMBERS:
-            yield Cause("not drawn of the picture: %s" % " and ".join(edge_said(each, most) for each in names), "frame", framed(names, most))
+            yield Cause("not drawn of the picture: %s" % " and ".join(
+                "the " + (each if most == 1 else each.replace(" ", " %d " % most) + "s") for each in names), "frame", framed(names, most))
         yield Cause("left out of each solid: the %s" % " and the ".join(names), "box", short_boxes(" and the ".join(names)))
 
 
 def framed(names: Sequence[str], most: int) -> Change:
-    return only(lambda scene: [EDGES[each](scene, most) for each in names])
-
-
-def edge_said(name: str, most: int) -> str:
-    which, what = name.split()
-    return "the %s" % name if most == 1 else "the %s %d %ss" % (which, most, what)
+    return lambda scene: with_sides(scene, [[EDGES[each](scene, most) for each in names]] * len(scene.solids))
 
 
 def counted() -> Iterator[Cause]:
@@ -685,7 +648,9 @@ def planes_counted() -> Iterator[Cause]:
         yield from family("only the last %%d %s of a solid are taken" % word, "planes", (1, 2),
                           change=lambda most, kinds=kinds: planes_at(lambda rows: rows[-most:], kinds))
         yield from tables("others", "change", {"%s of a solid are %s" % (word, said): planes_of_others(which, kinds) for said, which in others.items()})
-    yield from family("only the first %d planes of a solid are taken, in the order of the text", "planes", range(1, 33), change=first_planes)
+    yield from family("only the first %d planes of a solid are taken, in the order of the text", "planes", range(1, 33),
+                      change=lambda most: lambda scene: replace(scene, solids=[solid.with_rows(
+                          lambda rows, kind, order=solid.order[:most]: rows[:order.count(kind)]) for solid in scene.solids]))
 
 
 def terms() -> Iterator[Cause]:
@@ -693,7 +658,7 @@ def terms() -> Iterator[Cause]:
         "left out": (lambda v, _: 0, "a b c ab"), "without minus signs": (lambda v, _: abs(v), "a b c ab"),
         "with the other sign": (lambda v, _: -v, "a b c ab abc"), "0 for what is below 0": (lambda v, _: max(v, 0), "a b c ab"),
         "0 for what is above 0": (lambda v, _: min(v, 0), "a b c ab"), "twice as great": (lambda v, _: 2 * v, "a b c ab"),
-        "halved": (lambda v, _: v // 2, "a b c ab"), "as half floats": (half_float, "a b c ab abc")}
+        "halved": (lambda v, _: v // 2, "a b c ab"), "as half floats": (lambda v, _: int(np.float16(v)) if abs(v) <= 65504 else v, "a b c ab abc")}
     for kinds, word in ((KINDS, "planes"), (KINDS[:2], "fronts and backs"), *(((kind,), kind + "s") for kind in KINDS)):
         for said, (change, owns) in changes.items():
             for own in owns.split():
@@ -706,20 +671,20 @@ def terms() -> Iterator[Cause]:
         yield from family(word + ": only %d fraction bits, the rest is dropped", "fraction", range(8),
                           change=lambda keep, own=own: on_planes(dropped(keep), own))
         yield from family(word + ": rounded to %d fraction bits", "fraction", range(8), change=lambda keep, own=own: on_planes(rounded(keep), own))
+    limits: dict[str, Callable[[int, int], int]] = {
+        "is cut to %d bits": lambda v, bits: (v + (1 << bits - 1)) % (1 << bits) - (1 << bits - 1),
+        "is read as %d bits without a sign": lambda v, bits: v % (1 << bits),
+        "ends at the limits of %d bits": lambda v, bits: max(-1 << bits - 1, min(v, (1 << bits - 1) - 1))}
     yield Cause("fraction bits are taken for cells", "fraction", lambda s: replace(s, fraction=0) if s.fraction else s)
     for word, own, kinds in (("C of fronts and backs", "c", KINDS[:2]), ("C of all planes", "c", KINDS), ("each of A, B and C", "abc", KINDS)):
-        for said, to in (("is cut to %d bits", wrapped), ("is read as %d bits without a sign", unsigned), ("ends at the limits of %d bits", limited)):
+        for said, to in limits.items():
             yield from family("%s %s" % (word, said), "bits", range(8, 41), change=lambda bits, to=to, own=own, kinds=kinds: on_planes(
-                to(bits), own, kinds))
-
-
-def without_kind(own: int) -> Callable[[list[tuple[int, int, int]]], Any]:
-    return lambda rows: {n: n for _, k, n in rows if k != own}
+                lambda v, _: to(v, bits), own, kinds))
 
 
 def numbers_written() -> Iterator[Cause]:
-    yield from family("the %d bytes of both maps are lowest first", "bytes", (2, 3), write=bytes_of_both)
-    yield from family("the %d bytes of depths are lowest first", "bytes", (2, 3), write=bytes_of_depths)
+    yield from family("the %d bytes of both maps are lowest first", "bytes", (2, 3), write=lambda size: lowest_first(size, True))
+    yield from family("the %d bytes of depths are lowest first", "bytes", (2, 3), write=lambda size: lowest_first(size, False))
     for top in (255, 65535, (1 << 24) - 1, 1):
         for said, gamma in (("", 1.0), (" with a gamma of 2.2", 1 / 2.2), (" with a gamma of 1 / 2.2", 2.2)):
             yield Cause("depths are from 0 to %d%s" % (top, said), "scale", write=from_0_to(top, gamma), slack=1e-6,
@@ -738,7 +703,7 @@ def numbers_written() -> Iterator[Cause]:
     yield Cause("depths are in parts of a cell", "parts", real=True, write=depths(
         lambda v, s: (v * (1 << s.fraction)).round(), False))
     yield Cause("depths are half floats", "half floats", write=by(
-        lambda v: np.where(v > 65504, 65504, v).astype(np.float16).astype(np.float64)))
+        lambda v: np.clip(v, -65504, 65504).astype(np.float16).astype(np.float64)))
     orders: dict[str, Callable[[list[tuple[int, int, int]]], Any]] = {
         "faces are counted from 0": lambda rows: {n: n - 1 for _, _, n in rows},
         "faces are counted from 2": lambda rows: {n: n + 1 for _, _, n in rows},
@@ -751,7 +716,9 @@ def numbers_written() -> Iterator[Cause]:
         "backs have the face of their solid": lambda rows: {
             n: n if kind != 2 else next(m for own, k, m in rows if own == at and k == 0) for at, kind, n in rows},
         "faces are numbered by kind": lambda rows: {n: i for i, (_, n) in enumerate(sorted((k, n) for _, k, n in rows), 1)},
-        **{"%s are face 0" % word: without_kind(own) for own, word in enumerate(FACE_KINDS)}}
+        "near faces are face 0": lambda rows: {n: n for _, k, n in rows if k != 0},
+        "fronts are face 0": lambda rows: {n: n for _, k, n in rows if k != 1},
+        "backs are face 0": lambda rows: {n: n for _, k, n in rows if k != 2}}
     yield from tables("faces", "write", {said: renumbered(order) for said, order in orders.items()})
     yield Cause("sides have face numbers too", "faces", write=with_sides_counted)
 
@@ -783,16 +750,19 @@ def fitted(samples: Sequence[Sample]) -> Iterator[Cause]:
         for real in (None, False):
             base = ours if real is None else np.concatenate([s.cells.depths[there] for s, there, _ in shown])
             gap = float("%.5g" % np.median(theirs - base))
-            for also, word in ((False, ""), (True, ", the background too")) if gap else ():
-                yield Cause("depths are off by %g%s%s" % (gap, word, ", from whole cells" * (real is False)), "off",
-                            write=added(gap, also), slack=1e-5 * abs(gap), real=real)
-        yield from scaled(theirs[ours > 0], ours[ours > 0])
+            yield from family("depths are off by %g%s" + ", from whole cells" * (real is False), "off", [
+                (gap, "", False), (gap, ", the background too", True)] if gap else [], slack=1e-5 * abs(gap), real=real,
+                write=lambda gap, _, also: depths(lambda v, s: v + gap, also))
+        times = float("%.9g" % np.median(theirs[ours > 0] / ours[ours > 0])) if (ours > 0).any() else 0.0
+        yield from family("depths are %g times as great%s", "scale", [
+            (times, "", False), (times, ", the background too", True)] if times not in (0, 1) else [],
+            rounding=UNIT if times != round(times) else 0.0, write=lambda times, _, also: depths(lambda v, s: v * times, also))
         far = np.concatenate([np.full(int(there.sum()), s.scene.far) for s, there, _ in shown])
         inner = (ours > 0) & (ours < far) & (theirs > 0) & (theirs < far)
         power = float(np.median(np.log(theirs[inner] / far[inner]) / np.log(ours[inner] / far[inner]))) if inner.any() else 1.0
-        for power in {float("%.3g" % power), round(2 * power) / 2} - {0.0, 1.0}:
-            yield Cause("depths are bent by a power of %g of their share of far" % power, "scale", rounding=UNIT, slack=1e-6,
-                        write=bent_by(power))
+        yield from family("depths are bent by a power of %g of their share of far", "scale", {
+            float("%.3g" % power), round(2 * power) / 2} - {0.0, 1.0}, rounding=UNIT, slack=1e-6, write=lambda power: depths(
+                lambda v, s: s.far * np.clip(v / s.far, 0, 1) ** power))
         ends_at, begins_at = float(theirs.max()), float(theirs.min())
         yield Cause("depths end at %g" % ends_at, "ends", write=depths(lambda v, s: np.minimum(v, ends_at), False))
         yield Cause("depths begin at %g" % begins_at, "near", write=by(lambda v: np.maximum(v, begins_at)))
@@ -807,8 +777,9 @@ def fitted(samples: Sequence[Sample]) -> Iterator[Cause]:
         gaps = [theirs[at] - s.ours.depths[at] for s, theirs in rows for at in [
             np.isin(s.ours.faces, [n for _, k, n in rows_of(s.scene) if k == kind])]]
         gap = commonest(np.concatenate(gaps)) if sum(each.size for each in gaps) else 0.0
-        if gap:
-            yield Cause("depths of %s are off by %g" % (word, gap), "off" if kind else "near", write=on_kind(kind, gap), slack=1e-5 * abs(gap))
+        yield from family("depths of %s are off by %g", "off" if kind else "near", [(word, gap, kind)] if gap else [],
+                          slack=1e-5 * abs(gap), write=lambda _, gap, kind: lambda shown, scene: Picture(
+            shown.depths + gap * looked_up({n: 1 for _, k, n in rows_of(scene) if k == kind}, shown.faces), shown.faces))
     empty = [(theirs[s.ours.faces == 0], s.scene.far) for s, theirs in rows if (s.ours.faces == 0).any()]
     if empty:
         own = commonest(np.concatenate([theirs for theirs, _ in empty]))
@@ -816,22 +787,6 @@ def fitted(samples: Sequence[Sample]) -> Iterator[Cause]:
         more = commonest(np.concatenate([theirs - far for theirs, far in empty]))
         if more:
             yield Cause("the background is far %+.9g" % more, "background", write=behind(lambda s: s.far + more))
-
-
-def added(gap: float, also: bool) -> Write:
-    return depths(lambda v, s: v + gap, also)
-
-
-def bent_by(power: float) -> Write:
-    return depths(lambda v, s: s.far * np.clip(v / s.far, 0, 1) ** power)
-
-
-def scaled(theirs: Reals, ours: Reals) -> Iterator[Cause]:
-    """Depths of faces, all above 0, times a number."""
-    times = float("%.9g" % np.median(theirs / ours)) if ours.size else 0
-    for also, word in ((False, ""), (True, ", the background too")) if times not in (0, 1) else ():
-        yield Cause("depths are %g times as great%s" % (times, word), "scale", rounding=UNIT if times != round(times) else 0.0,
-                    write=depths(lambda v, s: v * times, also))
 
 
 def commonest(numbers: Reals) -> float:
@@ -858,27 +813,18 @@ def facts(samples: Sequence[Sample]) -> list[str]:
         out.append("%d nearer, %d farther, %d of the same depth; half of them are off by %.6g or less, the most by %.6g" % (
             (off < 0).sum(), (off > 0).sum(), (off == 0).sum(), np.median(abs(off)), abs(off).max()))
     if len(samples) < 2:
-        return out + by_solids(rows[0])
+        faces, counts = np.unique(rows[0].ours.faces[rows[0].differs], return_counts=True)
+        most = sorted(zip(counts.tolist(), faces.tolist()), key=lambda row: (-row[0], row[1]))[:5]
+        return out + ["most differ where our face is " + ", ".join("%d (%d)" % (face, count) for count, face in most)]
     for sign in "+-*^":
         own = [each for each in samples if sign in each.scene.show]
         bad = sum(bool(each.differs.any()) for each in own)
         if own:
             out.append("scenes that differ: %d of %d with %s, %d of %d without" % (
                 bad, len(own), sign, len(rows) - bad, len(samples) - len(own)))
-    sizes = sorted(len(each.scene.solids) for each in rows)
+    sizes, others = ([len(each.scene.solids) for each in samples if each.differs.any() == differs] for differs in (True, False))
     return out + ["solids of the scenes that differ: %d to %d; of the others: %s" % (
-        sizes[0], sizes[-1], ranged([len(each.scene.solids) for each in samples if not each.differs.any()]))]
-
-
-def ranged(numbers: Sequence[int]) -> str:
-    return "%d to %d" % (min(numbers), max(numbers)) if numbers else "there is none"
-
-
-def by_solids(sample: Sample) -> list[str]:
-    """The faces of ours where most pixels differ, by number."""
-    faces, counts = np.unique(sample.ours.faces[sample.differs], return_counts=True)
-    most = sorted(zip(counts.tolist(), faces.tolist()), key=lambda row: (-row[0], row[1]))[:5]
-    return ["most differ where our face is " + ", ".join("%d (%d)" % (face, count) for count, face in most)]
+        min(sizes), max(sizes), "%d to %d" % (min(others), max(others)) if others else "there is none")]
 
 
 def edges(sample: Sample) -> Bools:

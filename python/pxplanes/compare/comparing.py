@@ -17,7 +17,6 @@ if TYPE_CHECKING:
 
 # Pixels of one piece of work times the ends of solids in it: what the exact picture of a large scene is drawn by.
 PIECE = 1 << 22
-ROUNDING = 2.0 ** -24
 
 
 @dataclass(frozen=True, eq=False)
@@ -88,12 +87,14 @@ def compared(ours: tuple[Any, Any], theirs: tuple[Any, Any], allowed: Allowed, s
     from . import verdict
     numpy = needed("numpy")
     high, wide = next(each for each in theirs if each is not None).shape
-    step = band(wide, len(scene.solids) if scene else 1)
+    step = max(1, PIECE // (2 * len(scene.solids) + 1 if scene else 3) // wide)
     bands = [slice(top, top + step) for top in range(0, high, step)]
+    # Without a scene the greatest of our depths that is finite is taken for the far limit.
     has_depths = ours[0] is not None and theirs[0] is not None
-    far = scene.far if scene else max((greatest(numpy, ours[0][rows]) for rows in bands), default=0) if has_depths else 0
+    far = scene.far if scene else max(
+        float(verdict.filled(ours[0][rows], 0).max()) for rows in bands) if has_depths else 0
     is_whole = not has_depths or (whole if whole is not None else all(
-        verdict.is_whole([finite(numpy, maps[0][rows], far)]) for maps in (theirs, ours) for rows in bands))
+        verdict.is_whole([verdict.filled(maps[0][rows], far)]) for maps in (theirs, ours) for rows in bands))
     if scene is not None and (high, wide) != (scene.height, scene.width):
         raise Trouble("the maps are %d by %d, and the scene %d by %d" % (wide, high, scene.width, scene.height))
 
@@ -102,7 +103,7 @@ def compared(ours: tuple[Any, Any], theirs: tuple[Any, Any], allowed: Allowed, s
         for rows in bands:
             own, other = ([None if each is None else each[rows] for each in maps] for maps in (ours, theirs))
             if has_depths:
-                own[0], other[0] = finite(numpy, own[0], far), finite(numpy, other[0], far)
+                own[0], other[0] = verdict.filled(own[0], far), verdict.filled(other[0], far)
             state[rows], gap = by_surfaces(numpy, scene, rows.start, other, allowed) if by_scene else by_numbers(
                 numpy, own, other, allowed, is_whole, far)
             most = max(most, gap)
@@ -114,29 +115,12 @@ def compared(ours: tuple[Any, Any], theirs: tuple[Any, Any], allowed: Allowed, s
     return found
 
 
-def band(wide: int, solids: int) -> int:
-    """How many rows are done at once."""
-    return max(1, PIECE // (2 * solids + 1) // wide)
-
-
-def greatest(numpy: Any, depths: Any) -> float:
-    """The greatest of our depths that is finite: without a scene that is taken for the far limit."""
-    return float(depths[numpy.isfinite(depths)].max(initial=0) if depths.dtype.kind == "f" else depths.max())
-
-
-def finite(numpy: Any, depths: Any, far: float) -> Any:
-    """Depths with the background where they are not finite."""
-    if depths.dtype.kind != "f" or numpy.isfinite(depths).all():
-        return depths
-    return numpy.where(numpy.isfinite(depths), depths, far)
-
-
 def by_numbers(numpy: Any, ours: Any, theirs: Any, allowed: Allowed, is_whole: bool, far: float) -> tuple[Any, float]:
     """The state of each pixel by the numbers of both maps alone, and the greatest difference of depths.
 
     Of whole depths of ours and real ones of theirs it is known alone that a surface lies in the cell of ours, so that
     one there is right; of two real maps, that both are within epsilon of the surface."""
-    from .verdict import EXACT, WITHIN, WRONG
+    from .verdict import EXACT, ROUNDING, WITHIN, WRONG
     state, gap = numpy.full(numpy.shape(theirs[0] if theirs[0] is not None else theirs[1]), EXACT, numpy.uint8), 0.0
     if ours[0] is not None and theirs[0] is not None:
         at = numpy.nonzero(ours[0] != theirs[0])

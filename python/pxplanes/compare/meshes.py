@@ -50,24 +50,17 @@ class Volume(NamedTuple):
     theirs: int
     room: float
 
-    def plus(self, other: Volume) -> Volume:
-        return Volume(self.ours + other.ours, self.theirs + other.theirs, self.room + other.room)
-
 
 def volume_of(side: Any) -> Volume:
     """The volume along the rays of a side."""
     scene, ours = picture.of_scene(side.scene, side.name), 0
     for row in range(scene.height):
-        x = np.arange(scene.width)
-        found = picture.ends(scene, picture.RIGHT, x, np.full_like(x, row))
+        x = np.arange(scene.width)[np.newaxis]
+        found = picture.ends([scene], picture.RIGHT, x, np.full_like(x, row))
         marks = np.sort(np.concatenate([found.first, found.end]).clip(0, scene.far), 0)
         ours += int(np.diff(marks, axis=0)[picture.fold(scene.show, found, marks[:-1], False)[0]].sum())
     spans = [span for y in range(scene.height) for x in range(scene.width) for span in side.crossings.cells(x, y, scene.far)]
     return Volume(ours, sum(end - first for first, end in spans), 2 * side.near * len(spans))
-
-
-def row_of(found: Any, counts: dict[str, int]) -> str:
-    return "%-10s %5s  %s" % (found.side.name, found.cut or "-", " ".join("%8d" % counts[word] for word in COUNTS))
 
 
 def first_wrong(found: Any) -> str:
@@ -93,21 +86,22 @@ def report(expression: str, result: str, sides: int = verifying.SIDES, cuts: int
     side. A PNG of each picture with something wrong goes into the folder `out`: ours, theirs, and where the result misses
     something (red) or has too much (blue)."""
     draw, mesh = verifying.drawer(program.needed(None)), mesh_of(result)
-    first, volume = None, Volume(0, 0, 0)
+    first, volumes = None, list[Volume]()
     print("%-10s %5s  %s" % ("side", "cut", " ".join("%8s" % word for word in COUNTS)))
     for found in verifying.seen(sides_of(expression, mesh, sides, size), cuts, draw):
         counts = {word: found.words.count(word) for word in COUNTS}
-        print(row_of(found, counts))
+        print("%-10s %5s  %s" % (found.side.name, found.cut or "-", " ".join("%8d" % counts[word] for word in COUNTS)))
         if verifying.is_wrong(counts):
             first = first or first_wrong(found)
             if out:
                 verifying.leave(out, found)
         if not found.cut:
-            volume = volume.plus(volume_of(found.side))
-    print("the volume: %d cells of ours, %d of theirs, which may differ by %.0f" % volume)
+            volumes.append(volume_of(found.side))
+    ours, theirs, room = (sum(each) for each in zip(*volumes))
+    print("the volume: %d cells of ours, %d of theirs, which may differ by %.0f" % (ours, theirs, room))
     for note in mesh.notes():
         print("the mesh: " + note)
-    if not first and abs(volume.ours - volume.theirs) > volume.room:
+    if not first and abs(ours - theirs) > room:
         first = "the volumes differ"
     print("wrong: " + first if first else "right")
     return 1 if first else 0

@@ -48,14 +48,8 @@ def is_picture_of(maps: Maps, scene: Scene) -> bool:
     """Whether maps are what a scene shows."""
     if maps.shape != (scene.height, scene.width):
         return False
-    high = max(1, MOST // (2 * len(scene.solids) + 1) // scene.width)
-    for top in range(0, scene.height, high):
-        y, x = (each.ravel() for each in np.indices((min(high, scene.height - top), scene.width), np.int64))
-        shown, rows = picture(scene, RIGHT, x, y + top), slice(top, top + high)
-        for found, own in ((maps.depths, shown.depths), (maps.faces, shown.faces)):
-            if found is not None and not (found[rows].ravel() == own).all():
-                return False
-    return True
+    shown = picture(scene, RIGHT, *grid(scene))
+    return all(found is None or bool((found.ravel() == own).all()) for found, own in ((maps.depths, shown.depths), (maps.faces, shown.faces)))
 
 
 def sample_of(scene: Scene, theirs: Maps, found: Comparison, allowed: Allowed,

@@ -11,11 +11,11 @@ from __future__ import annotations
 
 from dataclasses import dataclass, field, replace
 from functools import cached_property
-from typing import Optional, Sequence
+from typing import Any, Optional, Sequence
 
 import numpy as np
 
-from pxplanes.compare.picture import REAL, RIGHT, Bools, Picture, Reading, Reals, Scene, Whole, picture
+from pxplanes.compare.picture import REAL, RIGHT, Asked, Bools, Picture, Reading, Reals, Scene, Whole, picture, pictures
 
 ROUNDING = 2.0 ** -24      # half of the last bit of a float32, relative
 ROUNDINGS = 64.0           # so many of them are let pass
@@ -71,6 +71,14 @@ class Sample:
     @cached_property
     def real(self) -> Picture:
         return picture(self.scene, REAL, self.x, self.y)
+
+    def shown(self, asked: Sequence[Asked]) -> list[Picture]:
+        """What is asked of this scene, or of it changed."""
+        is_own = [each.scene is self.scene and each.x is self.x and each.y is self.y for each in asked]
+        known = [self.cells if own and each.how == RIGHT else self.real if own and each.how == REAL else None
+                 for own, each in zip(is_own, asked)]
+        new = iter(pictures([each for each, own in zip(asked, known) if own is None]))
+        return [next(new) if own is None else own for own in known]
 
     @property
     def ours(self) -> Picture:
@@ -153,9 +161,9 @@ class Score:
         return self.exact + self.within + self.near_edge + self.wrong
 
 
-def filled(depths: Reals, far: float) -> Reals:
+def filled(depths: Any, far: float) -> Any:
     """Depths with the background where they are not finite."""
-    return np.where(np.isfinite(depths), depths, far)
+    return depths if depths.dtype.kind != "f" or np.isfinite(depths).all() else np.where(np.isfinite(depths), depths, far)
 
 
 def is_whole(maps: Sequence[Optional[Reals]]) -> bool:

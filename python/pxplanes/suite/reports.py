@@ -58,29 +58,25 @@ def as_json(outcome: Outcome) -> str:
                    for row in outcome.rows]}, indent=1) + "\n"
 
 
-def escaped(text: str) -> str:
-    return html.escape(text, quote=True)
-
-
 def junit_inside(outcome: Outcome, row: Row) -> str:
     """What a test case has of a scene: an expected difference is no failure, and one that no longer occurs is."""
     is_expected = row.case.title in outcome.expected
     if row.status == DIFFERS and is_expected:
-        return '<skipped message="%s"/>' % escaped("expected to differ: " + row.first)
+        return '<skipped message="%s"/>' % html.escape("expected to differ: " + row.first)
     if row.status == DIFFERS:
-        return '<failure message="%s">%s</failure>' % (escaped(row.first), escaped("it is there to find: " + about(outcome, row)[1]))
+        return '<failure message="%s">%s</failure>' % (html.escape(row.first), html.escape("it is there to find: " + about(outcome, row)[1]))
     if row.status == NOT_COMPARED:
         return '<skipped message="the map has no faces"/>'
     return '<failure message="it is expected to differ, and is alike"/>' if is_expected else ""
 
 
 def as_junit(outcome: Outcome) -> str:
-    out = ['<?xml version="1.0" encoding="UTF-8"?>', '<testsuites name="%s">' % escaped(title(outcome))]
+    out = ['<?xml version="1.0" encoding="UTF-8"?>', '<testsuites name="%s">' % html.escape(title(outcome))]
     for level, rows in outcome.levels():
         inside = [junit_inside(outcome, row) for row in rows]
         out.append('  <testsuite name="%s" tests="%d" failures="%d" skipped="%d">' % (
-            escaped(level), len(rows), sum(each.startswith("<failure") for each in inside), sum(each.startswith("<skipped") for each in inside)))
-        out += ['    <testcase classname="%s" name="%s">%s</testcase>' % (row.case.kind, escaped(row.case.name), each)
+            html.escape(level), len(rows), sum(each.startswith("<failure") for each in inside), sum(each.startswith("<skipped") for each in inside)))
+        out += ['    <testcase classname="%s" name="%s">%s</testcase>' % (row.case.kind, html.escape(row.case.name), each)
                 for row, each in zip(rows, inside)]
         out.append("  </testsuite>")
     return "\n".join(out + ["</testsuites>", ""])

@@ -257,17 +257,13 @@ def colours_of(case: Case) -> Any:
     return table
 
 
-def samples_of(rows: list[Row], settings: Settings) -> list[Sample]:
-    return [report.sample_of(row.case.scene, row.theirs, row.found, settings.allowed, row.labels)
-            for row in rows if row.theirs is not None and row.found is not None]
-
-
 def cause_of(rows: list[Row], settings: Settings) -> list[str]:
     """The cause of all that differs with its evidence, or that none was found, with facts."""
     lacking = [row for row in rows if row.note]
     lines = ["%d of %d scenes have no map to compare: %s" % (len(lacking), len(rows), lacking[0].note)] if lacking else []
     if any(row.pixels for row in rows):
-        samples = samples_of(rows, settings)
+        samples = [report.sample_of(row.case.scene, row.theirs, row.found, settings.allowed, row.labels)
+                   for row in rows if row.theirs is not None and row.found is not None]
         found = causes.find(samples)
         lines += found.said() + ([] if found.is_sure else ["  " + line for line in causes.facts(samples)])
     return lines

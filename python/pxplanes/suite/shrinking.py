@@ -2,7 +2,8 @@
 numbers."""
 from __future__ import annotations
 
-import copy
+import itertools
+import pickle
 import time
 from typing import Any, Callable, Iterator, Optional
 
@@ -44,20 +45,26 @@ def parts(show: list[Any]) -> list[list[Any]]:
     return found
 
 
+def copies(scene: Any) -> Iterator[Any]:
+    """Copies of a scene without end."""
+    return map(pickle.loads, itertools.repeat(pickle.dumps(scene)))
+
+
 def fewer_solids(scene: Any) -> Iterator[Any]:
-    for show in sorted(parts(scene.show), key=len):
-        other = copy.deepcopy(scene)
+    for other, show in zip(copies(scene), sorted(parts(scene.show), key=len)):
         other.show = show
         yield without_unused(other)
 
 
+def places(scene: Any) -> list[tuple[int, str, int]]:
+    """The solid, the kind and the number of each plane."""
+    return [(at, kind, which) for at, solid in enumerate(scene.solids) for kind in KINDS for which in range(len(getattr(solid, kind)))]
+
+
 def fewer_planes(scene: Any) -> Iterator[Any]:
-    for at, solid in enumerate(scene.solids):
-        for kind in KINDS:
-            for which in range(len(getattr(solid, kind))):
-                other = copy.deepcopy(scene)
-                del getattr(other.solids[at], kind)[which]
-                yield other
+    for other, (at, kind, which) in zip(copies(scene), places(scene)):
+        del getattr(other.solids[at], kind)[which]
+        yield other
 
 
 def windows(scene: Any, x: int, y: int) -> Iterator[Any]:
@@ -78,29 +85,26 @@ def fewer_rows(scene: Any) -> Iterator[Any]:
 
 
 def fewer_bits(scene: Any) -> Iterator[Any]:
-    for bits in range(scene.fraction_bits):
-        other = copy.deepcopy(scene)
+    for other, bits in zip(copies(scene), range(scene.fraction_bits)):
         shift, other.fraction_bits = scene.fraction_bits - bits, bits
         for face in (face for solid in other.solids for face in solid.fronts + solid.backs):
             face.plane = tuple((part + (1 << shift - 1)) >> shift for part in face.plane)
         yield other
-    for bits in (1, 2, 3, 4, 6, 8, 12, 16, 20):
-        if bits < scene.depth_bits:
-            other = copy.deepcopy(scene)
-            other.depth_bits = bits
-            yield other
+    for other, bits in zip(copies(scene), (bits for bits in (1, 2, 3, 4, 6, 8, 12, 16, 20) if bits < scene.depth_bits)):
+        other.depth_bits = bits
+        yield other
 
 
 def smaller_numbers(scene: Any) -> Iterator[Any]:
-    for at, solid in enumerate(scene.solids):
-        for kind in KINDS:
-            for which, face in enumerate(getattr(solid, kind)):
-                for part, number in enumerate(face.plane):
-                    for less in dict.fromkeys((0, number // abs(number or 1), int(number / 16), int(number / 2))):
-                        if abs(less) < abs(number):
-                            other = copy.deepcopy(scene)
-                            getattr(other.solids[at], kind)[which].plane = (*face.plane[:part], less, *face.plane[part + 1:])
-                            yield other
+    others = copies(scene)
+    for at, kind, which in places(scene):
+        plane = getattr(scene.solids[at], kind)[which].plane
+        for part, number in enumerate(plane):
+            for less in dict.fromkeys((0, number // abs(number or 1), int(number / 16), int(number / 2))):
+                if abs(less) < abs(number):
+                    other = next(others)
+                    getattr(other.solids[at], kind)[which].plane = (*plane[:part], less, *plane[part + 1:])
+                    yield other
 
 
 # Each step with what it is called; windows come first, since all others draw the whole picture each time.
@@ -118,6 +122,7 @@ class Shrinker:
         self.renderer, self.settings, self.say = renderer, settings, say
         self.program, self.end = find_program(None), time.monotonic() + seconds
         self.tried, self.has_map = 0, True
+        self.lost: set[str] = set()      # the texts that do not differ so
 
     def row(self, text: str) -> Row:
         """What comes of a scene."""
@@ -126,26 +131,31 @@ class Shrinker:
         self.tried += 1
         return row
 
-    def still(self, scene: Any) -> Optional[Row]:
+    def still(self, text: str) -> Optional[Row]:
         """What comes of a scene; None if it is none, or does not differ as the first one did."""
-        try:
-            row = self.row(plain(scene))
-        except Trouble:
+        if text in self.lost:
             return None
-        return row if row.status == DIFFERS and (row.found is not None) == self.has_map else None
+        row: Optional[Row] = None
+        try:
+            row = self.row(text)
+        except Trouble:
+            pass
+        if row and row.status == DIFFERS and (row.found is not None) == self.has_map:
+            return row
+        self.lost.add(text)
+        return None
 
     def step(self, scene: Any, row: Row, way: Callable[[Any, Row], Iterator[Any]]) -> tuple[Any, Row]:
-        """The scene after all that one way can drop."""
-        found = True
-        while found:
-            found = False
-            for other in way(scene, row):
-                if time.monotonic() > self.end:
-                    return scene, row
-                less = self.still(other)
-                if less:
-                    scene, row, found = golden.case("scene", "small", plain(other).encode()).named, less, True
-                    break
+        """The scene after all that one way can drop. After each drop it goes on where it is: what comes before was tried."""
+        others, at, failed = list(way(scene, row)), 0, 0
+        while failed < len(others) and time.monotonic() <= self.end:
+            text = plain(others[at % len(others)])
+            less = self.still(text)
+            if less:
+                scene, row, failed = golden.case("scene", "small", text.encode()).named, less, 0
+                others = list(way(scene, row))
+            else:
+                at, failed = at + 1, failed + 1
         return scene, row
 
     def shrunk(self, scene: Any, row: Row) -> tuple[Any, Row]:
