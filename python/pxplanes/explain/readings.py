@@ -189,8 +189,8 @@ def keeps(old: str, new: str, names: Any) -> bool:
 class Search:
     """Finds the readings of one refused line."""
 
-    def __init__(self, lines: Lines, refusal: scenes.Refusal, at: int):
-        self.lines, self.refusal, self.at, self.cause = lines, refusal, at, cause_of(refusal)
+    def __init__(self, lines: Lines, refusal: scenes.Refusal, at: int, has_order: bool):
+        self.lines, self.refusal, self.at, self.cause, self.has_order = lines, refusal, at, cause_of(refusal), has_order
         self.before = Judge().after(lines[:at])
         self.statements = [place for place, line in enumerate(lines) if words_of(line)]
 
@@ -260,7 +260,8 @@ class Search:
     def versions(self) -> Iterator[Change]:
         """The header with another version, or the header and the end that are missing."""
         at, end = self.at, b"\r" if self.lines and self.lines[0].endswith(b"\r") else b""
-        if self.cause == "not-header" and is_near(words_of(self.lines[at])[0], "picture"):
+        has_header = any(words_of(self.lines[place])[0] == KEYWORDS[0] for place in self.statements)
+        if self.cause == "not-header" and not has_header and is_near(words_of(self.lines[at])[0], "picture"):
             for version in (version_of(self.lines), b"1", b"2", b"3"):
                 place = self.statements[0] if self.statements else 0
                 yield Change(place, place, (b"pxscene " + version + end,), "add a line above this one: pxscene %s" % version.decode(), True)
@@ -274,7 +275,7 @@ class Search:
 
     def swapped(self) -> Iterator[Change]:
         """The refused line in the place of the one before it or the one after it."""
-        if self.at in self.statements and self.cause in ("unexpected", "after-end", "not-header"):
+        if not self.has_order and self.at in self.statements and self.cause in ("unexpected", "after-end", "not-header"):
             here = self.statements.index(self.at)
             for one, other in zip(self.statements[max(0, here - 1):here + 1], self.statements[max(1, here):here + 2]):
                 yield self.moved(one, other)
@@ -287,7 +288,7 @@ class Search:
 
     def placed(self) -> Iterator[Change]:
         """Each line that has one place in a scene alone, put there, or in exchange with what is there."""
-        if self.cause not in ("unexpected", "after-end", "not-header", "unknown-name"):
+        if self.has_order or self.cause not in ("unexpected", "after-end", "not-header", "unknown-name"):
             return
         order = [place for word in KEYWORDS[:3] for place in self.statements if words_of(self.lines[place])[0] == word]
         order += [place for word in ("show", "end") for place in self.statements if words_of(self.lines[place])[0] == word]
@@ -309,6 +310,16 @@ class Search:
         found = near[0] or far[0] or near[1] or far[1]
         only = next(iter(found.values())) if len(found) == 1 else None
         return only if only and only.is_safe else None, list(found.values())
+
+    def ordered(self) -> Optional[Change]:
+        """The one change of the order of lines after which all other mistakes of the text have one reading; None if there is none, or
+        several that are different scenes."""
+        found = {}
+        for change in [*self.swapped(), *self.placed()]:
+            rest = mended(joined(change.applied(self.lines)), has_order=True)
+            if rest.is_whole:
+                found[meaning(scenes.read(rest.text))] = change
+        return next(iter(found.values())) if len(found) == 1 else None
 
     def judged(self, changes: list[Change]) -> tuple[dict[Any, Change], dict[Any, Change]]:
         """The changes that make the whole text a scene, and those that make one up to this line; one for each meaning."""
@@ -373,8 +384,8 @@ def plain(text: bytes) -> tuple[bytes, Optional[str]]:
     return (joined(out), sentence) if sentence else (text, None)
 
 
-def mended(text: bytes) -> Mending:
-    """Mends what is sure, and finds the mistakes of the text in the order of its lines."""
+def mended(text: bytes, has_order: bool = False) -> Mending:
+    """Mends what is sure, and finds the mistakes of the text in the order of its lines. If it `has_order`, no line is moved."""
     new, sentence = plain(text)
     changes = [(0, sentence)] if sentence else []
     lines = scenes.cut_lines(new)
@@ -383,7 +394,11 @@ def mended(text: bytes) -> Mending:
     refusal, at = first_mistake(lines)
     good, shown = list(lines), list(lines)
     while refusal is not None and len(mistakes) < MOST_MISTAKES and len(lines) <= MOST_LINES:
-        sure, candidates = Search(shown, refusal, at).readings() if not refusal.note.startswith("limit") else (None, [])
+        search = None if refusal.note.startswith("limit") else Search(shown, refusal, at, has_order)
+        sure, candidates = search.readings() if search else (None, [])
+        if search and not candidates and not has_order:
+            sure = search.ordered()
+            candidates = [sure] if sure else []
         number = numbers[at] if at < len(numbers) else len(scenes.cut_lines(new))
         mistakes.append(Mistake(number, refusal, sure, candidates, joined(shown)))
         instead = stand_in(shown, refusal, at)
