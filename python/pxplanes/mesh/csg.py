@@ -285,8 +285,8 @@ class Reader:
         if place.flat:
             corners = shaping.flat_hull([point[:2] for point in points])
             return Flat(corners) if corners else None
-        corners, planes = shaping.hull(points)
-        return solids.Solid(name, line, corners, planes, YELLOW)
+        corners, planes, sides = shaping.hull(points)
+        return solids.Solid(name, line, corners, planes, YELLOW, sides=sides)
 
     def minkowski(self, trees: list[Any], found: Any, place: Any, line: int) -> Any:
         parts: Optional[list[Any]] = None

@@ -11,7 +11,7 @@ PACKAGE = "python3-scipy"
 
 
 def hull(points: kinds.Points) -> Any:
-    """The points at the corners of the hull of points in space, and its planes; by Qhull."""
+    """The points at the corners of the hull of points in space, its planes, and its triangles; by Qhull."""
     try:
         from scipy.spatial import ConvexHull, QhullError
     except ImportError:
@@ -25,7 +25,8 @@ def hull(points: kinds.Points) -> Any:
     for equation, facet in zip(found.equations.tolist(), found.simplices.tolist()):
         planes.setdefault(tuple(round(part, 9) + 0.0 for part in equation),
                           places.plane(equation[:3], -equation[3], facet))
-    return [points[at] for at in found.vertices.tolist()], list(planes.values())
+    corners, sides = facets.only(points, found.simplices.tolist())
+    return corners, list(planes.values()), sides
 
 
 def flat_hull(points: kinds.Points) -> Any:
