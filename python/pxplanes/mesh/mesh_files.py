@@ -268,6 +268,29 @@ READERS: dict[str, Callable[..., Any]] = {
 ENDINGS = ".off, .stl, .obj, .ply, .3mf, .glb and .gltf"
 
 
+def more_kinds() -> set[str]:
+    """The endings that the package trimesh reads beyond these; none where it is not there."""
+    try:
+        import trimesh
+    except ImportError:
+        return set()
+    return set(trimesh.available_formats()) - set(READERS)
+
+
+def by_trimesh(kind: str, data: bytes) -> Any:
+    """The mesh of a file that trimesh reads: all that its scene has, as its numbers are."""
+    import trimesh
+    try:
+        found = trimesh.load(io.BytesIO(data), file_type=kind, force="mesh", process=False)
+        return merged(*checked([floats(point, "a point") for point in found.vertices.tolist()], found.faces.tolist()))
+    except Trouble:
+        raise
+    except Exception as bad:         # (each of its readers has its own)
+        raise Trouble("trimesh does not read it: %s" % bad)
+
+
 def read(kind: str, data: bytes, folder: Optional[str] = None) -> Any:
     """The mesh of a file's bytes; those of a .gltf may be in files of that folder too."""
+    if kind not in READERS:
+        return by_trimesh(kind, data)
     return READERS[kind](data, folder) if kind == "gltf" else READERS[kind](data)

@@ -432,11 +432,18 @@ def tell_of_edges(view: Any, is_empty: bool) -> None:
         say(line)
 
 
+def is_model(name: str) -> bool:
+    """Whether a file is a model, by its ending."""
+    kind = os.path.splitext(name)[1][1:].lower()
+    return kind in KINDS or kind in mesh_files.more_kinds()
+
+
 def read(name: str, choices: Any) -> Any:
     """The tree of the model in a file, in which meshes are not divided."""
     kind = choices.kind or os.path.splitext(name)[1][1:].lower() or "csg"
-    if kind not in KINDS or kind == "scad" and name == "-":
-        raise Trouble("%s is no %s; --kind says what it is" % (name, ", ".join("." + each for each in KINDS)))
+    if kind not in KINDS and kind not in mesh_files.more_kinds() or kind == "scad" and name == "-":
+        raise Trouble("%s is no %s; --kind says what it is, and more is read with the Python package trimesh" % (
+            name, ", ".join("." + each for each in KINDS)))
     if choices.unit and kind in OF_UNITS:
         raise Trouble("a .%s file says its unit, which becomes millimetres; --unit is for the others" % kind)
     tree, up = there(whole_tree(name, kind)), "y" if kind in ("glb", "gltf") else "z"
