@@ -16,7 +16,7 @@ import pytest
 import support
 from pxplanes.errors import Trouble
 from pxplanes.image import netpbm
-from pxplanes.mesh import cameras, exports, mesh_files, modelling
+from pxplanes.mesh import cameras, csg, exports, mesh_files, modelling
 
 CORNERS = [(0, 0, 0), (4, 0, 0), (0, 4, 0), (0, 0, 4)]
 SIDES = [(0, 2, 1), (0, 1, 3), (0, 3, 2), (1, 2, 3)]
@@ -51,6 +51,27 @@ def test_raw_stl_far_from_the_origin_is_a_scene(built, tmp_path):
     (tmp_path / "far.stl").write_bytes(raw_stl(b"far", far=100000.1))
     done = px(built, "convert", "far.stl", cwd=tmp_path)
     assert done.returncode == 0 and done.stdout.count(b"\nsolid ") == 1, done.stderr
+
+
+WORDS = b"".join(b"facet\nvertex %d %d %d\nvertex %d %d %d\nvertex %d %d %d\nendfacet\n" % tuple(
+    part for at in side for part in CORNERS[at]) for side in SIDES)
+OBJ = b"v 0 0 0\nv 4 0 0\nv 0 4 0\nv 0 0 4\nf 1 3 2\nf 1 2 4\nf 1 4 3\nf 2 3 4"
+PLY = b"ply\nformat ascii 1.0\nelement vertex 3\n" + b"".join(b"property float %c\n" % axis for axis in b"xyz") + \
+    b"element face 1\nproperty list uchar int vertex_index\nend_header\n0 0 nan\n1 0 0\n0 1 0\n3 0 1 2\n"
+
+
+@pytest.mark.parametrize("kind, data, why", [
+    ("stl", raw_stl(b"raw")[:-60], "cut off, .* says 4 triangles, and 2 are there"),
+    ("stl", b"solid s\n" + WORDS, "cut off: it has no endsolid"),
+    ("stl", raw_stl(b"raw", far=float("nan")), "triangle 1 has the number nan"),
+    ("obj", OBJ[:-2], "facet 4 has fewer than three corners"), ("obj", OBJ[:-1] + b"9", "facet 4 names a point"),
+    ("obj", OBJ[:-1] + b"2.5", "face 4 has a number that is not whole"), ("obj", b"v 0 0 1e30\n", "point 1 has the number 1e.30"),
+    ("off", b"OFF\n3 1 0\n0 0 0\n1 0 0\n0 1 0\n3 0 1", "facet 1 has fewer corners"), ("ply", PLY, "vertex 1 has the number nan")])
+def test_what_is_cut_off_or_no_number_is_refused_with_its_place(kind, data, why):
+    pytest.importorskip("numpy")
+    leaf = csg.of_mesh_file(kind, data)
+    with pytest.raises(Trouble, match=why):
+        leaf.points
 
 
 def test_obj_with_groups_has_all_of_them():
