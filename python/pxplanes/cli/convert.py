@@ -91,7 +91,7 @@ def add_options(parser: argparse.ArgumentParser) -> None:
     parser.add_argument("--seconds", metavar="N", type=positive, default=60,
                         help="refuse a model that needs more seconds of processor")
     parser.add_argument("--draw", metavar="MAPS",
-                        help="draw the model, by one scene or by columns, and write its depths and faces")
+                        help="draw the model by columns, and write its depths and faces")
 
 
 def run(options: argparse.Namespace) -> int:
@@ -142,8 +142,7 @@ def modelled(options: argparse.Namespace) -> int:
     choices = choices_of(options)
     bound(options.seconds)
     if options.draw:
-        whole = modelling.read(options.file, choices)
-        maps = modelling.drawn_as_one(whole, choices) or modelling.by_columns(whole, choices).maps()
+        maps = modelling.by_columns(modelling.read(options.file, choices), choices).maps()
         unbound()
         write(options.draw, maps)
         return frame.SUCCESS

@@ -224,7 +224,7 @@ class Reader:
         except Untaken:
             raise
         except Trouble as bad:
-            raise self.bad("%s %s" % (name, bad), line)
+            raise self.bad("%s %s" % (name, bad), line, Untaken if place.flat else Trouble)
 
     def imported(self, found: Any, line: int) -> Any:
         path = os.path.join(self.folder, found["file"][1:-1])

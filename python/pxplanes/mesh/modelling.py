@@ -8,7 +8,7 @@ import os
 from dataclasses import dataclass
 from typing import Any, Optional, Sequence
 
-from pxplanes import ends, program
+from pxplanes import ends
 from pxplanes.errors import Trouble
 from pxplanes.mesh import bounding, csg, facets, kinds, mesh_files, openscad, perspective, solids, views
 from pxplanes.scene import limits, rays, scenes
@@ -481,10 +481,11 @@ def made(name: str, choices: Any) -> tuple[str, Any]:
     whole = read(name, choices)
     tree = there(solids.divided(whole))
     view, wanted = flatter(tree, choices)
-    looked_at(whole, view, choices)
     tree, laid = as_one(tree, view, choices, True)
     text, worst = text_of(tree, laid, view, choices)
-    return text, (checked(text), view, worst, choices, wanted)
+    scene = checked(text)
+    looked_at(whole, scene, view, choices, worst[0])
+    return text, (scene, view, worst, choices, wanted)
 
 
 def flatter(tree: kinds.Tree, choices: Any) -> Any:
@@ -501,22 +502,21 @@ def flatter(tree: kinds.Tree, choices: Any) -> Any:
             choices.bits[1] -= 1
 
 
-def looked_at(whole: kinds.Tree, view: Any, choices: Any) -> None:
-    """`Trouble` where the convex parts of a mesh are not at the pixels of the picture as the mesh is. Without NumPy
-    their volume alone is compared, as each mesh is divided."""
-    meshes = [leaf for leaf, _ in solids.leaves(whole) if isinstance(leaf, solids.Mesh)]
-    if not meshes or importlib.util.find_spec("numpy") is None:
+def looked_at(whole: kinds.Tree, scene: Any, view: Any, choices: Any, rounded: float) -> None:
+    """`Trouble` where a scene does not show what the undivided model has at the pixels of the picture. Without NumPy
+    only the volumes of meshes are compared, as they are divided."""
+    if importlib.util.find_spec("numpy") is None:
         return
-    columns = columns_module()
-    for mesh in meshes:
-        laid = list(laid_out(mesh.parts, view, choices).values())
-        rounded = max((own.worst[0] for own in laid), default=0)
-        digit = facets.digit_of(mesh.mesh[0]) * facets.extent(mesh.mesh[0])[0] * solids.growth(mesh.matrix)
-        count, place = columns.unlike(mesh, [[plane[:2] for plane in own.planes] for own in laid], view, choices.size,
-                                      choices.bits, rounded, digit)
-        if count:
-            raise Trouble("%s is not what its convex parts are at %d pixels, the first x %d, y %d; `pxplanes view` "
-                          "and `pxplanes convert --draw MAPS` draw it undivided" % (mesh.name(), count, *place))
+    from pxplanes.compare import picture
+    columns, own = columns_module(), picture.of_scene(scene, "scene")
+    depths = picture.picture(own, picture.RIGHT, *picture.grid(own)).depths.reshape(choices.size[::-1])
+    digits = [facets.digit_of(leaf.mesh[0]) * facets.extent(leaf.mesh[0])[0] * solids.growth(leaf.matrix)
+              for leaf, _ in solids.leaves(whole) if isinstance(leaf, solids.Mesh)]
+    count, place = columns.unlike(columns.Model(whole, view, choices.size), depths, choices.bits, rounded,
+                                  max(digits, default=0))
+    if count:
+        raise Trouble("the scene is not what the model is at %d pixels, the first x %d, y %d: --depth with more bits may "
+                      "make it so, and %s" % (count, *place, facets.UNDIVIDED))
 
 
 def columns_module() -> Any:
@@ -530,15 +530,16 @@ def columns_module() -> Any:
 
 def by_columns(tree: kinds.Tree, choices: Any) -> Any:
     """The picture of a tree by columns (docs/MODELLING.md, "Columns"). `Trouble` where NumPy is not there."""
-    columns, leaves = columns_module(), solids.leaves(tree)
+    columns = columns_module()
     if choices.in_perspective:
         choices.bits = list(choices.depth or wanted_bits(choices.size, 2 * limits.MAX_SOLIDS + 2))
         fov = choices.fov or views.FIELD
         numbers = choices.camera or perspective.around(choices.view, fov, choices.size, tree)
-        view = columns.Before(numbers, fov, choices.size, 2 ** choices.bits[0] - 1, (choices.near, choices.far), leaves)
+        view = columns.Before(numbers, fov, choices.size, 2 ** choices.bits[0] - 1, (choices.near, choices.far),
+                              solids.leaves(tree))
     else:
         view = parallel(tree, choices)
-    drawing = columns.draw(tree, [leaf for leaf, _ in leaves], view, choices.size, choices.bits)
+    drawing = columns.draw(tree, view, choices.size, choices.bits)
     say("drawn by columns: %d triangles, %d columns in %d scenes; a depth is rounded by at most %.2g cells of %d" % (
         len(drawing.corners), drawing.columns, drawing.scenes, drawing.rounded, 2 ** choices.bits[0] - 1))
     tell_of_edges(view, (drawing.shown < 0).all())
@@ -552,20 +553,3 @@ def portrait(name: str) -> Any:
     tree = read(name, choices)
     choices.camera, choices.size = columns_module().portrait(solids.leaves(tree), choices.view, views.FIELD)
     return by_columns(tree, choices), [leaf.colour for leaf, _ in solids.leaves(tree)]
-
-
-def drawn_as_one(tree: kinds.Tree, choices: Choices) -> Optional[bytes]:
-    """Both maps of convex solids that make one scene by all of their planes, none of which has to be divided; None for
-    others."""
-    if any(isinstance(leaf, solids.Mesh) for leaf, _ in solids.leaves(tree)):
-        return None
-    try:
-        view, wanted = seen(tree, choices)
-        laid = laid_out(tree, view, choices)
-    except Trouble:
-        return None
-    if not is_within(tree, laid, choices):
-        return None
-    text, worst = text_of(tree, laid, view, choices)
-    tell(checked(text), view, worst, choices, wanted)
-    return program.output(program.needed(None), "render", text.encode())

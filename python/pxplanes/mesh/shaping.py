@@ -2,6 +2,7 @@
 profiles. Convex flat shapes are their corners in order; convex solids are points and planes."""
 from __future__ import annotations
 
+import math
 from typing import Any
 
 from pxplanes.errors import Trouble
@@ -34,11 +35,11 @@ def flat_hull(points: kinds.Points) -> Any:
     points = sorted({(x, y) for x, y in points})
     if len(points) < 3:
         return []
-    sides = []
+    sides, flat = [], 1e-12 * math.dist(points[0], points[-1]) ** 2
     for way in (points, points[::-1]):
         side: list[Any] = []
         for point in way:
-            while len(side) > 1 and turn(side[-2], side[-1], point) <= 1e-12:
+            while len(side) > 1 and turn(side[-2], side[-1], point) <= flat:
                 side.pop()
             side.append(point)
         sides += side[:-1]
