@@ -380,14 +380,17 @@ class Model:
         seen, self.numbers, is_before = in_view(self.lens, self.lens.seen(self.corners))
         self.places, self.is_cut = self.lens.placed(seen), is_before or bool(solids.signs(tree) - {"+"})
 
+    def gaps(self) -> list[str]:
+        """What is not closed, and where."""
+        found = ((leaf.name(), open_place(corners_of(leaf))) for leaf in self.leaves)
+        return ["%s %s" % pair for pair in found if pair[1]]
+
     def check(self) -> None:
         """Says what is not closed; `Trouble` where it must be."""
-        for leaf in self.leaves:
-            gap = open_place(corners_of(leaf))
-            if gap and self.is_cut:
-                raise Trouble("%s %s, and what is cut or intersected must be closed" % (leaf.name(), gap))
-            if gap:
-                ends.say("pxplanes convert", "%s %s; it is drawn from both sides" % (leaf.name(), gap))
+        for gap in self.gaps():
+            if self.is_cut:
+                raise Trouble(gap + ", and what is cut or intersected must be closed")
+            ends.say("pxplanes convert", gap + "; it is drawn from both sides")
 
     def triangles(self, right: float = 0, down: float = 0) -> Triangles:
         """Its triangles in the picture, which is so many pixels aside."""

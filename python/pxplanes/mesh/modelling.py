@@ -503,17 +503,19 @@ def flatter(tree: kinds.Tree, choices: Any) -> Any:
 
 
 def looked_at(whole: kinds.Tree, scene: Any, view: Any, choices: Any, rounded: float) -> None:
-    """`Trouble` where a scene does not show what the undivided model has at the pixels of the picture. Without NumPy
-    only the volumes of meshes are compared, as they are divided."""
+    """`Trouble` where a scene does not show what the undivided model has at the pixels of the picture. Without NumPy,
+    or where the facets of what is cut are not turned alike, only the volumes of divided meshes were compared."""
     if importlib.util.find_spec("numpy") is None:
         return
     from pxplanes.compare import picture
     columns, own = columns_module(), picture.of_scene(scene, "scene")
+    model = columns.Model(whole, view, choices.size)
+    if model.is_cut and model.gaps():
+        return
     depths = picture.picture(own, picture.RIGHT, *picture.grid(own)).depths.reshape(choices.size[::-1])
     digits = [facets.digit_of(leaf.mesh[0]) * facets.extent(leaf.mesh[0])[0] * solids.growth(leaf.matrix)
               for leaf, _ in solids.leaves(whole) if isinstance(leaf, solids.Mesh)]
-    count, place = columns.unlike(columns.Model(whole, view, choices.size), depths, choices.bits, rounded,
-                                  max(digits, default=0))
+    count, place = columns.unlike(model, depths, choices.bits, rounded, max(digits, default=0))
     if count:
         raise Trouble("the scene is not what the model is at %d pixels, the first x %d, y %d: --depth with more bits may "
                       "make it so, and %s" % (count, *place, facets.UNDIVIDED))
