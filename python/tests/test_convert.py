@@ -158,7 +158,7 @@ def test_gltf_places_its_nodes_and_reads_strips():
 
 
 class Trimesh:
-    """Stands in for trimesh, by its documented calls: a form of one triangle a line."""
+    """What acts for trimesh here, by its documented calls: a form of one triangle a line."""
 
     @staticmethod
     def available_formats():
