@@ -143,15 +143,15 @@ def test_an_open_mesh_shows_both_sides_and_is_refused_in_a_difference():
 @pytest.mark.parametrize("text", ["multmatrix([[1,0,0,0],[0,0.94,-0.34,0],[0,0.34,0.94,0],[0,0,0,1]]) { cube(size = [100, "
                                   "100, 0.01], center = false); }",
                                   "difference() { %s %s }" % (CUBE % (100, 0, 100, 0, 20, 0), CUBE % (102, 0, 102, 0, 20.99, -.5))])
-def test_a_sheet_thinner_than_a_cell_is_drawn_and_makes_no_scene(text, tmp_path):
+def test_a_sheet_thinner_than_a_cell_is_drawn_and_said_of_a_scene(text, tmp_path, capsys):
     """A scene has slits where both sides of it are between two depths."""
     bad, there = judged(tree_of(text))
     assert not bad and there > 200
     (tmp_path / "sheet.csg").write_text(text)
-    with pytest.raises(Trouble, match="the scene is not what the model is at .* pixels, the first x .* more bits"):
-        modelling.made(str(tmp_path / "sheet.csg"), modelling.Choices(size=SIZE))
-    fine = modelling.Choices(size=SIZE, depth=(18, 6))
-    assert modelling.made(str(tmp_path / "sheet.csg"), fine)[0].startswith("pxscene 3")
+    for depth, is_said in (None, True), ((18, 6), False):
+        capsys.readouterr()
+        modelling.made(str(tmp_path / "sheet.csg"), modelling.Choices(size=SIZE, depth=depth))
+        assert ("the scene is not what the model is at" in capsys.readouterr().err) == is_said
 
 
 @pytest.mark.parametrize("bits", [-63, -36, -17, 27])

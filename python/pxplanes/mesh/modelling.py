@@ -8,7 +8,7 @@ import os
 from dataclasses import dataclass
 from typing import Any, Optional, Sequence
 
-from pxplanes import ends
+from pxplanes import ends, program
 from pxplanes.errors import Trouble
 from pxplanes.mesh import bounding, csg, facets, kinds, mesh_files, openscad, perspective, solids, views
 from pxplanes.scene import limits, rays, scenes
@@ -484,7 +484,7 @@ def made(name: str, choices: Any) -> tuple[str, Any]:
     tree, laid = as_one(tree, view, choices, True)
     text, worst = text_of(tree, laid, view, choices)
     scene = checked(text)
-    looked_at(whole, scene, view, choices, worst[0])
+    looked_at(whole, text, view, choices, worst[0])
     return text, (scene, view, worst, choices, wanted)
 
 
@@ -502,23 +502,30 @@ def flatter(tree: kinds.Tree, choices: Any) -> Any:
             choices.bits[1] -= 1
 
 
-def looked_at(whole: kinds.Tree, scene: Any, view: Any, choices: Any, rounded: float) -> None:
-    """`Trouble` where a scene does not show what the undivided model has at the pixels of the picture. Without NumPy,
-    or where the facets of what is cut are not turned alike, only the volumes of divided meshes were compared."""
+def looked_at(whole: kinds.Tree, text: str, view: Any, choices: Any, rounded: float) -> None:
+    """`Trouble` where the scene of meshes does not show what they have at the pixels of the picture; of other solids this
+    is said. Without NumPy
+    or the program, or where the facets of what is cut are not turned alike, only volumes were compared."""
     if importlib.util.find_spec("numpy") is None:
         return
-    from pxplanes.compare import picture
-    columns, own = columns_module(), picture.of_scene(scene, "scene")
+    try:
+        place = program.needed(None)
+    except Trouble:
+        return
+    columns = columns_module()
     model = columns.Model(whole, view, choices.size)
     if model.is_cut and model.gaps():
         return
-    depths = picture.picture(own, picture.RIGHT, *picture.grid(own)).depths.reshape(choices.size[::-1])
+    depths, _ = columns.drawn(columns.Scene((0, 0, 0, 0), text, ()), place)
     digits = [facets.digit_of(leaf.mesh[0]) * facets.extent(leaf.mesh[0])[0] * solids.growth(leaf.matrix)
               for leaf, _ in solids.leaves(whole) if isinstance(leaf, solids.Mesh)]
-    count, place = columns.unlike(model, depths, choices.bits, rounded, max(digits, default=0))
+    count, at = columns.unlike(model, depths, choices.bits, rounded, max(digits, default=0))
     if count:
-        raise Trouble("the scene is not what the model is at %d pixels, the first x %d, y %d: --depth with more bits may "
-                      "make it so, and %s" % (count, *place, facets.UNDIVIDED))
+        why = "the scene is not what the model is at %d pixels, the first x %d, y %d: --depth with more bits may make it " \
+            "so, and %s" % (count, *at, facets.UNDIVIDED)
+        if digits:
+            raise Trouble(why)
+        say(why)
 
 
 def columns_module() -> Any:
