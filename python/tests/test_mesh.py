@@ -17,6 +17,7 @@ from pxplanes.errors import Trouble
 from pxplanes.image import netpbm
 from pxplanes.mesh import columns, csg, exact, exports, facets, modelling, shaping, solids, turns
 from pxplanes import program as programs
+from pxplanes.scene import scenes
 
 SIZE = (36, 27)
 assert modelling.__file__.startswith(support.TOP)
@@ -138,6 +139,29 @@ def test_an_open_mesh_shows_both_sides_and_is_refused_in_a_difference():
         [points[at] for at in (side[::-1] if at == 3 else side)] for at, side in enumerate(sides)]))
     with pytest.raises(Trouble, match="is not closed near .* must be closed"):
         modelling.by_columns(("-", [torn, tree_of(CUBE % (8, 0, 8, 0, 30, 0))]), modelling.Choices(size=SIZE))
+
+
+SIGNS = """pxscene 3\npicture 40 30\ndepth 8 4\nsolid a 9 9 9\nfront 40 9 100\nback 3 40 900\nside 1 0 -3\nside -1 1 30
+solid b 9 9 9\nfront -50 3 2000\nback 0 -20 3000\nsolid c 9 9 9\nfront 0 0 900\nfront 7 60 0\nshow %s\nend\n"""
+
+
+@pytest.mark.parametrize("show", ("((a + b) - c)", "((a ^ b) * c)", "(a - (b - c))", "((a + b) + c)"))
+def test_the_rules_of_a_scene_in_numpy_have_the_programs_depths(show):
+    text = SIGNS % show
+    by_program, _ = columns.drawn(columns.Scene((0, 0, 0, 0), text, ()), programs.needed(None))
+    assert len(numpy.unique(by_program)) > 9
+    assert (columns.shown_by(scenes.read(text.encode())) == by_program).all()
+
+
+def test_what_is_not_compared_is_said(tmp_path, monkeypatch, capsys):
+    def without():
+        raise Trouble("this needs NumPy")
+
+    path = tmp_path / "cube.csg"
+    path.write_text(CUBE % (1, 0, 1, 0, 1, 0))
+    monkeypatch.setattr(modelling, "columns_module", without)
+    modelling.made(str(path), modelling.Choices(size=SIZE))
+    assert "the pixels of the scene are not compared with the model: this needs NumPy" in capsys.readouterr().err
 
 
 @pytest.mark.parametrize("text", ["multmatrix([[1,0,0,0],[0,0.94,-0.34,0],[0,0.34,0.94,0],[0,0,0,1]]) { cube(size = [100, "

@@ -18,7 +18,7 @@ from pxplanes import ends, program
 from pxplanes.errors import Trouble
 from pxplanes.image import maps
 from pxplanes.mesh import cameras, perspective, shaping, solids, turns, views
-from pxplanes.scene import limits
+from pxplanes.scene import limits, rays
 
 Array = npt.NDArray[Any]
 Plane = tuple[str, int, int, int]
@@ -403,6 +403,41 @@ class Model:
         best, who, caps = first_inside(self.tree, self.leaves, self.owner, triangles, self.size)
         best[caps != NONE], who[caps != NONE] = 0, NONE
         return best, who, caps
+
+
+def shown_by(scene: Any) -> Array:
+    """The first cell that a scene shows at each pixel by the rules of docs/PICTURE.md, in whole numbers; the far limit
+    for none."""
+    rows = max(1, ROWS // (scene.width * len(scene.solids)))
+    return np.concatenate([shown_in(scene, range(top, min(top + rows, scene.height)))
+                           for top in range(0, scene.height, rows)])
+
+
+def shown_in(scene: Any, rows: range) -> Array:
+    """The same for some rows of the picture. (Values of planes are whole, and below 2^53.)"""
+    x, y = (own.ravel() for own in np.meshgrid(np.arange(scene.width), np.array(rows)))
+    far, places = scene.far(), np.stack([x, y, np.ones_like(x)]).astype(float)
+
+    def bound(kind: str, least: int, kept: Any) -> Array:
+        planes = ([(0, 0, least), *(face.plane for face in getattr(solid, kind))] for solid in scene.solids)
+        return np.array([kept.reduce(np.array(own, float) @ places) for own in planes])
+
+    first, end = (np.ceil(own / (1 << scene.fraction_bits)) for own in (
+        bound("fronts", 0, np.maximum), bound("backs", far << scene.fraction_bits, np.minimum)))
+    is_met = (first < end) & (bound("sides", 0, np.minimum) >= 0)
+    kept = np.flatnonzero(is_met.any(1))
+    first, end = (np.where(is_met, own, far)[kept] for own in (first, end))
+    row = np.full(len(scene.solids), NONE)
+    row[kept] = np.arange(len(kept))
+    cells, live, now = np.full(len(x), far), np.arange(len(x)), np.zeros(len(x))
+    while len(live):
+        has = np.concatenate([(first <= now) & (now < end), np.zeros((1, len(live)), bool)])
+        holds = rays.folded(scene.show, lambda at: has[row[at]], lambda sign, *both: rays.JOINED[sign](*both))
+        cells[live[holds]] = now[holds]
+        later = np.minimum(*(np.where(own > now, own, far).min(0, initial=far) for own in (first, end)))
+        goes = ~holds & (later < far)
+        live, now, first, end = live[goes], later[goes], first[:, goes], end[:, goes]
+    return cells.reshape(-1, scene.width)
 
 
 def unlike(model: Model, depths: Array, bits: Sequence[int], rounded: float, digit: float) -> tuple[int, Any]:

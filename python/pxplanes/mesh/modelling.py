@@ -2,13 +2,12 @@
 from __future__ import annotations
 
 import copy
-import importlib.util
 import math
 import os
 from dataclasses import dataclass
 from typing import Any, Optional, Sequence
 
-from pxplanes import ends, program
+from pxplanes import ends
 from pxplanes.errors import Trouble
 from pxplanes.mesh import bounding, csg, facets, kinds, mesh_files, openscad, perspective, solids, views
 from pxplanes.scene import limits, rays, scenes
@@ -484,7 +483,7 @@ def made(name: str, choices: Any) -> tuple[str, Any]:
     tree, laid = as_one(tree, view, choices, True)
     text, worst = text_of(tree, laid, view, choices)
     scene = checked(text)
-    looked_at(whole, text, view, choices, worst[0])
+    looked_at(whole, scene, view, choices, worst[0])
     return text, (scene, view, worst, choices, wanted)
 
 
@@ -502,27 +501,24 @@ def flatter(tree: kinds.Tree, choices: Any) -> Any:
             choices.bits[1] -= 1
 
 
-def looked_at(whole: kinds.Tree, text: str, view: Any, choices: Any, rounded: float) -> None:
-    """`Trouble` where the scene of meshes does not show what they have at the pixels of the picture; of other solids this
-    is said. Without NumPy
-    or the program, or where the facets of what is cut are not turned alike, only volumes were compared."""
-    if importlib.util.find_spec("numpy") is None:
-        return
+def looked_at(whole: kinds.Tree, scene: Any, view: Any, choices: Any, rounded: float) -> None:
+    """`Trouble` where the scene of meshes does not show what they have at the pixels of the picture; of other solids
+    this is said, and where the pixels are not compared."""
     try:
-        place = program.needed(None)
-    except Trouble:
+        columns = columns_module()
+    except Trouble as trouble:
+        say("the pixels of the scene are not compared with the model: %s" % trouble)
         return
-    columns = columns_module()
     model = columns.Model(whole, view, choices.size)
     if model.is_cut and model.gaps():
+        say("the pixels of the scene are not compared with the model: %s" % model.gaps()[0])
         return
-    depths, _ = columns.drawn(columns.Scene((0, 0, 0, 0), text, ()), place)
     digits = [facets.digit_of(leaf.mesh[0]) * facets.extent(leaf.mesh[0])[0] * solids.growth(leaf.matrix)
               for leaf, _ in solids.leaves(whole) if isinstance(leaf, solids.Mesh)]
-    count, at = columns.unlike(model, depths, choices.bits, rounded, max(digits, default=0))
+    count, at = columns.unlike(model, columns.shown_by(scene), choices.bits, rounded, max(digits, default=0))
     if count:
-        why = "the scene is not what the model is at %d pixels, the first x %d, y %d: --depth with more bits may make it " \
-            "so, and %s" % (count, *at, facets.UNDIVIDED)
+        why = ("the scene is not what the model is at %d pixels, the first x %d, y %d, as where a solid is thinner than a "
+               "cell: --depth with more bits may make it so, and %s" % (count, *at, facets.UNDIVIDED))
         if digits:
             raise Trouble(why)
         say(why)
@@ -551,7 +547,7 @@ def by_columns(tree: kinds.Tree, choices: Any) -> Any:
     drawing = columns.draw(tree, view, choices.size, choices.bits)
     say("drawn by columns: %d triangles, %d columns in %d scenes; a depth is rounded by at most %.2g cells of %d" % (
         len(drawing.corners), drawing.columns, drawing.scenes, drawing.rounded, 2 ** choices.bits[0] - 1))
-    tell_of_edges(view, (drawing.shown < 0).all())
+    tell_of_edges(view, not (drawing.shown >= 0).any())
     return drawing
 
 
