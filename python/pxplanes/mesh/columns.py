@@ -422,6 +422,10 @@ def shown_in(scene: Any, rows: range) -> Array:
         planes = ([(0, 0, least), *(face.plane for face in getattr(solid, kind))] for solid in scene.solids)
         return np.array([kept.reduce(np.array(own, float) @ places) for own in planes])
 
+    def both(sign: str, left: Array, right: Array) -> Array:
+        joined: Array = rays.JOINED[sign](left, right)
+        return joined
+
     first, end = (np.ceil(own / (1 << scene.fraction_bits)) for own in (
         bound("fronts", 0, np.maximum), bound("backs", far << scene.fraction_bits, np.minimum)))
     is_met = (first < end) & (bound("sides", 0, np.minimum) >= 0)
@@ -432,7 +436,7 @@ def shown_in(scene: Any, rows: range) -> Array:
     cells, live, now = np.full(len(x), far), np.arange(len(x)), np.zeros(len(x))
     while len(live):
         has = np.concatenate([(first <= now) & (now < end), np.zeros((1, len(live)), bool)])
-        holds = rays.folded(scene.show, lambda at: has[row[at]], lambda sign, *both: rays.JOINED[sign](*both))
+        holds = rays.folded(scene.show, lambda at: has[row[at]], both)
         cells[live[holds]] = now[holds]
         later = np.minimum(*(np.where(own > now, own, far).min(0, initial=far) for own in (first, end)))
         goes = ~holds & (later < far)
