@@ -3,6 +3,7 @@ pixel through the mesh that OpenSCAD makes, or through the file's own triangles 
 is of the tool."""
 import collections
 import concurrent.futures
+import functools
 import glob
 import itertools
 import json
@@ -11,7 +12,6 @@ import os
 import random
 import re
 import resource
-import shutil
 import struct
 import subprocess
 import sys
@@ -31,12 +31,14 @@ EXAMPLES = "/usr/share/openscad/examples"
 NO_SOLIDS = ("echo", "example015", "example023", "list_comprehensions", "module_recursion", "polygon_areas",
              "recursion")
 WAYS = ("--draw", "scene")
-WORDS = ("right", "refused", "wrong", "timed out")
+WORDS = ("right", "refused", "wrong", "timed out", "no witness")
+KINDS = {"program": "random programs", "mesh": "meshes", "held": "models of this repository"}
+MODELS = (".csg", ".scad", ".stl", ".off", ".obj", ".ply", ".3mf", ".glb", ".gltf")
 
 
 class Subject(NamedTuple):
-    """A model: what its file is called, how it is written into a folder, and the triangles that rays meet; None for no
-    witness."""
+    """A model: its kind and name, and what writes it into a folder, and gives its path with the triangles that rays
+    meet; no path for no witness."""
 
     name: str
     write: object
@@ -83,12 +85,13 @@ def leaf(draw):
 
 
 def subject_of_program(seed):
-    def write(folder):
-        with open(os.path.join(folder, "model.scad"), "w") as file:
-            file.write(program_of(seed))
-        return by_openscad("model.scad", folder, "model.csg"), stl(by_openscad("model.scad", folder, "model.stl"))
+    return Subject("program %d" % seed, functools.partial(write_program, seed), seed)
 
-    return Subject("program %d" % seed, write, seed)
+
+def write_program(seed, folder):
+    with open(os.path.join(folder, "model.scad"), "w") as file:
+        file.write(program_of(seed))
+    return by_openscad("model.scad", folder, "model.csg"), stl(by_openscad("model.scad", folder, "model.stl"))
 
 
 # ---- files ----
@@ -161,31 +164,36 @@ def glb(triangles):
 FORMS = {"stl": raw_stl, "obj": obj, "off": off, "glb": glb}
 
 
-def subject_of_file(path, form, seed):
+def write_mesh(path, form, folder):
     """A mesh of a file: an STL as it is, of any other what OpenSCAD makes of it; written in a form, or by OpenSCAD
     itself as words or 3MF."""
-    def write(folder):
-        is_mesh = path.endswith(".stl")
-        source = shutil.copy(path, folder) if is_mesh else path
-        own = os.path.join(folder, "model.scad")
-        if is_mesh and form in ("words", "3mf"):
-            with open(own, "w") as file:
-                file.write('import("%s");' % os.path.basename(source))
-        words = source if is_mesh else by_openscad(path, os.path.dirname(path), os.path.join(folder, "words.stl"))
-        triangles = stl(words)
-        if form == "words" or not len(triangles):
-            return words, triangles
-        if form == "3mf":
-            return by_openscad(own if is_mesh else path, os.path.dirname(path),
-                               os.path.join(folder, "model.3mf")), triangles
-        with open(os.path.join(folder, "model." + form), "wb") as file:
-            file.write(FORMS[form](triangles))
-        return file.name, triangles
-
-    return Subject("%s as %s" % (os.path.relpath(path, TOP if path.startswith(TOP) else EXAMPLES), form), write, seed)
+    is_mesh = path.endswith(".stl")
+    source = imported(path, folder) if is_mesh else path
+    words = path if is_mesh else by_openscad(path, os.path.dirname(path), os.path.join(folder, "words.stl"))
+    triangles = stl(words)
+    if form == "words" or not len(triangles):
+        return words, triangles
+    if form == "3mf":
+        return by_openscad(source, os.path.dirname(path), os.path.join(folder, "model.3mf")), triangles
+    with open(os.path.join(folder, "model." + form), "wb") as file:
+        file.write(FORMS[form](triangles))
+    return file.name, triangles
 
 
-def subjects_of_files(count):
+def imported(path, folder):
+    """A program of OpenSCAD's that is the mesh of a file."""
+    with open(os.path.join(folder, "import.scad"), "w") as file:
+        file.write('import("%s");' % path)
+    return file.name
+
+
+def write_held(path, folder):
+    """A model as it is, and the mesh that OpenSCAD makes of it."""
+    source = path if path.endswith(("scad", "csg")) else imported(path, folder)
+    return path, stl(by_openscad(source, os.path.dirname(path), os.path.join(folder, "witness.stl")))
+
+
+def subjects_of_meshes(count):
     """So many meshes that OpenSCAD ships or makes of its examples and of those of this repository, in one form after
     another."""
     paths = sorted(glob.glob(EXAMPLES + "/*/*.stl")) + sorted(glob.glob(EXAMPLES + "/*/*.scad"))
@@ -193,7 +201,16 @@ def subjects_of_files(count):
     forms = ("words", "obj", "stl", "off", "3mf", "glb")
     every = ((paths[at % len(paths)], forms[(at + at // len(paths)) % len(forms)], at) for at in itertools.count())
     kept = ((path, form, at) for path, form, at in every if os.path.basename(path)[:-5] not in NO_SOLIDS)
-    return [subject_of_file(os.path.realpath(path), form, at) for path, form, at in itertools.islice(kept, count)]
+    return [Subject("mesh %s as %s" % (os.path.relpath(path, TOP if path.startswith(TOP) else EXAMPLES), form),
+                    functools.partial(write_mesh, path, form), at)
+            for path, form, at in itertools.islice(kept, count)]
+
+
+def subjects_held(count):
+    """The first so many models of this repository."""
+    paths = sorted(path for path in glob.glob(TOP + "/**/*.*", recursive=True) if path.endswith(MODELS))
+    return [Subject("held " + os.path.relpath(path, TOP), functools.partial(write_held, path), at)
+            for at, path in enumerate(paths[:count])]
 
 
 # ---- judging ----
@@ -316,30 +333,23 @@ def word_of(path, way, words, folder, camera, ends, away, triangles):
     return {**row, "word": "right"}
 
 
-def rows_at(work):
-    """The rows of a program, or of a mesh, by its number; of every fifth as one scene too."""
-    is_program, number = work
-    subject = subject_of_program(number) if is_program else subjects_of_files(number)[-1]
+def rows_at(subject):
+    """The rows of a subject; of every fifth as one scene too."""
     return judged(subject, WAYS if subject.seed % 5 == 0 else WAYS[:1])
 
 
-def rows_of(programs, meshes, known, jobs):
-    """The rows of programs and meshes, each from a number to another, but for those that are known by name, as they
-    come."""
-    works = [(True, number) for number in range(programs[0], programs[1] + 1) if "program %d" % number not in known]
-    works += [(False, number) for number, own in enumerate(subjects_of_files(meshes[1]), 1)
-              if number >= meshes[0] and own.name not in known]
+def rows_of(subjects, jobs):
+    """The rows of subjects, as they come."""
     with concurrent.futures.ProcessPoolExecutor(jobs) as pool:
-        for done in concurrent.futures.as_completed([pool.submit(rows_at, work) for work in works]):
+        for done in concurrent.futures.as_completed([pool.submit(rows_at, subject) for subject in subjects]):
             yield from done.result()
 
 
 def table(rows):
     """Lines of a table: of each kind and way how many were right, refused, wrong, too slow."""
-    counts = collections.Counter((row["name"].split()[0] == "program", row["way"], row["word"]) for row in rows)
-    out = ["| What | Way | %s | no witness |" % " | ".join(WORDS), "|---" * 7 + "|"]
-    for is_program, what in ((True, "random programs"), (False, "meshes")):
-        for way in WAYS:
-            out.append("| %s | %s | %s |" % (
-                what, way, " | ".join(str(counts[is_program, way, word]) for word in (*WORDS, "no witness"))))
+    counts = collections.Counter((row["name"].split()[0], row["way"], row["word"]) for row in rows)
+    out = ["| What | Way | %s |" % " | ".join(WORDS), "|---" * (2 + len(WORDS)) + "|"]
+    for kind, what in KINDS.items():
+        out += ["| %s | %s | %s |" % (what, way, " | ".join(str(counts[kind, way, word]) for word in WORDS))
+                for way in WAYS]
     return out

@@ -3,18 +3,20 @@ POV-Ray at any depth."""
 import base64
 import io
 import json
+import math
 import os
 import shutil
 import struct
 import subprocess
 import sys
+import types
 import zipfile
 
 import pytest
 import support
 from pxplanes.errors import Trouble
 from pxplanes.image import netpbm
-from pxplanes.mesh import mesh_files, modelling
+from pxplanes.mesh import cameras, csg, exports, mesh_files, modelling
 
 CORNERS = [(0, 0, 0), (4, 0, 0), (0, 4, 0), (0, 0, 4)]
 SIDES = [(0, 2, 1), (0, 1, 3), (0, 3, 2), (1, 2, 3)]
@@ -49,6 +51,27 @@ def test_raw_stl_far_from_the_origin_is_a_scene(built, tmp_path):
     (tmp_path / "far.stl").write_bytes(raw_stl(b"far", far=100000.1))
     done = px(built, "convert", "far.stl", cwd=tmp_path)
     assert done.returncode == 0 and done.stdout.count(b"\nsolid ") == 1, done.stderr
+
+
+WORDS = b"".join(b"facet\nvertex %d %d %d\nvertex %d %d %d\nvertex %d %d %d\nendfacet\n" % tuple(
+    part for at in side for part in CORNERS[at]) for side in SIDES)
+OBJ = b"v 0 0 0\nv 4 0 0\nv 0 4 0\nv 0 0 4\nf 1 3 2\nf 1 2 4\nf 1 4 3\nf 2 3 4"
+PLY = b"ply\nformat ascii 1.0\nelement vertex 3\n" + b"".join(b"property float %c\n" % axis for axis in b"xyz") + \
+    b"element face 1\nproperty list uchar int vertex_index\nend_header\n0 0 nan\n1 0 0\n0 1 0\n3 0 1 2\n"
+
+
+@pytest.mark.parametrize("kind, data, why", [
+    ("stl", raw_stl(b"raw")[:-60], "cut off, .* says 4 triangles, and 2 are there"),
+    ("stl", b"solid s\n" + WORDS, "cut off: it has no endsolid"),
+    ("stl", raw_stl(b"raw", far=float("nan")), "triangle 1 has the number nan"),
+    ("obj", OBJ[:-2], "facet 4 has fewer than three corners"), ("obj", OBJ[:-1] + b"9", "facet 4 names a point"),
+    ("obj", OBJ[:-1] + b"2.5", "face 4 has a number that is not whole"), ("obj", b"v 0 0 1e30\n", "point 1 has the number 1e.30"),
+    ("off", b"OFF\n3 1 0\n0 0 0\n1 0 0\n0 1 0\n3 0 1", "facet 1 has fewer corners"), ("ply", PLY, "vertex 1 has the number nan")])
+def test_what_is_cut_off_or_no_number_is_refused_with_its_place(kind, data, why):
+    pytest.importorskip("numpy")
+    leaf = csg.of_mesh_file(kind, data)
+    with pytest.raises(Trouble, match=why):
+        leaf.points
 
 
 def test_obj_with_groups_has_all_of_them():
@@ -132,6 +155,58 @@ def test_gltf_places_its_nodes_and_reads_strips():
         mesh_files.read("gltf", gltf("data:,%s", mode=1)[0])
     with pytest.raises(Trouble, match="glTF file is damaged"):
         mesh_files.read("glb", glb()[:90])
+
+
+class Trimesh:
+    """What acts for trimesh here, by its documented calls: a form of one triangle a line."""
+
+    @staticmethod
+    def available_formats():
+        return {"tri", "stl"}
+
+    @staticmethod
+    def load(file, file_type, force, process):
+        numpy = pytest.importorskip("numpy")
+        assert (file_type, force, process) == ("tri", "mesh", False)
+        corners = numpy.array([line.split() for line in file.read().decode().splitlines()], float).reshape(-1, 3)
+        return types.SimpleNamespace(vertices=corners, faces=numpy.arange(len(corners)).reshape(-1, 3))
+
+
+def test_what_trimesh_reads_is_read_with_it(tmp_path, monkeypatch):
+    path = tmp_path / "one.tri"
+    path.write_text("".join("%d %d %d " * 3 % tuple(part for at in side for part in CORNERS[at]) + "\n" for side in SIDES))
+    monkeypatch.setitem(sys.modules, "trimesh", None)
+    with pytest.raises(Trouble, match="one.tri is no .* more is read with the Python package trimesh"):
+        modelling.read(str(path), modelling.Choices())
+    monkeypatch.setitem(sys.modules, "trimesh", Trimesh)
+    assert modelling.is_model(str(path)) and not modelling.is_model("one.scene")
+    leaf = modelling.read(str(path), modelling.Choices())
+    assert sorted(map(tuple, leaf.points)) == sorted(CORNERS) and len(leaf.sides) == 4
+    path.write_text("1 2 word\n")
+    with pytest.raises(Trouble, match="trimesh does not read it"):
+        modelling.read(str(path), modelling.Choices()).points
+
+
+def test_glb_has_what_obj_has(tmp_path):
+    """A scene without a camera has y upwards in both, and one in perspective its model's z."""
+    boxes = "union() { multmatrix([[1,0,0,%d],[0,1,0,0],[0,0,1,0],[0,0,0,1]]) { cube(size = [4, 2, 3], center = false); } color([1, 0.5, 0, 1]) { cylinder($fn = 5, h = 3, r1 = 2, r2 = 1, center = true); } }"
+    (tmp_path / "two.csg").write_text(boxes % 5)
+    for options in ({}, {"projection": "p"}):
+        text, (scene, *_) = modelling.made(str(tmp_path / "two.csg"), modelling.Choices(**options))
+        camera = cameras.of_scene(text.encode(), scene)
+        data, lacks = exports.glb(scene, camera)
+        points, sides = mesh_files.read("glb", data)
+        other, facets = mesh_files.read("obj", exports.obj(scene, camera)[0].encode())
+        turned = other if camera else [(x, -z, y) for x, y, z in other]
+        assert len(points) == len(other) == 18 and len(sides) == sum(len(facet) - 2 for facet in facets) == 12 + 16
+        size = max(abs(part) for point in turned for part in point)
+        assert all(min(math.dist(a, b) for b in turned) < 1e-6 * size for a in points)
+        said = json.loads(data[20:20 + struct.unpack_from("<I", data, 12)[0]])
+        assert len(data) % 4 == 0 and struct.unpack_from("<4sII", data) == (b"glTF", 2, len(data))
+        assert [node.get("name") for node in said["nodes"][1:]] == [solid.name for solid in scene.solids]
+        # Orange is (1, 0.5, 0), whose half is 0.216 in linear light: ((128/255 + 0.055) / 1.055) ^ 2.4.
+        assert [round(part, 3) for part in said["materials"][1]["pbrMetallicRoughness"]["baseColorFactor"]] == [1, 0.216, 0, 1]
+        assert "the numbers and the colours of the faces" in lacks
 
 
 def test_units_and_the_axis_that_is_upwards(tmp_path):

@@ -1,4 +1,5 @@
 """Pictures of models, pixel by pixel against rays that share no code with the tool."""
+import itertools
 import math
 import os
 import random
@@ -14,8 +15,9 @@ import judged as judged_models
 import ray_judge
 from pxplanes.errors import Trouble
 from pxplanes.image import netpbm
-from pxplanes.mesh import columns, csg, exact, exports, facets, modelling, solids, turns
+from pxplanes.mesh import columns, csg, exact, exports, facets, modelling, shaping, solids, turns
 from pxplanes import program as programs
+from pxplanes.scene import scenes
 
 SIZE = (36, 27)
 assert modelling.__file__.startswith(support.TOP)
@@ -133,8 +135,70 @@ def test_an_open_mesh_shows_both_sides_and_is_refused_in_a_difference():
     points, sides = ball(10, (0, 0, 0))
     torn = mesh(points, sides[:len(sides) // 2])
     assert judged(torn, view=[120, 0, 30])[0] == []
-    with pytest.raises(Trouble, match="is not closed near .* must be"):
+    assert "facets that are not turned alike near" in columns.open_place(numpy.array([
+        [points[at] for at in (side[::-1] if at == 3 else side)] for at, side in enumerate(sides)]))
+    with pytest.raises(Trouble, match="is not closed near .* must be closed"):
         modelling.by_columns(("-", [torn, tree_of(CUBE % (8, 0, 8, 0, 30, 0))]), modelling.Choices(size=SIZE))
+
+
+SIGNS = """pxscene 3\npicture 40 30\ndepth 8 4\nsolid a 9 9 9\nfront 40 9 100\nback 3 40 900\nside 1 0 -3\nside -1 1 30
+solid b 9 9 9\nfront -50 3 2000\nback 0 -20 3000\nsolid c 9 9 9\nfront 0 0 900\nfront 7 60 0\nshow %s\nend\n"""
+
+
+@pytest.mark.parametrize("show", ("((a + b) - c)", "((a ^ b) * c)", "(a - (b - c))", "((a + b) + c)"))
+def test_the_rules_of_a_scene_in_numpy_have_the_programs_depths(show):
+    text = SIGNS % show
+    by_program, _ = columns.drawn(columns.Scene((0, 0, 0, 0), text, ()), programs.needed(None))
+    assert len(numpy.unique(by_program)) > 9
+    assert (columns.shown_by(scenes.read(text.encode())) == by_program).all()
+
+
+def test_what_is_not_compared_is_said(tmp_path, monkeypatch, capsys):
+    def without():
+        raise Trouble("this needs NumPy")
+
+    path = tmp_path / "cube.csg"
+    path.write_text(CUBE % (1, 0, 1, 0, 1, 0))
+    monkeypatch.setattr(modelling, "columns_module", without)
+    modelling.made(str(path), modelling.Choices(size=SIZE))
+    assert "the pixels of the scene are not compared with the model: this needs NumPy" in capsys.readouterr().err
+
+
+@pytest.mark.parametrize("text", ["multmatrix([[1,0,0,0],[0,0.94,-0.34,0],[0,0.34,0.94,0],[0,0,0,1]]) { cube(size = [100, "
+                                  "100, 0.01], center = false); }",
+                                  "difference() { %s %s }" % (CUBE % (100, 0, 100, 0, 20, 0), CUBE % (102, 0, 102, 0, 20.99, -.5))])
+def test_a_sheet_thinner_than_a_cell_is_drawn_and_said_of_a_scene(text, tmp_path, capsys):
+    """A scene has slits where both sides of it are between two depths."""
+    bad, there = judged(tree_of(text))
+    assert not bad and there > 200
+    (tmp_path / "sheet.csg").write_text(text)
+    for depth, is_said in (None, True), ((18, 6), False):
+        capsys.readouterr()
+        modelling.made(str(tmp_path / "sheet.csg"), modelling.Choices(size=SIZE, depth=depth))
+        assert ("the scene is not what the model is at" in capsys.readouterr().err) == is_said
+
+
+@pytest.mark.parametrize("bits", [-63, -36, -17, 27])
+def test_units_may_be_as_small_or_large_as_numbers_are(bits):
+    """A picture is that of a model of size 1, which rays judge, to the last depth."""
+    size = 2.0 ** bits
+    for options in ({}, {"projection": "p"}):
+        bad, there = judged(mesh(*dented(1, (1, 0, 0))), **options)
+        assert not bad and there > 200
+        pictures = [modelling.by_columns(mesh(*dented(own, (own, 0, 0))), modelling.Choices(size=SIZE, **options)).depths
+                    for own in (1, size)]
+        assert (pictures[0] == pictures[1]).all()
+    assert len(facets.planes([[size * part for part in point] for point in itertools.product((0, 1), repeat=3)], [
+        [0, 1, 3, 2], [4, 6, 7, 5], [0, 4, 5, 1], [2, 3, 7, 6], [0, 2, 6, 4], [1, 5, 7, 3]])) == 6
+
+
+def test_hulls_are_closed():
+    """Planes that are nearly one have each other's corners, but triangles that are not (random program 191)."""
+    for seed in range(30):
+        draw = random.Random(seed)
+        points = [[draw.choice((draw.randint(0, 4), draw.uniform(0, 4))) for _ in range(3)] for _ in range(40)]
+        corners, planes, sides = shaping.hull(points)
+        assert not columns.open_place(columns.corners_of(solids.Solid("hull", 1, corners, planes, None, sides=sides)))
 
 
 def test_a_wall_too_steep_for_a_front_is_no_side():

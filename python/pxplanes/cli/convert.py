@@ -2,7 +2,7 @@
 
 A model is OpenSCAD's .csg or .scad (which OpenSCAD itself reads first), or a mesh: OFF, STL, OBJ, PLY, 3MF or glTF, in
 which each closed part is a solid; what is not convex becomes several solids. A scene becomes a text for POV-Ray (pov),
-OpenSCAD (scad), a mesh of each solid (obj), or JSON. Standard error says by how many cells the worst plane was rounded,
+OpenSCAD (scad), a mesh of each solid (obj, glb), or JSON. Standard error says by how many cells the worst plane was rounded,
 what is cut off, and what a form has no words for. docs/MODELLING.md explains each step."""
 from __future__ import annotations
 
@@ -19,7 +19,7 @@ from pxplanes.machine import listings
 from pxplanes.mesh import cameras, exports, mesh_files, modelling
 from pxplanes.scene import scenes
 
-HELP = "turn a model into a scene, or a scene into POV-Ray, OpenSCAD, OBJ or JSON"
+HELP = "turn a model into a scene, or a scene into POV-Ray, OpenSCAD, OBJ, glTF or JSON"
 # The limit is in seconds of processor, so that a busy machine refuses nothing; ten times as many by the clock end what
 # waits.
 TIMERS = ((signal.ITIMER_PROF, signal.SIGPROF, 1), (signal.ITIMER_REAL, signal.SIGALRM, 10))
@@ -91,7 +91,7 @@ def add_options(parser: argparse.ArgumentParser) -> None:
     parser.add_argument("--seconds", metavar="N", type=positive, default=60,
                         help="refuse a model that needs more seconds of processor")
     parser.add_argument("--draw", metavar="MAPS",
-                        help="draw the model, by one scene or by columns, and write its depths and faces")
+                        help="draw the model by columns, and write its depths and faces")
 
 
 def run(options: argparse.Namespace) -> int:
@@ -106,7 +106,7 @@ def run(options: argparse.Namespace) -> int:
 
 def scene_in(path: str) -> bytes:
     """The text of a file, if its first word is that of a scene's header; otherwise nothing."""
-    if path != "-" and os.path.splitext(path)[1][1:].lower() in modelling.KINDS:
+    if path != "-" and modelling.is_model(path):
         return b""
     text = ends.content(path)
     is_scene = listings.first_word(text) == b"pxscene"
@@ -124,11 +124,9 @@ def exported(text: bytes, form: Any, options: argparse.Namespace) -> int:
     except scenes.Refusal as refusal:
         raise Trouble("%s: %s" % (options.file, refusal.note)) from None
     written, lacks = exports.FORMS[form](scene, cameras.of_scene(text, scene))
-    if written is None:
-        raise Trouble("%s has no words for %s" % (form, lacks[0]))
     if lacks:
         ends.say("pxplanes convert", "%s does not say %s" % (form, "; ".join(lacks)))
-    write(options.out, written.encode())
+    write(options.out, written.encode() if isinstance(written, str) else written)
     return frame.SUCCESS
 
 
@@ -144,8 +142,7 @@ def modelled(options: argparse.Namespace) -> int:
     choices = choices_of(options)
     bound(options.seconds)
     if options.draw:
-        whole = modelling.read(options.file, choices)
-        maps = modelling.drawn_as_one(whole, choices) or modelling.by_columns(whole, choices).maps()
+        maps = modelling.by_columns(modelling.read(options.file, choices), choices).maps()
         unbound()
         write(options.draw, maps)
         return frame.SUCCESS

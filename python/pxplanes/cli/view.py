@@ -68,7 +68,7 @@ def run(options: argparse.Namespace) -> int:
         return served(studio_server.Server(options.port, studio.Studio(options.file)), not options.no_browser)
     if options.file is None:
         raise Trouble("a file is needed; only --serve goes without one")
-    if os.path.splitext(options.file)[1][1:].lower() in modelling.KINDS and not options.page:
+    if not options.page and modelling.is_model(options.file):
         return shown([of_model(options)], options)
     data = ends.content(options.file)
     if options.page:

@@ -7,16 +7,18 @@ is the picture. Needs NumPy."""
 from __future__ import annotations
 
 import concurrent.futures
+import itertools
 import math
 from typing import Any, Iterator, NamedTuple, Optional, Sequence
 
 import numpy as np
 import numpy.typing as npt
 
-from pxplanes import program
+from pxplanes import ends, program
 from pxplanes.errors import Trouble
+from pxplanes.image import maps
 from pxplanes.mesh import cameras, perspective, shaping, solids, turns, views
-from pxplanes.scene import limits
+from pxplanes.scene import limits, rays
 
 Array = npt.NDArray[Any]
 Plane = tuple[str, int, int, int]
@@ -28,7 +30,7 @@ GUARD = 1500         # what reaches so many pixels beyond the middle of the pict
 BIG = 48             # columns seen over more pixels than this on a side are in scenes of their own
 ROWS = 2000000       # so many rows or pixels of triangles are looked at together
 SMALLEST = 64        # pixels on a side of a portrait
-NONE = -1
+NONE, JOBS = -1, 2
 NEARER = 0.05        # cells by which a column may be nearer than what is seen
 FILM = 1e-7          # cells; what is thinner is nothing
 LIGHTEST, DULL = np.array((-0.42, -0.53, -0.74)), 0.35
@@ -159,7 +161,7 @@ def portrait(leaves: Sequence[tuple[Any, bool]], turn: Sequence[float], fov: flo
     points = points @ np.stack([right, up, away]).T
     middle = (points.min(0) + points.max(0)) / 2
     x, y, z = (points - middle).T
-    wide, high = max(float(np.ptp(x)), 1e-9), max(float(np.ptp(y)), 1e-9)
+    wide, high, _ = views.widths((points.min(0).tolist(), points.max(0).tolist()))
     longest = limits.MAX_PICTURE_SIZE / max(wide, high)
     size = max(SMALLEST, round(longest * wide)), max(SMALLEST, round(longest * high))
     focal = cameras.focal_of(fov, size)
@@ -182,15 +184,28 @@ def lens_of(view: Any) -> Lens:
     return Lens(rows, at @ rows, middle, view.scale, 0.0, view.cells, False)
 
 
-def open_place(corners: Array) -> Optional[Array]:
-    """A corner of an edge that is not passed as often one way as the other; None in a closed mesh. Parts that meet
-    without sharing corners are open."""
-    points, numbers = np.unique(corners.reshape(-1, 3) + 0.0, axis=0, return_inverse=True)
+def open_place(corners: Array) -> str:
+    """What is wrong at the first edge that is not passed as often one way as the other; nothing for a closed mesh.
+    Parts that meet without sharing corners are open."""
+    points = corners.reshape(-1, 3) + 0.0
+    _, numbers = np.unique(hashed(points), return_inverse=True)
     edges = numbers.reshape(-1, 3)
     ways = np.stack([edges, np.roll(edges, -1, 1)], -1).reshape(-1, 2)
-    _, which = np.unique(ways.min(1) * len(points) + ways.max(1), return_inverse=True)
+    _, which, counts = np.unique(ways.min(1) * len(points) + ways.max(1), return_inverse=True, return_counts=True)
     odd = np.flatnonzero(np.bincount(which, np.sign(ways[:, 1] - ways[:, 0]))[which])
-    return points[ways[odd[0], 0]] if len(odd) else None
+    if not len(odd):
+        return ""
+    what = "is not closed" if counts[which[odd[0]]] % 2 else "has facets that are not turned alike"
+    return what + " near %.6g %.6g %.6g" % tuple(points[odd[0]])
+
+
+def hashed(points: Array) -> Array:
+    """A number of 64 bits for each point, so that sorting takes a fifth of the time of points themselves."""
+    out = np.zeros(len(points), np.uint64)
+    for part in points.view(np.uint64).T:
+        out = (out ^ part) * np.uint64(0x9E3779B97F4A7C15)
+        out ^= out >> np.uint64(29)
+    return out
 
 
 def in_view(lens: Lens, seen: Array, guard: float = GUARD) -> tuple[Array, Array, bool]:
@@ -354,52 +369,100 @@ def holding(tree: Any, states: dict[int, Array]) -> Array:
     return out
 
 
-def ends_of(parts: Sequence[Any], size: Sequence[int], bits: Sequence[int]) -> tuple[Array, Array]:
-    """The first cell of convex solids at each pixel, and the cell at which the last ends, by their planes as a scene
-    has them; infinite and below 0 where there is none. Each part is a list of (kind, (A, B, C))."""
-    x, y = np.meshgrid(np.arange(size[0]), np.arange(size[1]))
-    first, last = np.full(x.shape, np.inf), np.full(x.shape, -1.0)
-    unit = 1 << bits[1]
-    for planes in parts:
-        low, high, there = np.zeros(x.shape), np.full(x.shape, float((1 << bits[0]) - 1)), np.ones(x.shape, bool)
-        for kind, (a, b, c) in planes:
-            value = a * x + b * y + c
-            if kind == "side":
-                there &= value >= 0
-            elif kind == "front":
-                np.maximum(low, -(-value // unit), out=low)
-            else:
-                np.minimum(high, -(-value // unit), out=high)
-        there &= low < high
-        first = np.where(there, np.minimum(first, low), first)
-        last = np.where(there, np.maximum(last, high), last)
-    return first, last
+class Model:
+    """An expression of leaves before a view: what is seen of it in a picture of a size."""
+
+    def __init__(self, tree: Any, view: Any, size: Sequence[int]) -> None:
+        self.tree, self.size, self.lens = tree, size, lens_of(view)
+        self.leaves = [leaf for leaf, _ in solids.leaves(tree)]
+        own = [corners_of(leaf) for leaf in self.leaves]
+        self.corners, self.owner = np.concatenate(own), np.repeat(np.arange(len(own)), list(map(len, own)))
+        seen, self.numbers, is_before = in_view(self.lens, self.lens.seen(self.corners))
+        self.places, self.is_cut = self.lens.placed(seen), is_before or bool(solids.signs(tree) - {"+"})
+
+    def gaps(self) -> list[str]:
+        """What is not closed, and where."""
+        found = ((leaf.name(), open_place(corners_of(leaf))) for leaf in self.leaves)
+        return ["%s %s" % pair for pair in found if pair[1]]
+
+    def check(self) -> None:
+        """Says what is not closed; `Trouble` where it must be."""
+        for gap in self.gaps():
+            if self.is_cut:
+                raise Trouble(gap + ", and what is cut or intersected must be closed")
+            ends.say("pxplanes convert", gap + "; it is drawn from both sides")
+
+    def triangles(self, right: float = 0, down: float = 0) -> Triangles:
+        """Its triangles in the picture, which is so many pixels aside."""
+        return Triangles(self.places + np.array((right, down, 0)), self.numbers, self.size, not self.is_cut)
+
+    def seen(self, triangles: Triangles) -> tuple[Array, Array, Array]:
+        """At each pixel the depth that is seen, its place in `triangles`, and the leaf of a cap."""
+        if not self.is_cut:
+            return *nearest(triangles, self.size), np.full(self.size[0] * self.size[1], NONE)
+        best, who, caps = first_inside(self.tree, self.leaves, self.owner, triangles, self.size)
+        best[caps != NONE], who[caps != NONE] = 0, NONE
+        return best, who, caps
 
 
-def unlike(leaf: Any, parts: Sequence[Any], view: Any, size: Sequence[int], bits: Sequence[int], rounded: float,
-           digit: float) -> tuple[int, Any]:
-    """At how many pixels the convex parts of a mesh do not begin or end where its own triangles do, and the first of
-    them. What is next to an edge by less than 0.02 pixels, or by what the digits of its points leave open, is not
-    counted."""
-    lens, cells = lens_of(view), (1 << bits[0]) - 1
-    seen, numbers, _ = in_view(lens, lens.seen(corners_of(leaf)))
-    places = lens.placed(seen)
+def shown_by(scene: Any) -> Array:
+    """The first cell that a scene shows at each pixel by the rules of docs/PICTURE.md, in whole numbers; the far limit
+    for none."""
+    rows = max(1, ROWS // (scene.width * len(scene.solids)))
+    return np.concatenate([shown_in(scene, range(top, min(top + rows, scene.height)))
+                           for top in range(0, scene.height, rows)])
+
+
+def shown_in(scene: Any, rows: range) -> Array:
+    """The same for some rows of the picture. (Values of planes are whole, and below 2^53.)"""
+    x, y = (own.ravel() for own in np.meshgrid(np.arange(scene.width), np.array(rows)))
+    far, places = scene.far(), np.stack([x, y, np.ones_like(x)]).astype(float)
+
+    def bound(kind: str, least: int, kept: Any) -> Array:
+        planes = ([(0, 0, least), *(face.plane for face in getattr(solid, kind))] for solid in scene.solids)
+        return np.array([kept.reduce(np.array(own, float) @ places) for own in planes])
+
+    def both(sign: str, left: Array, right: Array) -> Array:
+        joined: Array = rays.JOINED[sign](left, right)
+        return joined
+
+    first, end = (np.ceil(own / (1 << scene.fraction_bits)) for own in (
+        bound("fronts", 0, np.maximum), bound("backs", far << scene.fraction_bits, np.minimum)))
+    is_met = (first < end) & (bound("sides", 0, np.minimum) >= 0)
+    kept = np.flatnonzero(is_met.any(1))
+    first, end = (np.where(is_met, own, far)[kept] for own in (first, end))
+    row = np.full(len(scene.solids), NONE)
+    row[kept] = np.arange(len(kept))
+    cells, live, now = np.full(len(x), far), np.arange(len(x)), np.zeros(len(x))
+    while len(live):
+        has = np.concatenate([(first <= now) & (now < end), np.zeros((1, len(live)), bool)])
+        holds = rays.folded(scene.show, lambda at: has[row[at]], both)
+        cells[live[holds]] = now[holds]
+        later = np.minimum(*(np.where(own > now, own, far).min(0, initial=far) for own in (first, end)))
+        goes = ~holds & (later < far)
+        live, now, first, end = live[goes], later[goes], first[:, goes], end[:, goes]
+    return cells.reshape(-1, scene.width)
+
+
+def unlike(model: Model, depths: Array, bits: Sequence[int], rounded: float, digit: float) -> tuple[int, Any]:
+    """At how many pixels a picture has not what is seen of a model, and the first of them. What is next to an edge by
+    less than 0.02 pixels, or by what the digits of its points leave open, is not counted, nor what is beyond the
+    depths."""
+    lens, cells = model.lens, (1 << bits[0]) - 1
     zoom = lens.focal / lens.near if lens.perspective else lens.focal
     aside, deep = max(0.02, 2 * digit * zoom), 2 * digit * lens.steep / (lens.near ** 2 if lens.perspective else 1)
-    room, ends = 1 + rounded + deep, []
-    for way in (1, -1):
-        around = []
-        for right, down in ((0, 0), (1, 1), (1, -1), (-1, 1), (-1, -1)):
-            moved = (places + np.array((right * aside, down * aside, 0))) * np.array((1, 1, way))
-            around.append(way * nearest(Triangles(moved, numbers, size, True), size)[0].reshape(size[1], size[0]))
-        ends.append((np.min(around, 0), np.max(around, 0)))
-    first, last = ends_of(parts, size, bits)
-    (begins, begun), (ended, over) = ends
-    # A scene says nothing of what begins before all depths or ends after them, nor of what is thinner than a cell.
-    wrong = (last < 0) & (np.minimum(ended, cells) - np.maximum(begun, 0) > 1 + room)
-    for own, low, high in ((first, begins, begun), (last, ended, over)):
-        is_judged = (last >= 0) & (low >= 0) & (high <= cells) & (own > room) & (own < cells - room)
-        wrong |= is_judged & ((own < np.ceil(low) - room) | (own > np.ceil(high) + room))
+    around = []
+    for right, down in ((0, 0), *itertools.product((aside, -aside), repeat=2)):
+        triangles = model.triangles(right, down)
+        best, who, _ = model.seen(triangles)
+        tilt = 2 * aside * np.append(np.abs(triangles.slope).sum(1), 0)[who]
+        around.append((best - tilt, best + tilt))
+    low = np.ceil(np.min([least for least, _ in around], 0)).reshape(depths.shape)
+    high, room = np.ceil(np.max([most for _, most in around], 0)).reshape(depths.shape), 1 + rounded + deep
+    is_judged = np.isinf(low) | (low >= room) & (high < cells - room)
+    own = np.where(depths < cells, depths, np.inf)
+    with np.errstate(invalid="ignore"):
+        wrong = is_judged & ((own < low - room) | (own > high + room))
     found = np.argwhere(wrong)
     return len(found), tuple(found[0][::-1].tolist()) if len(found) else None
 
@@ -535,16 +598,10 @@ def text_of(window: Window, bits: Sequence[int], columns: list[Column]) -> str:
     return "\n".join(lines + ["show " + solids.halved("+", ["t%d" % at for at in range(len(columns))]), "end", ""])
 
 
-def drawn(scene: Scene, path: str) -> tuple[Array, Array]:
+def drawn(scene: Scene, path: str) -> list[Array]:
     """Both maps of a scene by the program."""
-    output, maps = program.output(path, "render", scene.text.encode()), []
-    for _ in range(2):
-        head = output.split(b"\n", 3)
-        width, height = map(int, head[1].split())
-        raw = np.frombuffer(head[3][:3 * width * height], np.uint8).reshape(height, width, 3).astype(np.int64)
-        maps.append(raw[..., 0] << 16 | raw[..., 1] << 8 | raw[..., 2])
-        output = head[3][3 * width * height:]
-    return maps[0], maps[1]
+    found = maps.of_netpbm(program.output(path, "render", scene.text.encode()))
+    return [own.numbers.astype(np.int64) for own in found]
 
 
 class Drawing(NamedTuple):
@@ -582,34 +639,18 @@ class Drawing(NamedTuple):
         return [tuple(colour) for colour in table[self.shown].reshape(-1, 3).tolist()]
 
 
-def draw(tree: Any, leaves: Sequence[Any], view: Any, size: Sequence[int], bits: Sequence[int],
-         path: Optional[str] = None,
-         jobs: int = 2) -> Drawing:
+def draw(tree: Any, view: Any, size: Sequence[int], bits: Sequence[int]) -> Drawing:
     """The picture of an expression of the leaves of `solids`. `Trouble` where what must be closed is open."""
-    lens, cells = lens_of(view), (1 << bits[0]) - 1
-    corners = np.concatenate([corners_of(leaf) for leaf in leaves])
-    owner = np.repeat(np.arange(len(leaves)), [len(corners_of(leaf)) for leaf in leaves])
-    seen, numbers, is_before = in_view(lens, lens.seen(corners))
-    is_cut = is_before or has_cuts(tree)
-    for leaf in leaves if is_cut else ():
-        gap = open_place(corners_of(leaf))
-        if gap is not None:
-            raise Trouble("%s is not closed near %.6g %.6g %.6g, and what is cut or intersected must be" % (
-                leaf.name(), *gap))
-    triangles = Triangles(lens.placed(seen), numbers, size, not is_cut)
-    if is_cut:
-        best, who, caps = first_inside(tree, leaves, owner, triangles, size)
-        best[caps != NONE], who[caps != NONE] = 0, NONE
-    else:
-        best, who = nearest(triangles, size)
-    columns, rounded = Seen(triangles, best, who, size, bits).columns(is_cut)
+    model, cells = Model(tree, view, size), (1 << bits[0]) - 1
+    model.check()
+    triangles = model.triangles()
+    best, who, caps = model.seen(triangles)
+    columns, rounded = Seen(triangles, best, who, size, bits).columns(model.is_cut)
     scenes = scenes_of(columns, bits)
-    depths, shown = np.full(size[::-1], cells), np.full(size[::-1], NONE)
-    if is_cut:
-        cap = caps.reshape(size[::-1])
-        depths[cap != NONE], shown[cap != NONE] = 0, len(corners) + cap[cap != NONE]
-    place = path or program.needed(None)
-    with concurrent.futures.ThreadPoolExecutor(jobs) as pool:
+    cap = caps.reshape(size[::-1])
+    depths, shown = np.where(cap == NONE, cells, 0), np.where(cap == NONE, NONE, len(model.corners) + cap)
+    place = program.needed(None)
+    with concurrent.futures.ThreadPoolExecutor(JOBS) as pool:
         for scene, (deep, face) in zip(scenes, pool.map(lambda one: drawn(one, place), scenes)):
             x0, y0, x1, y1 = scene.window
             at = np.s_[y0:y1 + 1, x0:x1 + 1]
@@ -617,9 +658,4 @@ def draw(tree: Any, leaves: Sequence[Any], view: Any, size: Sequence[int], bits:
             depths[at][near] = deep[near]
             # each column has two faces: the near one and its front
             shown[at][near] = scene.numbers[(face[near] - 1) // 2]
-    return Drawing(depths, shown, corners, owner, lens, rounded, len(columns), len(scenes))
-
-
-def has_cuts(tree: Any) -> bool:
-    """Whether something is taken away, or intersected."""
-    return isinstance(tree, tuple) and (tree[0] != "+" or any(map(has_cuts, tree[1])))
+    return Drawing(depths, shown, model.corners, model.owner, model.lens, rounded, len(columns), len(scenes))

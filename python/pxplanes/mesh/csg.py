@@ -224,7 +224,7 @@ class Reader:
         except Untaken:
             raise
         except Trouble as bad:
-            raise self.bad("%s %s" % (name, bad), line)
+            raise self.bad("%s %s" % (name, bad), line, Untaken if place.flat else Trouble)
 
     def imported(self, found: Any, line: int) -> Any:
         path = os.path.join(self.folder, found["file"][1:-1])
@@ -285,8 +285,8 @@ class Reader:
         if place.flat:
             corners = shaping.flat_hull([point[:2] for point in points])
             return Flat(corners) if corners else None
-        corners, planes = shaping.hull(points)
-        return solids.Solid(name, line, corners, planes, YELLOW)
+        corners, planes, sides = shaping.hull(points)
+        return solids.Solid(name, line, corners, planes, YELLOW, sides=sides)
 
     def minkowski(self, trees: list[Any], found: Any, place: Any, line: int) -> Any:
         parts: Optional[list[Any]] = None

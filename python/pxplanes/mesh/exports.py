@@ -1,17 +1,19 @@
-"""The scene in other programs' words: POV-Ray, OpenSCAD, a mesh of each solid, and JSON. Each gives
-the text, and what of the scene it does not say. What `export` writes."""
+"""The scene in other programs' words: POV-Ray, OpenSCAD, a mesh of each solid as OBJ or glTF, and JSON. Each gives
+the text or the bytes, and what of the scene it does not say. What `convert` writes of a scene."""
 from __future__ import annotations
 
 import itertools
 import json
 import operator
-from typing import Any, Optional, Sequence
+import struct
+from typing import Any, Callable, Optional, Sequence, Union
 
 from pxplanes.mesh import facets, kinds
 from pxplanes.scene import rays
 
 GROW = 0.1
 NEAR = 1e-6
+MILLI = 0.001
 ONE_DEPTH = "that a solid has no cell where its front and back pass between the same two depths"
 
 TOUCHING = "which side of ^ has a pixel where faces of both are one"
@@ -255,24 +257,66 @@ def scad_camera(scene: Any, camera: Any) -> list[str]:
             "$vpd = %r;" % distance, "$vpf = %r;" % camera.fov, ""]
 
 
+def meshes(scene: Any, camera: Any) -> tuple[list[tuple[Any, Any]], list[str]]:
+    """Each solid that has a part in the picture with its mesh, and what meshes do not say."""
+    found = [(solid, mesh(scene, solid, camera)) for solid in scene.solids]
+    lacks = ["how the solids are joined", "the numbers and the colours of the faces",
+             "ties, and rounding to whole depths"]
+    lacks += ["solid %s, which has no part in the picture" % solid.name for solid, own in found if own is None]
+    return [(solid, own) for solid, own in found if own is not None], lacks
+
+
 def obj(scene: Any, camera: Any = None) -> tuple[str, list[str]]:
     """A mesh of each solid, and what the file does not say."""
     lines = ["# The solids of a scene of pxplanes: " + (
         "in the axes of the model that it was made of." if camera else
         "x to the right, y upwards, z to the eye, in pixels and cells.")]
-    lacks = ["how the solids are joined", "the numbers and the colours of the faces",
-             "ties, and rounding to whole depths"]
+    found, lacks = meshes(scene, camera)
     first = 1
-    for solid in scene.solids:
-        found = mesh(scene, solid, camera)
-        if found is None:
-            lacks.append("solid %s, which has no part in the picture" % solid.name)
-            continue
-        points, sides = found
+    for solid, (points, sides) in found:
         lines += ["o " + solid.name] + ["v %s" % " ".join("%.9g" % (part + 0.0) for part in point) for point in points]
         lines += ["f " + " ".join(str(at + first) for at in side) for side in sides]
         first += len(points)
     return "\n".join(lines + [""]), lacks
+
+
+def glb(scene: Any, camera: Any = None) -> tuple[bytes, list[str]]:
+    """The same in glTF's metres, with y upwards: of a thousandth what a model has, whose z is upwards, or a scene."""
+    found, lacks = meshes(scene, camera)
+    root = [MILLI, 0, 0, 0, *((0, 0, -MILLI, 0, 0, MILLI, 0, 0) if camera else (0, MILLI, 0, 0, 0, 0, MILLI, 0)),
+            0, 0, 0, 1]
+    count, body = len(found), b""
+    views: list[dict[str, int]] = []
+    arrays: list[dict[str, Any]] = []
+    for _, (points, sides) in found:
+        corners = [part for point in points for part in point]
+        numbers = [at for side in sides for i in range(1, len(side) - 1) for at in (side[0], side[i], side[i + 1])]
+        for form, kind, width, own in (("f", 5126, "VEC3", corners), ("I", 5125, "SCALAR", numbers)):
+            part = struct.pack("<%d%s" % (len(own), form), *own)
+            arrays.append({"bufferView": len(views), "componentType": kind, "type": width,
+                           "count": len(own) // (3 if form == "f" else 1)})
+            views.append({"buffer": 0, "byteOffset": len(body), "byteLength": len(part)})
+            body += part
+        rows = list(zip(*struct.iter_unpack("<3f", body[views[-2]["byteOffset"]:][:views[-2]["byteLength"]])))
+        arrays[-2].update(min=[min(row) for row in rows], max=[max(row) for row in rows])
+    said = {"asset": {"version": "2.0"}, "scene": 0, "scenes": [{"nodes": [0]}],
+            "nodes": [{"matrix": root, **({"children": list(range(1, count + 1))} if found else {})}]
+            + [{"name": solid.name, "mesh": at} for at, (solid, _) in enumerate(found)],
+            "meshes": [{"primitives": [{"attributes": {"POSITION": 2 * at}, "indices": 2 * at + 1, "material": at}]}
+                       for at in range(count)],
+            "materials": [{"name": solid.name, "pbrMetallicRoughness": {
+                "baseColorFactor": [*map(linear, solid.colour), 1], "metallicFactor": 0}} for solid, _ in found],
+            "buffers": [{"byteLength": len(body)}] if body else [], "bufferViews": views, "accessors": arrays}
+    head = json.dumps({key: own for key, own in said.items() if own != []}).encode()
+    head += b" " * (-len(head) % 4)
+    chunks = struct.pack("<I4s", len(head), b"JSON") + head
+    chunks += struct.pack("<I4s", len(body), b"BIN\0") + body if body else b""
+    return struct.pack("<4sII", b"glTF", 2, 12 + len(chunks)) + chunks, lacks
+
+
+def linear(part: int) -> float:
+    """A part of an sRGB colour as glTF has it, from 0 to 1."""
+    return part / 255 / 12.92 if part <= 10 else float(((part / 255 + 0.055) / 1.055) ** 2.4)
 
 
 def camera_of(scene: Any, camera: Any) -> dict[str, Any]:
@@ -308,4 +352,5 @@ def json_of(scene: Any, camera: Any = None) -> tuple[str, list[str]]:
         "show": shown(signed(scene)), **({"camera": camera_of(scene, camera)} if camera else {})}, indent=1) + "\n", []
 
 
-FORMS = {"pov": pov, "scad": scad, "obj": obj, "json": json_of}
+FORMS: dict[str, Callable[..., tuple[Union[str, bytes], list[str]]]] = {
+    "pov": pov, "scad": scad, "obj": obj, "glb": glb, "json": json_of}

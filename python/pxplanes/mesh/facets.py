@@ -16,6 +16,7 @@ from pxplanes.scene import limits
 SIX_DIGITS = 5e-6
 SINGLE = 6e-8
 EXACT = 1e-10
+FLAT = 1e-12
 NEAR = 6
 SLIM = 0.02
 TRIED = 24
@@ -25,6 +26,7 @@ MOST_CUTS = 400
 GRID = 40
 FEW = 64
 REACH = 1e8
+UNDIVIDED = "`pxplanes view` and `pxplanes convert --draw MAPS` draw it undivided"
 
 
 def dot(one: kinds.Vector, other: kinds.Vector) -> float:
@@ -40,7 +42,7 @@ def plane_of(points: kinds.Points) -> Optional[tuple[list[float], float, float]]
     normal = area_normal(points)
     length = lengthwise(normal)
     longest = max(math.dist(a, points[i - 1]) for i, a in enumerate(points))
-    if length < 1e-12 or longest < 1e-12:
+    if length <= FLAT * longest ** 2:
         return None
     normal = [part / length for part in normal]
     return normal, sum(dot(normal, point) for point in points) / len(points), length / longest
@@ -163,7 +165,7 @@ def planes(points: kinds.Points, facets: kinds.Facets, numbers: Optional[Sequenc
     one that is too slim to give its plane is passed over where the others close the solid without it."""
     size, wide = extent(points)
     digit = (EXACT if is_exact else digit_of(points)) * size
-    closed(facets)
+    closed(points, facets)
     found, slim, cloud, middle = Found(), [], Cloud(points), middle_of(points)
     for high, plane, corners, number in measured(points, facets, numbers or range(1, len(facets) + 1)):
         normal, far, _ = plane
@@ -216,11 +218,12 @@ def flat_facets(points: kinds.Points, facets: kinds.Facets) -> list[Sequence[int
     return out
 
 
-def closed(facets: kinds.Facets) -> None:
+def closed(points: kinds.Points, facets: kinds.Facets) -> None:
     """`Trouble` where an edge is not between two facets."""
     edges = collections.Counter(frozenset((facet[i - 1], at)) for facet in facets for i, at in enumerate(facet))
-    if any(count % 2 for edge, count in edges.items() if len(edge) == 2):
-        raise Trouble("is not closed")
+    for edge, count in edges.items():
+        if count % 2 and len(edge) == 2:
+            raise Trouble("is not closed near %.6g %.6g %.6g; " % (*points[min(edge)],) + UNDIVIDED)
 
 
 def open_edges(facets: kinds.Facets) -> int:
@@ -257,9 +260,7 @@ def same_volume(polygons: Any, found: Any, digit: float) -> None:
     room = 6 * 2 * digit * area + 1e-6 * abs(float(whole))
     if abs(inside - whole) > room:
         raise Trouble("has a volume of %.6g as convex parts and of %.6g as it is, since its facets are too slim for "
-                      "its digits; "
-                      "`pxplanes view` and `pxplanes convert --draw MAPS` draw it undivided" % (
-            float(inside) / 6, float(whole) / 6))
+                      "its digits; %s" % (float(inside) / 6, float(whole) / 6, UNDIVIDED))
 
 
 def outwards(sides: Any) -> list[Any]:
@@ -427,9 +428,9 @@ def cells(points: kinds.Points, facets: kinds.Facets) -> list[Any]:
     """The convex parts of a solid, each as its planes and points: its facets' planes divide space,
     and what is behind a facet and before none is inside. `Trouble` where the facets do not close it, or pass through
     one another, or where there are more parts than a scene has solids."""
-    closed(facets)
+    closed(points, facets)
     if open_edges(facets):
-        raise Trouble("is not convex, and its facets are not turned alike, so that its inside is unknown")
+        raise Trouble("is not convex, and its facets are not turned alike, so that its inside is unknown; " + UNDIVIDED)
     turned = facets if volume(points, facets) > 0 else [facet[::-1] for facet in facets]
     size, wide = extent(points)
     digit = digit_of(points) * size
@@ -450,14 +451,13 @@ def cells(points: kinds.Points, facets: kinds.Facets) -> list[Any]:
         path, polygons = todo.pop()
         effort += len(polygons)
         if effort > MOST_EFFORT:
-            raise Trouble("has too many facets to be divided into convex parts; say it by differences or unions")
+            raise Trouble("has too many facets to be divided into convex parts; " + UNDIVIDED)
         plane = best_plane(polygons, near)
         sides = [(divided(polygon, plane, near), own) for polygon, own in polygons]
         behind = [(side[0], own) for side, own in sides if side[0]]
         before = [(side[1], own) for side, own in sides if side[1]]
         if len(polygons) in (len(behind), len(before)) and min(len(behind), len(before)) == 0 or len(path) > MOST_CUTS:
-            raise Trouble("has facets so close to one another that no plane divides them; say it by differences or "
-                          "unions")
+            raise Trouble("has facets so close to one another that no plane divides them; " + UNDIVIDED)
         if before:
             todo.append((path + [plane.turned()], before))
         if behind:
@@ -469,7 +469,7 @@ def cells(points: kinds.Points, facets: kinds.Facets) -> list[Any]:
                 out.append(cell)
                 found.append(sides)
         if len(out) > limits.MAX_SOLIDS:
-            raise Trouble("is not convex, and has more than %d convex parts" % limits.MAX_SOLIDS)
+            raise Trouble("is not convex, and has more than %d convex parts; %s" % (limits.MAX_SOLIDS, UNDIVIDED))
     same_volume([[points[at] for at in facet] for facet in turned], found, digit)
     return out
 

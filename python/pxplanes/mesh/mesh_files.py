@@ -3,7 +3,6 @@ the numbers of their points. Only 3MF and glTF say their unit: they become milli
 from __future__ import annotations
 
 import io
-import math
 import re
 import struct
 import xml.etree.ElementTree
@@ -13,17 +12,26 @@ from typing import Any, Callable, Optional
 from pxplanes.errors import Trouble
 from pxplanes.mesh import gltf, kinds, solids
 
-LARGEST = 4000000
+LARGEST, MOST = 4000000, 1e9
 
 
-def floats(words: Any, what: str) -> list[float]:
+def floats(words: Any, what: str, at: Any = ()) -> list[float]:
+    """The numbers that words are. A refusal says of what they are, with its number."""
     try:
         numbers = [float(word) for word in words]
     except ValueError:
-        raise Trouble("%s has a word that is no number" % what)
-    if any(not math.isfinite(number) or abs(number) > 1e9 for number in numbers):
-        raise Trouble("%s has a number that is too large" % what)
+        raise Trouble(what % at + " has a word that is no number")
+    for number in numbers:
+        if not abs(number) <= MOST:
+            raise Trouble(what % at + " has the number %g, and all are from -1e9 to 1e9" % number)
     return numbers
+
+
+def wholes(words: Any, what: str, at: Any = ()) -> list[int]:
+    numbers = floats(words, what, at)
+    if any(number % 1 for number in numbers):
+        raise Trouble(what % at + " has a number that is not whole")
+    return [int(number) for number in numbers]
 
 
 def read_off(data: bytes) -> Any:
@@ -33,19 +41,19 @@ def read_off(data: bytes) -> Any:
     if not lines or not re.fullmatch(r"(ST)?C?N?OFF", lines[0][0]):
         raise Trouble("this is no OFF file")
     lines = lines[1:] if len(lines[0]) == 1 else [lines[0][1:]] + lines[1:]
-    counts = [int(number) for number in floats(lines[0][:2] if lines else [], "the head")]
+    counts = wholes(lines[0][:2] if lines else [], "the head")
     if len(counts) != 2 or not all(0 < count <= LARGEST for count in counts):
         raise Trouble("the head has no counts of points and facets up to %d" % LARGEST)
     rows = lines[1:1 + counts[0]]
-    points = [floats(row[:3], "a point") for row in rows]
+    points = [floats(row[:3], "point %d", at) for at, row in enumerate(rows, 1)]
     if len(points) < counts[0] or any(len(point) < 3 for point in points):
         raise Trouble("the file has fewer points than its head says")
     facets = []
-    for row in lines[1 + counts[0]:1 + sum(counts)]:
-        count = int(floats(row[:1], "a facet")[0])
-        facets.append([int(number) for number in floats(row[1:1 + max(count, 0)], "a facet")])
+    for at, row in enumerate(lines[1 + counts[0]:1 + sum(counts)], 1):
+        count = wholes(row[:1], "facet %d", at)[0]
+        facets.append(wholes(row[1:1 + max(count, 0)], "facet %d", at))
         if len(facets[-1]) != count:
-            raise Trouble("a facet names a point that is not there")
+            raise Trouble("facet %d has fewer corners than it says" % at)
     if len(facets) < counts[1]:
         raise Trouble("the file has fewer facets than its head says")
     return checked(points, facets)
@@ -55,8 +63,11 @@ def checked(points: kinds.Points, facets: kinds.Facets) -> Any:
     """The mesh, where each facet names three points or more, and all of them are there."""
     if not points or not facets or len(points) > LARGEST or len(facets) > LARGEST:
         raise Trouble("the file has no points and facets, or more than %d" % LARGEST)
-    if any(len(facet) < 3 or any(not 0 <= at < len(points) for at in facet) for facet in facets):
-        raise Trouble("a facet names a point that is not there")
+    for number, facet in enumerate(facets, 1):
+        if len(facet) < 3:
+            raise Trouble("facet %d has fewer than three corners" % number)
+        if not all(0 <= at < len(points) for at in facet):
+            raise Trouble("facet %d names a point that is not there" % number)
     return points, facets
 
 
@@ -69,13 +80,14 @@ def merged(points: kinds.Points, facets: kinds.Facets) -> Any:
 
 def read_obj(data: bytes) -> Any:
     """The mesh of an OBJ file: its points and faces; a number below 0 counts from the last point."""
-    points, facets = [], []
+    points: list[list[float]] = []
+    facets: list[list[int]] = []
     for line in data.decode("latin-1").replace("\\\n", " ").split("\n"):
         words = line.split("#")[0].split()
         if words[:1] == ["v"]:
-            points.append(floats(words[1:4], "a point"))
+            points.append(floats(words[1:4], "point %d", len(points) + 1))
         elif words[:1] == ["f"]:
-            numbers = [int(number) for number in floats([word.split("/")[0] for word in words[1:]], "a face")]
+            numbers = wholes([word.split("/")[0] for word in words[1:]], "face %d", len(facets) + 1)
             facets.append([number - 1 if number > 0 else len(points) + number for number in numbers])
     if any(len(point) < 3 for point in points):
         raise Trouble("a point has fewer than three numbers")
@@ -107,9 +119,10 @@ def read_ply(data: bytes) -> Any:
                 own[1].append(line[1:])
         rows = {name: [ply_row(properties, take) for _ in range(min(count, LARGEST + 1))]
                 for name, (count, properties) in found.items()}
-        points = [[float(row[axis]) for axis in "xyz"] for row in rows["vertex"]]
-        facets = [row.get("vertex_indices", row.get("vertex_index")) for row in rows["face"]]
-        return merged(*checked(points, [[int(at) for at in facet] for facet in facets]))
+        points = [floats([row[axis] for axis in "xyz"], "vertex %d", at) for at, row in enumerate(rows["vertex"], 1)]
+        facets = [wholes(row.get("vertex_indices", row.get("vertex_index")), "face %d", at)
+                  for at, row in enumerate(rows["face"], 1)]
+        return merged(*checked(points, facets))
     except (IndexError, KeyError, ValueError, TypeError, StopIteration, struct.error):
         raise Trouble("the PLY file is damaged, or has no points and faces")
 
@@ -211,8 +224,10 @@ def raw_triangles(data: bytes) -> int:
 
 
 def vertex_rows(data: bytes) -> list[list[bytes]]:
-    """The words after each vertex of an STL file of words."""
-    return [line.split()[1:4] for line in data.split(b"\n") if line.lstrip()[:6].lower() == b"vertex"]
+    """The words after each vertex of an STL file of words; none where its last solid has no end."""
+    is_whole = data.lower().rfind(b"endsolid") > data.lower().rfind(b"vertex")
+    lines = data.split(b"\n") if is_whole else []
+    return [line.split()[1:4] for line in lines if line.lstrip()[:6].lower() == b"vertex"]
 
 
 def soup(kind: str, data: bytes) -> Any:
@@ -236,19 +251,23 @@ def soup(kind: str, data: bytes) -> Any:
             return None
     except (ImportError, ValueError, IndexError):
         return None
-    return found if found.size and numpy.isfinite(found).all() and abs(found).max() <= 1e9 else None
+    return found if found.size and numpy.isfinite(found).all() and abs(found).max() <= MOST else None
 
 
 def read_stl(data: bytes) -> Any:
     """The mesh of an STL file, of words or raw."""
     if raw_triangles(data):
         count = min(raw_triangles(data), LARGEST + 1)
-        corners = [floats(row[i:i + 3], "a corner")
-                   for row in struct.iter_unpack("<12x9f2x", data[84:84 + 50 * count]) for i in (0, 3, 6)]
+        rows: Any = (row[i:i + 3] for row in struct.iter_unpack("<12x9f2x", data[84:84 + 50 * count]) for i in (0, 3, 6))
+    elif data[:5].lower() == b"solid":
+        rows = vertex_rows(data)
+        if not rows and b"vertex" in data:
+            raise Trouble("the file is cut off: it has no endsolid after its last vertex")
     else:
-        if data.lower().split(None, 1)[:1] != [b"solid"]:
-            raise Trouble("this is no STL file")
-        corners = [floats(row, "a corner") for row in vertex_rows(data)]
+        said = struct.unpack("<I", data[80:84])[0] if len(data) >= 84 else 0
+        raise Trouble("the file is cut off, or no STL file: its head says %d triangles, and %d are there" % (
+            said, max(0, len(data) - 84) // 50))
+    corners = [floats(row, "triangle %d", at // 3 + 1) for at, row in enumerate(rows)]
     if not corners or len(corners) % 3 or any(len(corner) != 3 for corner in corners):
         raise Trouble("the file has no whole triangles")
     if len(corners) > 3 * LARGEST:
@@ -268,6 +287,29 @@ READERS: dict[str, Callable[..., Any]] = {
 ENDINGS = ".off, .stl, .obj, .ply, .3mf, .glb and .gltf"
 
 
+def more_kinds() -> set[str]:
+    """The endings that the package trimesh reads beyond these; none where it is not there."""
+    try:
+        import trimesh
+    except ImportError:
+        return set()
+    return set(trimesh.available_formats()) - set(READERS)
+
+
+def by_trimesh(kind: str, data: bytes) -> Any:
+    """The mesh of a file that trimesh reads: all that its scene has, as its numbers are."""
+    import trimesh
+    try:
+        found = trimesh.load(io.BytesIO(data), file_type=kind, force="mesh", process=False)
+        return merged(*checked([floats(point, "a point") for point in found.vertices.tolist()], found.faces.tolist()))
+    except Trouble:
+        raise
+    except Exception as bad:         # (each of its readers has its own)
+        raise Trouble("trimesh does not read it: %s" % bad)
+
+
 def read(kind: str, data: bytes, folder: Optional[str] = None) -> Any:
     """The mesh of a file's bytes; those of a .gltf may be in files of that folder too."""
+    if kind not in READERS:
+        return by_trimesh(kind, data)
     return READERS[kind](data, folder) if kind == "gltf" else READERS[kind](data)

@@ -2,13 +2,12 @@
 from __future__ import annotations
 
 import copy
-import importlib.util
 import math
 import os
 from dataclasses import dataclass
 from typing import Any, Optional, Sequence
 
-from pxplanes import ends, program
+from pxplanes import ends
 from pxplanes.errors import Trouble
 from pxplanes.mesh import bounding, csg, facets, kinds, mesh_files, openscad, perspective, solids, views
 from pxplanes.scene import limits, rays, scenes
@@ -432,11 +431,18 @@ def tell_of_edges(view: Any, is_empty: bool) -> None:
         say(line)
 
 
+def is_model(name: str) -> bool:
+    """Whether a file is a model, by its ending."""
+    kind = os.path.splitext(name)[1][1:].lower()
+    return kind in KINDS or kind in mesh_files.more_kinds()
+
+
 def read(name: str, choices: Any) -> Any:
     """The tree of the model in a file, in which meshes are not divided."""
     kind = choices.kind or os.path.splitext(name)[1][1:].lower() or "csg"
-    if kind not in KINDS or kind == "scad" and name == "-":
-        raise Trouble("%s is no %s; --kind says what it is" % (name, ", ".join("." + each for each in KINDS)))
+    if kind not in KINDS and kind not in mesh_files.more_kinds() or kind == "scad" and name == "-":
+        raise Trouble("%s is no %s; --kind says what it is, and more is read with the Python package trimesh" % (
+            name, ", ".join("." + each for each in KINDS)))
     if choices.unit and kind in OF_UNITS:
         raise Trouble("a .%s file says its unit, which becomes millimetres; --unit is for the others" % kind)
     tree, up = there(whole_tree(name, kind)), "y" if kind in ("glb", "gltf") else "z"
@@ -474,10 +480,11 @@ def made(name: str, choices: Any) -> tuple[str, Any]:
     whole = read(name, choices)
     tree = there(solids.divided(whole))
     view, wanted = flatter(tree, choices)
-    looked_at(whole, view, choices)
     tree, laid = as_one(tree, view, choices, True)
     text, worst = text_of(tree, laid, view, choices)
-    return text, (checked(text), view, worst, choices, wanted)
+    scene = checked(text)
+    looked_at(whole, scene, view, choices, worst[0])
+    return text, (scene, view, worst, choices, wanted)
 
 
 def flatter(tree: kinds.Tree, choices: Any) -> Any:
@@ -494,22 +501,27 @@ def flatter(tree: kinds.Tree, choices: Any) -> Any:
             choices.bits[1] -= 1
 
 
-def looked_at(whole: kinds.Tree, view: Any, choices: Any) -> None:
-    """`Trouble` where the convex parts of a mesh are not at the pixels of the picture as the mesh is. Without NumPy
-    their volume alone is compared, as each mesh is divided."""
-    meshes = [leaf for leaf, _ in solids.leaves(whole) if isinstance(leaf, solids.Mesh)]
-    if not meshes or importlib.util.find_spec("numpy") is None:
+def looked_at(whole: kinds.Tree, scene: Any, view: Any, choices: Any, rounded: float) -> None:
+    """`Trouble` where the scene of meshes does not show what they have at the pixels of the picture; of other solids
+    this is said, and where the pixels are not compared."""
+    try:
+        columns = columns_module()
+    except Trouble as trouble:
+        say("the pixels of the scene are not compared with the model: %s" % trouble)
         return
-    columns = columns_module()
-    for mesh in meshes:
-        laid = list(laid_out(mesh.parts, view, choices).values())
-        rounded = max((own.worst[0] for own in laid), default=0)
-        digit = facets.digit_of(mesh.mesh[0]) * facets.extent(mesh.mesh[0])[0] * solids.growth(mesh.matrix)
-        count, place = columns.unlike(mesh, [[plane[:2] for plane in own.planes] for own in laid], view, choices.size,
-                                      choices.bits, rounded, digit)
-        if count:
-            raise Trouble("%s is not what its convex parts are at %d pixels, the first x %d, y %d; `pxplanes view` "
-                          "and `pxplanes convert --draw MAPS` draw it undivided" % (mesh.name(), count, *place))
+    model = columns.Model(whole, view, choices.size)
+    if model.is_cut and model.gaps():
+        say("the pixels of the scene are not compared with the model: %s" % model.gaps()[0])
+        return
+    digits = [facets.digit_of(leaf.mesh[0]) * facets.extent(leaf.mesh[0])[0] * solids.growth(leaf.matrix)
+              for leaf, _ in solids.leaves(whole) if isinstance(leaf, solids.Mesh)]
+    count, at = columns.unlike(model, columns.shown_by(scene), choices.bits, rounded, max(digits, default=0))
+    if count:
+        why = ("the scene is not what the model is at %d pixels, the first x %d, y %d, as where a solid is thinner than a "
+               "cell: --depth with more bits may make it so, and %s" % (count, *at, facets.UNDIVIDED))
+        if digits:
+            raise Trouble(why)
+        say(why)
 
 
 def columns_module() -> Any:
@@ -523,18 +535,19 @@ def columns_module() -> Any:
 
 def by_columns(tree: kinds.Tree, choices: Any) -> Any:
     """The picture of a tree by columns (docs/MODELLING.md, "Columns"). `Trouble` where NumPy is not there."""
-    columns, leaves = columns_module(), solids.leaves(tree)
+    columns = columns_module()
     if choices.in_perspective:
         choices.bits = list(choices.depth or wanted_bits(choices.size, 2 * limits.MAX_SOLIDS + 2))
         fov = choices.fov or views.FIELD
         numbers = choices.camera or perspective.around(choices.view, fov, choices.size, tree)
-        view = columns.Before(numbers, fov, choices.size, 2 ** choices.bits[0] - 1, (choices.near, choices.far), leaves)
+        view = columns.Before(numbers, fov, choices.size, 2 ** choices.bits[0] - 1, (choices.near, choices.far),
+                              solids.leaves(tree))
     else:
         view = parallel(tree, choices)
-    drawing = columns.draw(tree, [leaf for leaf, _ in leaves], view, choices.size, choices.bits)
+    drawing = columns.draw(tree, view, choices.size, choices.bits)
     say("drawn by columns: %d triangles, %d columns in %d scenes; a depth is rounded by at most %.2g cells of %d" % (
         len(drawing.corners), drawing.columns, drawing.scenes, drawing.rounded, 2 ** choices.bits[0] - 1))
-    tell_of_edges(view, (drawing.shown < 0).all())
+    tell_of_edges(view, not (drawing.shown >= 0).any())
     return drawing
 
 
@@ -545,20 +558,3 @@ def portrait(name: str) -> Any:
     tree = read(name, choices)
     choices.camera, choices.size = columns_module().portrait(solids.leaves(tree), choices.view, views.FIELD)
     return by_columns(tree, choices), [leaf.colour for leaf, _ in solids.leaves(tree)]
-
-
-def drawn_as_one(tree: kinds.Tree, choices: Choices) -> Optional[bytes]:
-    """Both maps of convex solids that make one scene by all of their planes, none of which has to be divided; None for
-    others."""
-    if any(isinstance(leaf, solids.Mesh) for leaf, _ in solids.leaves(tree)):
-        return None
-    try:
-        view, wanted = seen(tree, choices)
-        laid = laid_out(tree, view, choices)
-    except Trouble:
-        return None
-    if not is_within(tree, laid, choices):
-        return None
-    text, worst = text_of(tree, laid, view, choices)
-    tell(checked(text), view, worst, choices, wanted)
-    return program.output(program.needed(None), "render", text.encode())

@@ -9,6 +9,7 @@ from pxplanes.errors import Trouble
 from pxplanes.mesh import kinds, turns
 
 MOST_SIDES = 1000
+GRID = 2.0 ** -20          # OpenSCAD takes what is less for nothing
 
 
 def cube(size: kinds.Vector, center: Any) -> Any:
@@ -21,7 +22,7 @@ def cube(size: kinds.Vector, center: Any) -> Any:
 def fragments(radius: float, settings: Sequence[float]) -> int:
     """How many sides OpenSCAD gives a circle."""
     count, angle, length = settings
-    if radius < 1e-9:
+    if radius < GRID:
         return 3
     if count <= 0:
         count = math.ceil(max(min(360 / angle, radius * 2 * math.pi / length), 5))

@@ -2,6 +2,7 @@
 profiles. Convex flat shapes are their corners in order; convex solids are points and planes."""
 from __future__ import annotations
 
+import math
 from typing import Any
 
 from pxplanes.errors import Trouble
@@ -11,7 +12,7 @@ PACKAGE = "python3-scipy"
 
 
 def hull(points: kinds.Points) -> Any:
-    """The points at the corners of the hull of points in space, and its planes; by Qhull."""
+    """The points at the corners of the hull of points in space, its planes, and its triangles; by Qhull."""
     try:
         from scipy.spatial import ConvexHull, QhullError
     except ImportError:
@@ -25,7 +26,8 @@ def hull(points: kinds.Points) -> Any:
     for equation, facet in zip(found.equations.tolist(), found.simplices.tolist()):
         planes.setdefault(tuple(round(part, 9) + 0.0 for part in equation),
                           places.plane(equation[:3], -equation[3], facet))
-    return [points[at] for at in found.vertices.tolist()], list(planes.values())
+    corners, sides = facets.only(points, found.simplices.tolist())
+    return corners, list(planes.values()), sides
 
 
 def flat_hull(points: kinds.Points) -> Any:
@@ -33,11 +35,11 @@ def flat_hull(points: kinds.Points) -> Any:
     points = sorted({(x, y) for x, y in points})
     if len(points) < 3:
         return []
-    sides = []
+    sides, flat = [], 1e-12 * math.dist(points[0], points[-1]) ** 2
     for way in (points, points[::-1]):
         side: list[Any] = []
         for point in way:
-            while len(side) > 1 and turn(side[-2], side[-1], point) <= 1e-12:
+            while len(side) > 1 and turn(side[-2], side[-1], point) <= flat:
                 side.pop()
             side.append(point)
         sides += side[:-1]

@@ -188,10 +188,8 @@ def of_file(points: Any, sides: Any, colour: Any, line: int = 0) -> Any:
     the node which has it, if any."""
     shells = facets.parts(points, sides)
     if len({facets.volume(*shell[:2]) > 0 for shell in shells}) > 1:
-        hollows, shells = facets.hollows(shells)
-        if hollows:
-            return joined("+", [of_mesh("part", line, own, turned, colour) for own, turned in hollows]
-                          + [of_file(shell[0], shell[1], colour, line) for shell in shells])
+        hollows, others = facets.hollows(shells)
+        shells = [(*own, None) for own in hollows] + others if hollows else shells
     trees = []
     for number, (own, turned, numbers) in enumerate(shells, 1):
         try:

@@ -9,6 +9,7 @@ from pxplanes.mesh import exact, facets, kinds, solids, turns
 
 FILLS = 0.92
 FIELD = 22.5
+FLAT = 1e-9
 EDGES = ("left", "right", "bottom", "top")
 
 
@@ -21,7 +22,7 @@ class View:
         box = shown(rows, tree)
         self.has_common = box is not None
         low, high = self.box = box or around([box_of(rows, solid.points) for solid, _ in solids.leaves(tree)])
-        self.cells = FILLS * far / max(high[1] - low[1], 1e-9)
+        self.cells = FILLS * far / widths(self.box)[1]
         self.nearest = low[1] - (1 - FILLS) / 2 * far / self.cells
 
     def placed(self, scale: float, left: float, top: float) -> View:
@@ -112,11 +113,16 @@ def around(boxes: Any) -> Any:
     return ([min(low[i] for low, _ in boxes) for i in range(3)], [max(high[i] for _, high in boxes) for i in range(3)])
 
 
+def widths(box: Any) -> list[float]:
+    """The widths of a box; where it is flat, a little of the greatest."""
+    wide = [high - low for low, high in zip(*box)]
+    return [max(part, FLAT * (max(wide) or 1)) for part in wide]
+
+
 def fitted(turn: kinds.Vector, size: Sequence[int], scale: Any, far: float, tree: kinds.Tree) -> View:
     """What can show in the middle of the picture, and so large that it fills it."""
     view = View(turns.rows_of(turn), size, far, tree)
-    low, high = view.box
-    room = [max(high[i] - low[i], 1e-9) for i in range(3)]
+    (low, high), room = view.box, widths(view.box)
     scale = scale or FILLS * min(size[0] / room[0], size[1] / room[2])
     return view.placed(scale, size[0] / 2 - scale * (low[0] + high[0]) / 2,
                        size[1] / 2 + scale * (low[2] + high[2]) / 2)

@@ -2,14 +2,16 @@
 what the shown expression shows there. It is no part of the program, and judges no scene."""
 from __future__ import annotations
 
-from typing import Callable, Optional, TypeVar
+import operator
+from typing import Any, Callable, Optional, TypeVar
 
 from pxplanes.scene.scenes import Face, Node, Plane, Scene, Solid
 
 Made = TypeVar("Made")
 
-JOINED: dict[str, Callable[[bool, bool], bool]] = {"+": lambda left, right: left or right, "*": lambda left, right: left and right,
-          "-": lambda left, right: left and not right, "^": lambda left, right: left != right}
+# (they join NumPy's arrays too)
+JOINED: dict[str, Callable[[Any, Any], Any]] = {
+    "+": operator.or_, "*": operator.and_, "-": operator.gt, "^": operator.ne}
 
 KEPT: dict[str, Callable[[bool, bool, bool], tuple[bool, bool]]] = {"+": lambda member, left, right: (left or not member, right or not member),
         "*": lambda member, left, right: (member or not left, member or not right),
@@ -103,7 +105,7 @@ def folded(show: list[Node], leaf: Callable[[int], Made], join: Callable[[str, M
 
 def is_member(show: list[Node], found: Crossings, cell: int) -> bool:
     has = [each is not None and each.has(cell) for each in found]
-    return folded(show, lambda at: has[at], lambda sign, left, right: JOINED[sign](left, right))
+    return bool(folded(show, has.__getitem__, lambda sign, left, right: JOINED[sign](left, right)))
 
 
 def runs(scene: Scene, found: Crossings) -> list[tuple[int, int]]:
