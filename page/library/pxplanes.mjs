@@ -184,6 +184,7 @@ export class Library {
   // The microinstructions of so many clocks, from `first` on, as the library packs them.
   packed(text, first, count) {
     const begin = whole(first, "first"), size = MICRO * whole(count, "count", Number.MAX_SAFE_INTEGER / MICRO);
+    this.#needs("micros", text, begin, size / MICRO);
     return this.#ask("micros", text, [[size, MICRO]], (found, [room]) => this.#copy(BigUint64Array, room, size), [BigInt(begin)]);
   }
 
@@ -195,10 +196,16 @@ export class Library {
   // The operations of a scene or of a listing, so many from `first` on, or all from there; each with what it is for.
   course(text, first = 0, count = null) {
     const begin = whole(first, "first"), all = count === null ? Math.max(0, this.counts(text).operations - begin) : whole(count, "count", Number.MAX_SAFE_INTEGER / OPERATION);
+    this.#needs("course", text, begin, all);
     return this.#ask("course", text, [[OPERATION * all, OPERATION]], (found, [room]) => {
       const view = new DataView(this.#calls.memory.buffer, room, OPERATION * all);
       return Array.from({length: all}, (_, at) => new Operation(view, OPERATION * at));
     }, [BigInt(begin)]);
+  }
+
+  // Refuses what lies past the end of a text, before memory is asked for a long stretch of it.
+  #needs(name, text, first, count) {
+    if (count > STRETCH) this.#ask(name, text, [[0, 1]], () => null, [BigInt(first) + BigInt(count)]);
   }
 
   // The bytes that the program writes for a command's words, as "tile 600 400", with the text as its standard input.
@@ -340,6 +347,7 @@ export class Micro {
   constructor(word) {
     if (typeof word !== "bigint") throw new TypeError(`the word of a microinstruction is ${kindOf(word)}; a BigInt is expected`);
     const low = Number(word & 0xffffffffn), high = Number(word >> 32n), act = high & 255, lines = high >> 24;
+    if (!ACTS[act] || word >> 64n) throw new RangeError(`${word} is the word of no microinstruction`);
     Object.assign(this, {act: ACTS[act], place: low, value: high >> 8 & 1, tree: TREES[high >> 16 & 3],
       lines: [lines & 1, lines >> 1 & 1, lines >> 2 & 1], hasPlace: HAVE_A_PLACE.has(act), hasValue: HAVE_A_VALUE.has(act)});
   }
@@ -426,8 +434,9 @@ export class State {
 
   // Output and carry of a node of the tree: levels from 1 on, a level's nodes from 0 on.
   node(level, index) {
-    if (!whole(level, "level", this.levels)) throw new RangeError("level is 0; the first level of the tree is 1");
-    const place = 2 ** level + whole(index, "index", 2 ** level - 1), wide = 2 * Math.ceil(2 ** (this.levels + 1) / 64), first = this.words.length - 2 * wide;
+    const depth = whole(level, "level", this.levels);
+    if (!depth) throw new RangeError("level is 0; the first level of the tree is 1");
+    const place = 2 ** depth + whole(index, "index", 2 ** depth - 1), wide = 2 * Math.ceil(2 ** (this.levels + 1) / 64), first = this.words.length - 2 * wide;
     return [0, 1].map(row => this.words[first + row * wide + (place >> 5)] >>> (place & 31) & 1);
   }
 }
@@ -441,6 +450,9 @@ export class Machine {
     Object.assign(this, {library, text, starts, kept: new Map(), packed: [0, new BigUint64Array(0)]});
     this.first = library.state(text, 0);
     this.clocks = this.first.clocks;
+    const operations = starts === null ? null : library.counts(text).operations;
+    if (starts !== null && (starts.length !== operations || starts[operations - 1] >= this.clocks))
+      throw new RangeError(`starts has ${starts.length} clocks; one below ${this.clocks} is expected for each of ${operations} operations`);
     this.most = Math.max(2 * NEAR, Math.min(LATEST, Math.floor(KEPT_BYTES / this.first.words.byteLength)));
     this.canStep = library.hasClocks && starts !== null;
     this.#keep(this.first);
@@ -467,10 +479,10 @@ export class Machine {
 
   // Makes the states before a clock, as many as are near, so that going back finds them.
   prepare(clock) {
-    whole(clock, "clock", this.clocks);
-    if (!this.canStep || clock < NEAR || this.kept.has(clock - 1)) return;
-    let known = this.#keep(this.#ofText(clock - NEAR));
-    while (known.clock + 1 < clock) known = this.#keep(this.#after(known, known.clock + 1));
+    const made = whole(clock, "clock", this.clocks);
+    if (!this.canStep || made < NEAR || this.kept.has(made - 1)) return;
+    let known = this.#keep(this.#ofText(made - NEAR));
+    while (known.clock + 1 < made) known = this.#keep(this.#after(known, known.clock + 1));
   }
 
   // Goes on from a state that is near.

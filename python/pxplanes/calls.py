@@ -93,11 +93,14 @@ def content(text: Text) -> bytes:
     if isinstance(text, str):
         return text.encode("utf-8")
     try:
-        return bytes(memoryview(text))  # type: ignore[arg-type]
+        view = memoryview(text)  # type: ignore[arg-type]
+        if view.itemsize == 1:
+            return bytes(view)
+        hint = " of %d bytes each" % view.itemsize
     except TypeError:
         hint = ("; pxplanes.from_file reads the text in a file" if isinstance(text, os.PathLike) else
                 "; what its read() answers is one" if hasattr(text, "read") else "")
-        raise TypeError("a text is a str or bytes, and no %s%s" % (type(text).__name__, hint)) from None
+    raise TypeError("a text is a str or bytes, and no %s%s" % (type(text).__name__, hint))
 
 
 def is_name_of_file(text: Text) -> bool:
