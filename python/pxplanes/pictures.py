@@ -200,7 +200,7 @@ def drawn(text: Text, windows: Sequence[Window], size: tuple[int, int], out: Out
 def taken(out: Out, width: int, height: int) -> tuple[Any, Any]:
     """The two arrays that a picture is written to."""
     if out is None:
-        out = tuple(Buffer("I", width * height).shaped(height, width) for _ in range(2))
+        return Buffer("I", width * height).shaped(height, width), Buffer("I", width * height).shaped(height, width)
     found = [getattr(each, "shape", type(each).__name__) for each in out] if isinstance(out, (tuple, list)) else type(out).__name__
     if found != [(height, width)] * 2:
         raise ValueError("out has two arrays of shape (%d, %d), and not %s" % (height, width, found))

@@ -53,7 +53,7 @@ pub struct Colours {
 ///
 /// # Panics
 ///
-/// If a row does not fit.
+/// If a row does not fit, or `height` is 0.
 pub fn place<T: Copy, U: Copy, const FROM: usize, const TO: usize>(
     pixels: &[T], height: u32, to: &mut [U], stride: usize, is_from_bottom: bool, make: impl Fn(&[T; FROM]) -> [U; TO],
 ) {
