@@ -18,8 +18,9 @@ const KINDS = ["all", "keep-sign", "keep-bit", "load-linear", "keep-at-most", "a
   "keep-less"];
 const FACES = ["near", "front", "back"];
 const ROLES = [null, "start", "open", "candidate", "drop", "clear", "front", "confirm", "begin", "turn", "close", "merge"];
-// A machine keeps so many states, and goes on from one that is so many clocks before at most; farther, a state of the text is faster.
-const LATEST = 1000, KEPT_BYTES = 1 << 27, NEAR = 24, STRETCH = 4096;
+// A machine keeps so many states, and goes on from one that is so many clocks before at most; farther, a state of the text is faster. It
+// makes so many states ready to go back to.
+const LATEST = 1000, KEPT_BYTES = 1 << 27, NEAR = 128, READY = 24, STRETCH = 4096;
 
 // Why a text is refused, or a call not answered: `status` is the program's, `line` the first bad line, `cause` or `kind` the word of
 // why, `number` what was found there, and `clocks` or `operations` how many there are, where one past the last was asked.
@@ -453,7 +454,7 @@ export class Machine {
     const operations = starts === null ? null : library.counts(text).operations;
     if (starts !== null && (starts.length !== operations || starts[operations - 1] >= this.clocks))
       throw new RangeError(`starts has ${starts.length} clocks; one below ${this.clocks} is expected for each of ${operations} operations`);
-    this.most = Math.max(2 * NEAR, Math.min(LATEST, Math.floor(KEPT_BYTES / this.first.words.byteLength)));
+    this.most = Math.max(2 * READY, Math.min(LATEST, Math.floor(KEPT_BYTES / this.first.words.byteLength)));
     this.canStep = library.hasClocks && starts !== null;
     this.#keep(this.first);
   }
@@ -480,8 +481,8 @@ export class Machine {
   // Makes the states before a clock, as many as are near, so that going back finds them.
   prepare(clock) {
     const made = whole(clock, "clock", this.clocks);
-    if (!this.canStep || made < NEAR || this.kept.has(made - 1)) return;
-    let known = this.#keep(this.#ofText(made - NEAR));
+    if (!this.canStep || made < READY || this.kept.has(made - 1)) return;
+    let known = this.#keep(this.#ofText(made - READY));
     while (known.clock + 1 < made) known = this.#keep(this.#after(known, known.clock + 1));
   }
 

@@ -9,17 +9,11 @@ import {rayOf} from "./ray.js";
 import {refusalOf} from "./refusals.js";
 import {Life} from "./replay.js";
 import {isListing, readScene} from "./scene.js";
-import {fillBits, onesOf} from "./state.js";
+import {fillBits, kept, onesOf} from "./state.js";
 
 const MOST_CLOCKS = 100, MOST_SMALL = 256, MOST_GROUPS = 200, MALFORMED = 3, LIMIT = 4, NO_CLOCK = 9, IDLE = 200;
 // `idle` makes ready what may be asked next, where nothing is asked for a moment; `lived` is the pixel whose life was asked last.
 let px = null, idle = null, lived = null;
-
-// What is made of a text, kept for the text that came last.
-function kept(make) {
-  let known = null;
-  return text => known?.text === text ? known.value : (known = {text, value: make(text)}).value;
-}
 
 // (`check` throws where the library refuses the text)
 const sceneIn = kept(text => px.check(text) && readScene(text));
@@ -175,7 +169,7 @@ async function answered({name, words, text}) {
 }
 
 // The first message has the module of the library, and each other one a question.
-let ready = null;
+let ready = null, text = null;
 globalThis.onmessage = async ({data}) => {
   clearTimeout(idle);
   if (data.module) {
@@ -184,7 +178,8 @@ globalThis.onmessage = async ({data}) => {
   }
   try {
     px = await ready;
-    const answer = await answered(data);
+    text = data.text ?? text;
+    const answer = await answered({...data, text});
     postMessage(answer, (GIVEN[data.name] ?? []).flatMap(name => answer[name]?.buffer ?? []));
   } catch (error) {
     postMessage({failed: `${error.name}: ${error.message}`});

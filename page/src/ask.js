@@ -38,12 +38,15 @@ class Lane {
     if (this.running || !this.waiting.length) return;
     const {name, words, text} = this.running = this.waiting.shift(), module = await compiled;
     if (!this.worker) this.begin(module);
-    this.worker.postMessage({name, words, text});
+    // (a worker has the text that it was asked about last)
+    this.worker.postMessage({name, words, ...text === this.sent ? {} : {text}});
+    this.sent = text;
   }
 
   begin(module) {
     this.worker = new Worker(started ??= URL.createObjectURL(new Blob([code()], {type: "text/javascript"})));
     this.worker.postMessage({module});
+    this.sent = null;
     this.worker.onmessage = ({data}) => this.end(question => data.failed ? question.reject(new Error(data.failed)) : question.resolve(data));
     this.worker.onerror = event => this.replace(new Error(event.message ?? "the library ended"));
   }

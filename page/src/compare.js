@@ -78,7 +78,7 @@ export class Compare {
 
   paint() {
     const {only, head} = this, {rgb: colours, marks} = head;
-    this.screen.draw(head.width, head.height, painted(head.width, head.height, place => {
+    this.screen.draw(head.width, head.height, painted(place => {
       const colour = [colours[3 * place], colours[3 * place + 1], colours[3 * place + 2]];
       if (only === null || !marks[place]) return colour;
       return marks[place] === only ? [255, 214, 0] : colour.map(part => Math.round(part / 3));

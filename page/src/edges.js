@@ -2,7 +2,7 @@
 // binary, the lowest bit next to the array. They run in bit by bit: the leaf of a pixel is the bit of their sum that is marked. Bits that
 // are as the highest one, the sign, are left out; the highest one is marked for all of them.
 import {packed} from "./palette.js";
-import {made, put} from "./show.js";
+import {made, put, set} from "./show.js";
 
 const ROOM = 120, LEAST = 2, MOST = 9;
 // Of a bit that has run in, the one that the leaves show, and one to come: its colours as 0 and as 1.
@@ -35,7 +35,7 @@ export class Edges {
   // `wanted` has the form, its bits, the size of the array, and the bit that the leaves show now, below 0 before the first; or is null.
   show(wanted) {
     this.wanted = wanted && {...wanted, bits: needed(wanted)};
-    for (const each of this.canvases) each.hidden = !this.isOn || !wanted;
+    for (const each of this.canvases) set(each, "hidden", !this.isOn || !wanted);
     if (!this.isOn || !wanted) return;
     const {form: [a, b, c], bits, width, height, now} = this.wanted, [columns, rows] = this.canvases, last = Math.min(now, bits - 1);
     fill(columns, width, bits, (x, row) => [a * x + c, bits - 1 - row], last);

@@ -2,9 +2,9 @@
 import {ask, latest} from "./ask.js";
 import {circuitOf} from "./circuit.js";
 import {formOf} from "./passes.js";
-import {pixelOf, usedBits} from "./pixel.js";
+import {Bits, usedBits} from "./pixel.js";
 import {choice} from "./rove.js";
-import {at, made} from "./show.js";
+import {at, made, write} from "./show.js";
 import {waveform} from "./wave.js";
 import {wayOf} from "./way.js";
 
@@ -13,7 +13,8 @@ const GAP = 4, PARTS = ["bits", "circuit", "way", "waveform", "life"];
 export class Inside {
   // `machine` has the state, the course and the fields.
   constructor(machine) {
-    Object.assign(this, {machine, part: "bits", waves: {}});
+    Object.assign(this, {machine, part: "bits", waves: {}, bits: new Bits()});
+    this.none = made("p", "quiet", "Point at a pixel of the array, or click one to keep it.");
     this.fetchWave = latest((x, y) => this.takeWave(x, y).catch(machine.tell));
     this.mark = choice(at("inside-parts"), "inside", PARTS, part => this.choose(part));
     this.choose("bits");
@@ -32,17 +33,25 @@ export class Inside {
   show() {
     const {machine: {state, pixel, before, fields, course, player}, part} = this, isIn = pixel && state && pixel[0] < state.width && pixel[1] < state.height;
     if (!state || at("machine").hidden) return;
-    at("pixel-name").textContent = isIn ? pixel.join(", ") : "";
-    if (!isIn) return at("inside").replaceChildren(made("p", "quiet", "Point at a pixel of the array, or click one to keep it."));
-    const found = formOf(course?.operations[state.operation]?.[1] ?? ""), room = at("inside").clientWidth - GAP, used = usedBits(state, fields), high = at("inside").parentElement.clientHeight - at("inside").offsetTop + at("inside").parentElement.offsetTop;
-    const circuit = height => [circuitOf(state.next, state.pixel(...pixel), used, [room, height])];
+    write(at("pixel-name"), isIn ? pixel.join(", ") : "");
+    if (!isIn) return this.fill([this.none]);
+    const found = formOf(course?.operations[state.operation]?.[1] ?? ""), used = usedBits(state, fields);
+    // (what is asked of the layout takes long, so it is asked only where a part needs it)
+    const circuit = high => [circuitOf(state.next, state.pixel(...pixel), used, [at("inside").clientWidth - GAP, high])];
+    const room = ({parentElement, offsetTop}) => parentElement.clientHeight - offsetTop + parentElement.offsetTop - GAP;
     // (a wide page has room for the circuit below the bits)
-    const shown = {bits: () => [...pixelOf(state, before, fields, ...pixel), ...matchMedia("(min-width: 100rem)").matches ? circuit(0) : []], circuit: () => circuit(high - GAP),
+    const shown = {bits: () => [...this.bits.of(state, before, fields, ...pixel), ...matchMedia("(min-width: 100rem)").matches ? circuit(0) : []], circuit: () => circuit(room(at("inside"))),
       way: () => [wayOf(state, found?.form ?? null, found?.bits, pixel)], life: () => []};
     // (a waveform is asked for where nobody waits for the next state)
     if (part === "waveform") return player.isPlaying || this.fetchWave(...pixel);
-    at("inside").replaceChildren(...shown[part]());
+    this.fill(shown[part]());
     document.body.dataset.inside = `${pixel.join(" ")} ${state.clock}`;
+  }
+
+  // Shows some elements, where they are not those that are shown.
+  fill(parts) {
+    const known = at("inside").children;
+    if (parts.length !== known.length || parts.some((each, place) => each !== known[place])) at("inside").replaceChildren(...parts);
   }
 
   // The clocks of the operation under way, or of the last one.

@@ -28,6 +28,8 @@ export class Light {
     document.body.dataset.lit = face;
   }
 
-  // The images are other ones now.
-  again() { for (const [screen, numbers] of this.images) screen.glow(this.face ? numbers() : null, this.face); }
+  // Some images are other ones now, or all of them.
+  again(screens = this.images.map(([screen]) => screen)) {
+    for (const [screen, numbers] of this.images) if (screens.includes(screen)) screen.glow(this.face ? numbers() : null, this.face);
+  }
 }

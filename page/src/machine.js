@@ -9,8 +9,8 @@ import {NAMES, formOf} from "./passes.js";
 import {Inside} from "./inside.js";
 import {Player} from "./play.js";
 import {Predict} from "./predict.js";
-import {Screen, at, made, passChip} from "./show.js";
-import {fieldsOf, onesOf, viewsOf} from "./state.js";
+import {Screen, at, made, passChip, set, write} from "./show.js";
+import {changedPlanes, fieldsOf, isAnyOf, onesOf, viewsOf} from "./state.js";
 import {Strip} from "./strip.js";
 import {isShown, treeOf} from "./tree.js";
 import {Triangle} from "./triangle.js";
@@ -20,7 +20,7 @@ const GAP = 4, PICTURE = "best colours", FIRST_VIEW = "enable";
 
 export class Machine {
   constructor(tell) {
-    Object.assign(this, {tell, text: null, head: null, course: null, state: null, before: null, pixel: null});
+    Object.assign(this, {tell, text: null, head: null, course: null, state: null, before: null, pixel: null, fields: []});
     // What is shown large, and what next to it: names of views; none next to it is "".
     Object.assign(this, {view: PICTURE, beside: "", wanted: 0, frames: 0});
     this.player = new Player(this);
@@ -74,6 +74,7 @@ export class Machine {
     this.head = head;
     this.course = new Course(course);
     this.fields = fieldsOf(head.layout);
+    this.of = JSON.stringify([head.layout, head.layout ? head.facesOf : text]);
     at("clock").max = this.course.clocks;
     at("of").textContent = `of ${course.clocks.toLocaleString("en")}`;
     if (view) Object.assign(this, {view, beside: beside ?? ""});
@@ -142,6 +143,8 @@ export class Machine {
     this.before = this.stateOf === text ? this.state : null;
     this.stateOf = text;
     this.state = state;
+    // (what the move to this state changed; null if all is new)
+    this.changed = this.before && changedPlanes(this.before, state);
     at("machine").classList.remove("empty");
     at("machine").classList.toggle("old", !this.isCurrent());
     this.show();
@@ -151,9 +154,9 @@ export class Machine {
   }
 
   show() {
-    const {state} = this, of = JSON.stringify([this.head.layout, this.head.layout ? this.head.facesOf : this.text]);
-    if (this.viewsOf !== of) {
-      this.viewsOf = of;
+    const {state} = this;
+    if (this.viewsOf !== this.of) {
+      this.viewsOf = this.of;
       this.fillViews();
     }
     const unknown = [this.view, this.beside].filter(name => name && !this.viewNamed(name));
@@ -161,9 +164,9 @@ export class Machine {
     at("until").value = state.clock;
     // (the slider goes with the array, so that both are painted at once; it stays under a hand that moved on)
     if (this.isShown) at("clock").value = state.clock;
-    this.paint();
-    this.onShow();
-    this.showWall();
+    this.paint(this.changed);
+    if (isAnyOf(this.changed, this.planesOfFaces())) this.onShow();
+    document.body.dataset.read = this.wall.show(state, this.changed);
     this.strip.at(state.clock);
     this.showEdges();
     this.predict.offer(state);
@@ -183,13 +186,8 @@ export class Machine {
     const {width, height} = state, now = state.operationClock - 1 - state.levels;
     this.edges.show(found && {...found, width, height, now});
     const isSaid = this.edges.isOn && found && this.pixel;
-    at("sum").textContent = isSaid ? saidOf({...found, now}, this.pixel) : "";
-    at("sum").hidden = !isSaid;
-  }
-
-  showWall() {
-    const isAlike = this.before?.width === this.state.width && this.before.height === this.state.height;
-    document.body.dataset.read = this.wall.show(this.state, isAlike ? this.before : null);
+    write(at("sum"), isSaid ? saidOf({...found, now}, this.pixel) : "");
+    set(at("sum"), "hidden", !isSaid);
   }
 
   // The pass, the operation and the microinstruction that come next, in words.
@@ -200,12 +198,18 @@ export class Machine {
     const end = this.head.layout ? "all is done: key B has the picture" : "all is done";
     const place = isDone ? `${count.toLocaleString("en")} operations in ${state.clocks.toLocaleString("en")} clocks`
       : `operation ${operation} (of 0 to ${count - 1}), next its clock ${state.operationClock} (of 0 to ${course.startOf(operation + 1) - first - 1})`;
-    const number = made("span", "label", `pass ${pass + 1} of ${course.passes.length}`);
-    at("pass").replaceChildren(passChip(kind), number, ...worded(said));
-    at("operation").replaceChildren(...worded(isDone ? end : words));
-    at("line").replaceChildren(made("code", "", isDone ? "" : line), made("span", "quiet", place));
-    at("micro").replaceChildren(made("span", "label", "next"), made("code", "", state.micro ?? "nothing"),
-      made("span", "quiet", state.micro ? treeWords(state.micro) : ""));
+    if (this.told?.course !== course || this.told.pass !== pass)
+      at("pass").replaceChildren(passChip(kind), made("span", "label", `pass ${pass + 1} of ${course.passes.length}`), ...worded(said));
+    this.told = {course, pass};
+    this.tellOperation(isDone ? end : words);
+    const parts = {"#line code": isDone ? "" : line, "#line .quiet": place, "#micro code": state.micro ?? "nothing",
+      "#micro .quiet": state.micro ? treeWords(state.micro) : ""};
+    for (const [selector, said] of Object.entries(parts)) write(document.querySelector(selector), said);
+  }
+
+  tellOperation(words) {
+    if (words !== this.operation) at("operation").replaceChildren(...worded(words));
+    this.operation = words;
   }
 
   fillViews() {
@@ -263,9 +267,22 @@ export class Machine {
 
   zoom(way) { for (const screen of this.screens) if (!screen.stage.hidden) screen.zoomed(way); }
 
-  paint() {
+  // Paints what is shown large, where one of its planes is among those that changed; all of it where `changed` is null.
+  paint(changed = null) {
     if (!this.state) return;
-    this.triangle.show(false);
+    const isSame = changed && !this.triangle.isOn && `${this.view} ${this.beside}` === this.painted;
+    if (!isSame) this.arrangeViews();
+    [this.view, this.beside].forEach((name, place) => {
+      const view = name && this.viewNamed(name);
+      if (view) this.paintOne(this.screens[place], view, !isSame || isAnyOf(changed, view.planes));
+    });
+    this.painted = `${this.view} ${this.beside}`;
+    write(at("count"), this.screens[0].said);
+  }
+
+  // Makes room for what is shown large.
+  arrangeViews() {
+    if (this.triangle.isOn) this.triangle.show(false);
     this.view = (this.viewNamed(this.view) ?? this.viewNamed(FIRST_VIEW)).name;
     this.beside = this.viewNamed(this.beside)?.name ?? "";
     at("view").value = this.view;
@@ -274,9 +291,7 @@ export class Machine {
     const arranged = `${this.beside !== ""} ${this.state.width} ${this.state.height}`;
     if (arranged !== this.arranged) this.arrange();
     this.arranged = arranged;
-    [this.view, this.beside].forEach((name, place) => { if (name) this.paintOne(this.screens[place], this.viewNamed(name)); });
     this.wall.mark([this.view, this.beside]);
-    at("count").textContent = this.onesSaid(this.viewNamed(this.view));
   }
 
   // Two images are one above the other if that makes them larger.
@@ -284,13 +299,14 @@ export class Machine {
     const {clientWidth: wide, clientHeight: high} = at("stages"), {width, height} = this.state;
     const scale = (columns, rows) => Math.min(wide / columns / width, high / rows / height);
     at("stages").classList.toggle("stacked", scale(1, 2) > scale(2, 1));
+    at("machine").classList.toggle("square", width <= height && !this.beside && !isShown(this.state));
   }
 
-  paintOne(screen, view) {
-    const {state, head} = this, {width, height} = state, pixels = new Uint32Array(width * height), count = this.onesSaid(view);
-    view.fill(state, pixels);
-    screen.draw(width, height, pixels, head.layout ? [head.width, head.height] : null);
-    screen.canvas.setAttribute("aria-label", `the array at clock ${state.clock}, ${view.label}${count && `: ${count}`}; arrow keys choose a pixel`);
+  paintOne(screen, view, isChanged) {
+    const {state, head} = this, {width, height} = state;
+    if (isChanged) screen.draw(width, height, pixels => view.fill(state, pixels), head.layout ? [head.width, head.height] : null);
+    if (isChanged) screen.said = this.onesSaid(view);
+    screen.canvas.setAttribute("aria-label", `the array at clock ${state.clock}, ${view.label}${screen.said && `: ${screen.said}`}; arrow keys choose a pixel`);
   }
 
   onesSaid({plane}) {
@@ -298,15 +314,21 @@ export class Machine {
     return plane === undefined ? "" : `${onesOf(state, plane).toLocaleString("en")} of ${(state.width * state.height).toLocaleString("en")} are 1`;
   }
 
+  // The planes of the faces in key B: the first, and the one after the last.
+  planesOfFaces() {
+    const {at: first = 0, length = 0} = this.fields.find(each => each.name === "best face") ?? {};
+    return [first, first + length];
+  }
+
   // The numbers of the faces in key B, row by row; null where there are none.
   faces() {
-    const field = this.isShown && this.fields.find(each => each.name === "best face");
-    return field ? this.state.numbers(field.at, field.length) : null;
+    const [first, end] = this.planesOfFaces();
+    return this.isShown && end ? this.state.numbers(first, end - first) : null;
   }
 
   faceAt(x, y) {
-    const {at: first, length} = this.fields.find(each => each.name === "best face");
-    return this.state.number(first, length, x, y);
+    const [first, end] = this.planesOfFaces();
+    return this.state.number(first, end - first, x, y);
   }
 
   point(pixel) {
@@ -327,7 +349,7 @@ export class Machine {
     const {state} = this;
     if (!state || at("machine").hidden) return;
     const pixel = this.pixel && this.pixel[0] < state.width && this.pixel[1] < state.height ? this.pixel : null;
-    at("tree-part").hidden = !isShown(state);
+    set(at("tree-part"), "hidden", !isShown(state));
     const width = isShown(state) ? at("tree-part").parentElement.clientWidth - GAP : 0;
     if (width > 0) at("tree").replaceChildren(treeOf(state, pixel, width));
     this.parts.show();

@@ -55,7 +55,7 @@ const light = new Light(editor, machine.strip);
 machine.screens.forEach(screen => light.add(screen, () => machine.faces()));
 light.add(picture.screen, () => picture.maps?.faces ?? null);
 machine.onPoint = pixel => light.on(pixel && machine.isShown && machine.head.layout ? machine.faceAt(...pixel) : 0);
-machine.onShow = () => light.again();
+machine.onShow = () => light.again(machine.screens);
 machine.onScene = text => {
   open(untouched("triangle", text), text);
   choose("write");

@@ -116,14 +116,14 @@ export class Picture {
   nextImage(way) { this.choose(IMAGES[(IMAGES.indexOf(this.image) + way + IMAGES.length) % IMAGES.length]); }
 
   paint() {
-    if (!this.maps) return this.screen.draw(1, 1, painted(1, 1, () => [0, 0, 0]));
+    if (!this.maps) return this.screen.draw(1, 1, painted(() => [0, 0, 0]));
     const {depths, faces, rgb} = this.maps, grey = greys(depths, this.head.far);
     const paints = {
       colours: place => [rgb[3 * place], rgb[3 * place + 1], rgb[3 * place + 2]],
       depths: place => grey(depths[place]),
       faces: place => hue(faces[place])};
     const {width, height} = this.head;
-    this.screen.draw(width, height, painted(width, height, paints[this.image]));
+    this.screen.draw(width, height, painted(paints[this.image]));
     at("picture").setAttribute("aria-label", this.inWords());
     this.point(this.screen.kept);
   }

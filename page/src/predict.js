@@ -1,6 +1,6 @@
 // A prediction that marks itself: which pixels will be enabled when the operation under way has ended. They are painted on the array, the machine goes
 // on, and what differs is said and marked.
-import {at, made} from "./show.js";
+import {at, made, set} from "./show.js";
 
 const MOST = 256;
 
@@ -18,7 +18,7 @@ export class Predict {
 
   // Whether an array is small enough to be painted pixel by pixel.
   offer(state) {
-    at("predict").hidden = state.width * state.height > MOST || state.clock === state.clocks;
+    set(at("predict"), "hidden", state.width * state.height > MOST || state.clock === state.clocks);
     if (this.due !== null && this.due !== state.clock) this.stop();
   }
 

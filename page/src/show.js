@@ -40,13 +40,16 @@ export class Screen {
     canvas.addEventListener("pointerdown", event => this.drag(event));
   }
 
-  // Draws an image of colours as `packed` gives them, row by row; `inner` is the size of the picture in it, where that is another one.
-  draw(width, height, pixels, inner = null) {
+  // Draws an image: `fill` is given its places, row by row, to write colours there as `packed` gives them. `inner` is the size of the
+  // picture in it, where that is another one.
+  draw(width, height, fill, inner = null) {
     const isOther = this.canvas.width !== width || this.canvas.height !== height, isPlaced = !isOther && this.scale && String(inner) === String(this.inner);
     if (isOther) Object.assign(this.canvas, {width, height});
     if (isOther) this.zoom = null;
+    if (isOther || !this.image) this.image = new ImageData(width, height);
     this.inner = inner;
-    put(this.canvas, pixels);
+    fill(new Uint32Array(this.image.data.buffer));
+    this.canvas.getContext("2d", {alpha: false}).putImageData(this.image, 0, 0);
     if (this.kept && (this.kept[0] >= width || this.kept[1] >= height)) this.keep(null);
     if (!isPlaced) this.place();
   }
@@ -79,7 +82,7 @@ export class Screen {
     this.lit.hidden = numbers?.length !== width * height;
     if (this.lit.hidden) return;
     Object.assign(this.lit, {width, height});
-    put(this.lit, Uint32Array.from(numbers, each => each === number ? LIT : 0));
+    put(this.lit, Uint32Array.from({length: numbers.length}, (_, place) => numbers[place] === number ? LIT : 0));
     this.lay(this.lit, 0, 0, width, height);
   }
 
@@ -175,12 +178,8 @@ export function follow(element, {pointerId}, moved, ended = () => {}) {
   for (const end of ["pointerup", "pointercancel"]) element.addEventListener(end, () => { ended(); stop.abort(); }, {signal});
 }
 
-// The colours of an image, where `paint(at)` is red, green and blue of the pixel at that place.
-export function painted(width, height, paint) {
-  const pixels = new Uint32Array(width * height);
-  for (let at = 0; at < pixels.length; at++) pixels[at] = packed(paint(at));
-  return pixels;
-}
+// Writes the colours of an image, where `paint(at)` is red, green and blue of the pixel at that place.
+export const painted = paint => pixels => { for (let at = 0; at < pixels.length; at++) pixels[at] = packed(paint(at)); };
 
 // A canvas with as many pixels as the screen has for it, and its pen.
 export function fitted(canvas) {
@@ -209,6 +208,14 @@ export function made(name, kind = "", text = "", ...inside) {
   element.append(...inside);
   return element;
 }
+
+// Gives an element words or a property that are not its own yet: a browser lays out again also what is written as it was.
+export function write(element, words) {
+  if (element.textContent === words) return;
+  if (element.firstChild) element.firstChild.data = words; else element.textContent = words;
+}
+
+export function set(element, name, value) { if (element[name] !== value) element[name] = value; }
 
 // A small square of a colour, as CSS writes it; and of the colour of a kind of passes.
 export const chip = colour => Object.assign(made("i", "chip"), {style: `background: ${colour}`});

@@ -12,7 +12,7 @@ const FEWEST = 3;
 export class Strip {
   // `go` is called with a clock.
   constructor(go, tell) {
-    Object.assign(this, {go, tell, text: null, course: null, thumbs: [], picture: null, lit: 0, clock: 0});
+    Object.assign(this, {go, tell, text: null, course: null, thumbs: [], picture: null, lit: 0, clock: 0, wide: 0});
     // (called when another stretch of clocks is shown)
     this.onView = () => {};
     // (called with the number of the face that the pass under the pointer is about)
@@ -159,6 +159,7 @@ export class Strip {
     const canvas = at("line-of-passes"), {course} = this;
     if (!course || !canvas.clientWidth) return;
     this.arrange();
+    this.wide = canvas.clientWidth;
     const rows = new Rows(canvas, fitted(canvas), course.view), {passStarts, operations} = course;
     const ink = rows.named("--ink"), colours = Object.fromEntries(Object.keys(KINDS).map(kind => [kind, rows.named("--pass-" + kind)]));
     const shades = ["--shade", "--line"].map(name => rows.named(name)), begun = [0, 0];
@@ -186,7 +187,7 @@ export class Strip {
   // Marks the clock that is shown.
   mark() {
     const [from, to] = this.course.view;
-    at("now").style.left = 100 * (this.clock - from) / Math.max(1, to - from) + "%";
+    at("now").style.transform = `translateX(${this.wide * (this.clock - from) / Math.max(1, to - from)}px)`;
   }
 }
 

@@ -85,7 +85,7 @@ export class Triangle {
     const {pixels, count, trouble} = await ask("enabled", {}, rows.join("\n"));
     if (!this.isOn || trouble) return;
     const said = `${count.toLocaleString("en")} of ${(width * height).toLocaleString("en")} pixels are enabled`;
-    this.screen.draw(width, height, pixels, this.screen.inner);
+    this.screen.draw(width, height, own => own.set(pixels), this.screen.inner);
     this.screen.canvas.setAttribute("aria-label", `the array, and the triangle: ${said}`);
     at("count").textContent = "";
     at("edges-said").replaceChildren(...edges.map((edge, number) => made("code", "", `edge ${number + 1}: ${edge.join(" ")}`)),

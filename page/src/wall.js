@@ -1,18 +1,17 @@
 // The wall: every plane of the array at once, each as a small image, and both keys as colours, depths and faces. What the last move
 // changed is framed, and only that is drawn again. All images are parts of one canvas, as a browser takes long to lay many over each other.
 import {rove} from "./rove.js";
-import {made, put} from "./show.js";
-import {SMALL} from "./state.js";
+import {made} from "./show.js";
+import {gridIn, isAnyOf} from "./state.js";
 
-const CAPTION = 13, LEAST = 33, GAP = 4, COARSE = 64;
+const CAPTION = 13, LEAST = 33, GAP = 4;
 // The groups of planes, each with a heading; a caption below a plane says only what the heading does not.
 const GROUPS = ["", "key B", "key T", "rest"];
 
 export class Wall {
   // `onChoose` is called with the name of a view, and whether it is shown next to the large one.
   constructor(root, onChoose) {
-    // (each image is drawn on `page` at the array's size, or if that is much larger in small, and from there on the wall's sheet)
-    Object.assign(this, {root, onChoose, tiles: [], of: null, shown: null, step: 1, page: made("canvas"), sheet: made("canvas", "sheet")});
+    Object.assign(this, {root, onChoose, tiles: [], of: null, shown: null, sheet: made("canvas", "sheet")});
     this.sheet.setAttribute("aria-hidden", "true");
     root.addEventListener("keydown", event => this.key(event));
     rove(root, ".tile");
@@ -23,7 +22,7 @@ export class Wall {
   load(views, used) {
     this.tiles = views.filter(view => view.group !== "memory" || used.has(view.plane)).map(view => this.tile(view));
     this.order();
-    this.of = this.shown = this.laid = null;
+    this.of = this.shown = this.laid = this.image = null;
     this.root.replaceChildren(this.sheet, ...GROUPS.flatMap((heading, group) => {
       const own = this.tiles.filter(tile => groupOf(tile.view) === group).map(tile => tile.button);
       return heading && own.length ? [made("b", "heading", heading), ...own] : own;
@@ -44,20 +43,18 @@ export class Wall {
     return {view, place, button};
   }
 
-  // Shows a state. `before` is the one that was shown before it, of the same text, or null. Gives how many words were read.
-  show(state, before) {
+  // Shows a state, in which some planes changed, null for all of them. Gives how many words were read.
+  show(state, changed) {
     if (this.of !== `${state.width} ${state.height}`) this.size(state);
-    const changed = before ? changedPlanes(before, state) : null;
-    let read = before ? state.words.length : 0;
-    for (const tile of this.tiles) {
-      const {view: {planes: [first, end]}} = tile, isChanged = Boolean(changed) && changed.slice(first, end).includes(1);
-      tile.button.classList.toggle("changed", isChanged);
-      if (isChanged || !before || this.shown !== before) {
-        this.draw(tile, state);
-        read += (end - first) * state.perPlane;
-      }
-    }
+    let read = changed ? state.words.length : 0;
+    const drawn = this.tiles.filter(tile => {
+      const {view: {planes}, button} = tile, isChanged = isAnyOf(changed, planes);
+      button.classList.toggle("changed", changed !== null && isChanged);
+      if (isChanged) read += (planes[1] - planes[0]) * state.perPlane;
+      return isChanged;
+    });
     this.shown = state;
+    this.draw(drawn);
     return read;
   }
 
@@ -67,29 +64,31 @@ export class Wall {
     this.fit();
   }
 
-  draw({view, box}, state) {
-    if (!box) return;
-    view.fill(state, this.pixels, this.step);
-    put(this.page, this.pixels);
-    this.pen.drawImage(this.page, ...box);
+  // Draws some tiles on the sheet, and no more of it than they take.
+  draw(tiles) {
+    if (!tiles.length || !this.image) return;
+    for (const {view, grid} of tiles) view.fillSmall(this.shown, grid);
+    const [left, top] = [0, 1].map(way => Math.min(...tiles.map(({box}) => box[way])));
+    const [right, bottom] = [0, 1].map(way => Math.max(...tiles.map(({box}) => box[way] + box[way + 2])));
+    this.sheet.getContext("2d").putImageData(this.image, 0, 0, left, top, right - left, bottom - top);
   }
 
   // Gives the sheet the size of the wall, and draws all of it.
   lay() {
-    const {sheet, tiles, shown} = this, times = devicePixelRatio;
+    const {sheet, tiles} = this, times = devicePixelRatio, [width, height] = this.of.split(" ").map(Number);
     // (the sheet itself must not be what makes the wall as wide and high as it was)
     Object.assign(sheet.style, {width: 0, height: 0});
-    const boxes = tiles.map(({place}) => [place.offsetLeft, place.offsetTop, place.offsetWidth, place.offsetHeight]);
-    const ends = [0, 1].map(way => Math.max(0, ...boxes.map(box => box[way] + box[way + 2])));
-    Object.assign(sheet, {width: ends[0] * times, height: ends[1] * times});
-    Object.assign(sheet.style, {width: ends[0] + "px", height: ends[1] + "px"});
-    const [width, height] = this.of.split(" ").map(Number), isFine = width > COARSE;
-    this.pen = Object.assign(sheet.getContext("2d"), {imageSmoothingEnabled: isFine, imageSmoothingQuality: "medium"});
-    tiles.forEach((tile, at) => { tile.box = boxes[at].map(each => each * times); });
-    this.step = isFine && height >= SMALL && tiles[0].box[2] <= width / SMALL ? SMALL : 1;
-    Object.assign(this.page, {width: width / this.step, height: height / this.step});
-    this.pixels = new Uint32Array(this.page.width * this.page.height);
-    if (shown) for (const tile of tiles) this.draw(tile, shown);
+    for (const tile of tiles) {
+      const {offsetLeft, offsetTop, offsetWidth, offsetHeight} = tile.place;
+      tile.box = [offsetLeft, offsetTop, offsetWidth, offsetHeight].map(each => Math.round(each * times));
+    }
+    const ends = [0, 1].map(way => Math.max(1, ...tiles.map(({box}) => box[way] + box[way + 2])));
+    Object.assign(sheet, {width: ends[0], height: ends[1]});
+    Object.assign(sheet.style, {width: ends[0] / times + "px", height: ends[1] / times + "px"});
+    this.image = new ImageData(...ends);
+    const pixels = new Uint32Array(this.image.data.buffer);
+    for (const tile of tiles) tile.grid = gridIn(pixels, ends[0], tile.box, {width, height});
+    if (this.shown) this.draw(tiles);
   }
 
   // Marks the tiles that are shown large.
@@ -127,15 +126,3 @@ export class Wall {
 }
 
 function groupOf({group, field = ""}) { return group === "registers" ? 0 : field.startsWith("best") ? 1 : field.startsWith("candidate") ? 2 : 3; }
-
-// Of each plane 1 where a word of it is another one.
-function changedPlanes(before, state) {
-  const {words, perPlane} = state, out = new Uint8Array(Math.ceil(words.length / perPlane));
-  for (let plane = 0; plane < out.length; plane++) {
-    const end = Math.min(words.length, (plane + 1) * perPlane);
-    let at = plane * perPlane;
-    while (at < end && words[at] === before.words[at]) at += 1;
-    out[plane] = Number(at < end);
-  }
-  return out;
-}

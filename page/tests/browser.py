@@ -43,6 +43,7 @@ class Browser:
         os.set_inheritable(to_write[1], True)
         self.process = subprocess.Popen(words, stdin=subprocess.DEVNULL, stdout=subprocess.DEVNULL, stderr=subprocess.DEVNULL,
                                         pass_fds=sorted(ends | {3, 4}), preexec_fn=plumbed, start_new_session=True)
+        self.pid = self.process.pid
         for end in ends:
             os.close(end)
         self.out, self.into = os.fdopen(to_read[1], "wb", 0), os.fdopen(to_write[0], "rb", 0)

@@ -85,3 +85,12 @@ def test_the_wall_becomes_narrow_with_the_window(browser: Browser) -> None:
     browser.until("document.body.dataset.shown === '40000' && document.querySelector('.sheet').offsetWidth")
     browser.size(640, 600)
     browser.until("(({clientWidth, scrollWidth}) => clientWidth < 640 && clientWidth === scrollWidth)(document.getElementById('planes'))", 10)
+
+
+def test_all_planes_are_in_sight(browser: Browser) -> None:
+    """The letters use 64 bits of the memory: with the registers and the numbers of both keys they have 74 images."""
+    browser.size(1280, 720)
+    pages.alone(browser, fragment="#s=letters&t=machine&c=20000&v=enable&p=60,180")
+    browser.until("document.querySelectorAll('.tile').length === 74 && document.body.dataset.shown === '20000'")
+    hidden = "[...document.querySelectorAll('.tile')].filter(each => each.getBoundingClientRect().bottom > document.getElementById('planes').getBoundingClientRect().bottom).length"
+    browser.until("%s === 0" % hidden, 5)

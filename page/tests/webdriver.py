@@ -60,6 +60,7 @@ class Driven:
             process = subprocess.Popen(words, stdin=subprocess.DEVNULL, stdout=log, stderr=log, env=self.environment,
                                        start_new_session=True, pass_fds=pass_fds)
         self.processes.append(process)
+        self.pid = self.processes[0].pid
         return process
 
     def __enter__(self) -> Driven:

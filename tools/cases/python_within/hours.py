@@ -3,9 +3,9 @@ import functools
 import itertools
 
 
-def text(pairs=10, planes=15):
+def text(pairs=10, planes=15, side=512):
     """Pairs of thick solids, joined and then met: 2^pairs products, each of so many solids with twice so many planes."""
-    lines = ["pxscene 1", "picture 512 512", "depth 16"]
+    lines = ["pxscene 1", "picture %d %d" % (side, side), "depth 16"]
     for pair, name in itertools.product(range(pairs), "ab"):
         lines.append("solid %s%d 200 100 50" % (name, pair))
         lines += ["front %d %d %d" % (pair - at, at, 10 + at) for at in range(planes)]
