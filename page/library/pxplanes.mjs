@@ -319,26 +319,18 @@ export class Library {
       operation: long(40), operationClock: long(48), next: next ? new Micro(next) : null};
   }
 
-  #refusal(status, found) {
-    const {line, number, operations, clocks, room} = found;
+  #refusal(status, {line, cause: why, kind: which, number, operations, clocks, room, faces}) {
     const word = (call, at) => this.#with([WORD], ([place]) => this.#letters(place, Number(call(at, BigInt(place), BigInt(WORD)))));
-    if (status === STATUS.malformed) {
-      const cause = word(this.#calls.pxplanes_cause_name, found.cause);
-      return new Refused(`malformed line ${line}: ${cause}`, status, {line, cause});
-    }
-    if (status === STATUS.limit) {
-      const kind = word(this.#calls.pxplanes_kind_name, found.kind);
-      return new Refused(`limit line ${line}: ${kind} ${number}`, status, {line, kind, number});
-    }
-    if (status === STATUS.usage) return new Refused("the words name no command", status);
-    if (status === STATUS.clock) return new Refused(`there are ${clocks} clocks`, status, {clocks});
-    if (status === STATUS.operation) return new Refused(`there are ${operations} operations`, status, {operations});
-    if (status === STATUS.grid) return new Refused("a grid has not so many columns or rows", status);
-    if (status === STATUS.face) return new Refused(`faces are numbered from 1 to ${found.faces}`, status);
-    if (status === STATUS.window) return new Refused("a window has not so many columns or rows", status);
-    if (status === STATUS.micro) return new Refused(`element ${number} is no microinstruction`, status, {number});
-    if (status === STATUS.room) return new Refused(`${room} elements are needed`, status, {number: room});
-    return new Refused(status === STATUS.memory ? "out of memory" : `status ${status}`, status, {number});
+    const cause = status === STATUS.malformed ? word(this.#calls.pxplanes_cause_name, why) : "";
+    const kind = status === STATUS.limit ? word(this.#calls.pxplanes_kind_name, which) : "";
+    const notes = {
+      [STATUS.usage]: "the words name no command", [STATUS.malformed]: `malformed line ${line}: ${cause}`,
+      [STATUS.limit]: `limit line ${line}: ${kind} ${number}`, [STATUS.memory]: "out of memory", [STATUS.room]: `${room} elements are needed`,
+      [STATUS.clock]: `there are ${clocks} clocks`, [STATUS.grid]: "a grid has not so many columns or rows",
+      [STATUS.micro]: `element ${number} is no microinstruction`, [STATUS.operation]: `there are ${operations} operations`,
+      [STATUS.window]: "a window has not so many columns or rows", [STATUS.face]: `faces are numbered from 1 to ${faces}`};
+    const found = status === STATUS.room ? {number: room} : {line, cause, kind, number, clocks, operations};
+    return new Refused(notes[status] ?? `status ${status}`, status, found);
   }
 }
 
