@@ -163,6 +163,7 @@ export class Library {
   run(text: Text, words?: Text): Uint8Array;
   /** The words of the state after some microinstructions, as `packed` gives them or your own. */
   clocks(state: Pick<State, "words" | "width" | "height">, packed: BigUint64Array): Uint32Array;
+  /** `starts` are the clocks of all of `course`; with them a machine makes clocks of the states that it keeps. */
   machine(text: Text, starts?: readonly number[] | null): Machine;
 }
 

@@ -185,6 +185,7 @@ export class Library {
   // The microinstructions of so many clocks, from `first` on, as the library packs them.
   packed(text, first, count) {
     const begin = whole(first, "first"), size = MICRO * whole(count, "count", Number.MAX_SAFE_INTEGER / MICRO);
+    this.#needs("micros", text, begin, size / MICRO);
     return this.#ask("micros", text, [[size, MICRO]], (found, [room]) => this.#copy(BigUint64Array, room, size), [BigInt(begin)]);
   }
 
@@ -196,10 +197,16 @@ export class Library {
   // The operations of a scene or of a listing, so many from `first` on, or all from there; each with what it is for.
   course(text, first = 0, count = null) {
     const begin = whole(first, "first"), all = count === null ? Math.max(0, this.counts(text).operations - begin) : whole(count, "count", Number.MAX_SAFE_INTEGER / OPERATION);
+    this.#needs("course", text, begin, all);
     return this.#ask("course", text, [[OPERATION * all, OPERATION]], (found, [room]) => {
       const view = new DataView(this.#calls.memory.buffer, room, OPERATION * all);
       return Array.from({length: all}, (_, at) => new Operation(view, OPERATION * at));
     }, [BigInt(begin)]);
+  }
+
+  // Refuses what lies past the end of a text, before memory is asked for a long stretch of it.
+  #needs(name, text, first, count) {
+    if (count > STRETCH) this.#ask(name, text, [[0, 1]], () => null, [BigInt(first) + BigInt(count)]);
   }
 
   // The bytes that the program writes for a command's words, as "tile 600 400", with the text as its standard input.
@@ -312,26 +319,18 @@ export class Library {
       operation: long(40), operationClock: long(48), next: next ? new Micro(next) : null};
   }
 
-  #refusal(status, found) {
-    const {line, number, operations, clocks, room} = found;
+  #refusal(status, {line, cause: why, kind: which, number, operations, clocks, room, faces}) {
     const word = (call, at) => this.#with([WORD], ([place]) => this.#letters(place, Number(call(at, BigInt(place), BigInt(WORD)))));
-    if (status === STATUS.malformed) {
-      const cause = word(this.#calls.pxplanes_cause_name, found.cause);
-      return new Refused(`malformed line ${line}: ${cause}`, status, {line, cause});
-    }
-    if (status === STATUS.limit) {
-      const kind = word(this.#calls.pxplanes_kind_name, found.kind);
-      return new Refused(`limit line ${line}: ${kind} ${number}`, status, {line, kind, number});
-    }
-    if (status === STATUS.usage) return new Refused("the words name no command", status);
-    if (status === STATUS.clock) return new Refused(`there are ${clocks} clocks`, status, {clocks});
-    if (status === STATUS.operation) return new Refused(`there are ${operations} operations`, status, {operations});
-    if (status === STATUS.grid) return new Refused("a grid has not so many columns or rows", status);
-    if (status === STATUS.face) return new Refused(`faces are numbered from 1 to ${found.faces}`, status);
-    if (status === STATUS.window) return new Refused("a window has not so many columns or rows", status);
-    if (status === STATUS.micro) return new Refused(`element ${number} is no microinstruction`, status, {number});
-    if (status === STATUS.room) return new Refused(`${room} elements are needed`, status, {number: room});
-    return new Refused(status === STATUS.memory ? "out of memory" : `status ${status}`, status, {number});
+    const cause = status === STATUS.malformed ? word(this.#calls.pxplanes_cause_name, why) : "";
+    const kind = status === STATUS.limit ? word(this.#calls.pxplanes_kind_name, which) : "";
+    const notes = {
+      [STATUS.usage]: "the words name no command", [STATUS.malformed]: `malformed line ${line}: ${cause}`,
+      [STATUS.limit]: `limit line ${line}: ${kind} ${number}`, [STATUS.memory]: "out of memory", [STATUS.room]: `${room} elements are needed`,
+      [STATUS.clock]: `there are ${clocks} clocks`, [STATUS.grid]: "a grid has not so many columns or rows",
+      [STATUS.micro]: `element ${number} is no microinstruction`, [STATUS.operation]: `there are ${operations} operations`,
+      [STATUS.window]: "a window has not so many columns or rows", [STATUS.face]: `faces are numbered from 1 to ${faces}`};
+    const found = status === STATUS.room ? {number: room} : {line, cause, kind, number, clocks, operations};
+    return new Refused(notes[status] ?? `status ${status}`, status, found);
   }
 }
 
@@ -341,6 +340,7 @@ export class Micro {
   constructor(word) {
     if (typeof word !== "bigint") throw new TypeError(`the word of a microinstruction is ${kindOf(word)}; a BigInt is expected`);
     const low = Number(word & 0xffffffffn), high = Number(word >> 32n), act = high & 255, lines = high >> 24;
+    if (!ACTS[act] || word >> 64n) throw new RangeError(`${word} is the word of no microinstruction`);
     Object.assign(this, {act: ACTS[act], place: low, value: high >> 8 & 1, tree: TREES[high >> 16 & 3],
       lines: [lines & 1, lines >> 1 & 1, lines >> 2 & 1], hasPlace: HAVE_A_PLACE.has(act), hasValue: HAVE_A_VALUE.has(act)});
   }
@@ -427,8 +427,9 @@ export class State {
 
   // Output and carry of a node of the tree: levels from 1 on, a level's nodes from 0 on.
   node(level, index) {
-    if (!whole(level, "level", this.levels)) throw new RangeError("level is 0; the first level of the tree is 1");
-    const place = 2 ** level + whole(index, "index", 2 ** level - 1), wide = 2 * Math.ceil(2 ** (this.levels + 1) / 64), first = this.words.length - 2 * wide;
+    const depth = whole(level, "level", this.levels);
+    if (!depth) throw new RangeError("level is 0; the first level of the tree is 1");
+    const place = 2 ** depth + whole(index, "index", 2 ** depth - 1), wide = 2 * Math.ceil(2 ** (this.levels + 1) / 64), first = this.words.length - 2 * wide;
     return [0, 1].map(row => this.words[first + row * wide + (place >> 5)] >>> (place & 31) & 1);
   }
 }
@@ -442,6 +443,9 @@ export class Machine {
     Object.assign(this, {library, text, starts, kept: new Map(), packed: [0, new BigUint64Array(0)]});
     this.first = library.state(text, 0);
     this.clocks = this.first.clocks;
+    const operations = starts === null ? null : library.counts(text).operations;
+    if (starts !== null && (starts.length !== operations || starts[operations - 1] >= this.clocks))
+      throw new RangeError(`starts has ${starts.length} clocks; one below ${this.clocks} is expected for each of ${operations} operations`);
     this.most = Math.max(2 * READY, Math.min(LATEST, Math.floor(KEPT_BYTES / this.first.words.byteLength)));
     this.canStep = library.hasClocks && starts !== null;
     this.#keep(this.first);
@@ -468,10 +472,10 @@ export class Machine {
 
   // Makes the states before a clock, as many as are near, so that going back finds them.
   prepare(clock) {
-    whole(clock, "clock", this.clocks);
-    if (!this.canStep || clock < READY || this.kept.has(clock - 1)) return;
-    let known = this.#keep(this.#ofText(clock - READY));
-    while (known.clock + 1 < clock) known = this.#keep(this.#after(known, known.clock + 1));
+    const made = whole(clock, "clock", this.clocks);
+    if (!this.canStep || made < READY || this.kept.has(made - 1)) return;
+    let known = this.#keep(this.#ofText(made - READY));
+    while (known.clock + 1 < made) known = this.#keep(this.#after(known, known.clock + 1));
   }
 
   // Goes on from a state that is near.

@@ -38,7 +38,7 @@ const WRONG = [
   () => undefined, () => null, () => true, () => NaN, () => -1, () => 1.5, () => 2 ** 53, () => 1e300, () => Infinity, () => -5n, () => 10n ** 30n, () => 2n ** 64n,
   () => "", () => "7", () => "pxscene 1\n", () => "\ud800", () => "\0".repeat(70), () => Symbol("s"), () => ({}), () => [], () => [1, 2], () => () => 0, () => new Date(0),
   () => new Proxy([], {}), () => new Map(), () => ({toString() { throw new Error("no text"); }}), () => ({valueOf: () => 3}), () => ({length: -1}), () => new ArrayBuffer(9),
-  () => new SharedArrayBuffer(9), detached, lying, () => below(1e6), () => BigInt(below(1e9)), () => text.slice(0, below(text.length)),
+  () => new SharedArrayBuffer(9), detached, lying, () => below(1e6), () => BigInt(below(1e9)), () => BigInt(below(9)), () => [0, below(9)], () => text.slice(0, below(text.length)),
   () => text.replace(/\d/g, digit => share() < 0.1 ? String(below(10)) : digit), ...KINDS.map(Kind => () => arrayOf(Kind))];
 
 const state = px.state(text, 3000), machine = px.machine(text), packed = px.packed(text, 3000, 5);
@@ -49,6 +49,8 @@ const OTHERS = [[state, "bit", ["enable", 3, 4]], [state, "pixel", [3, 4]], [sta
   [state, "planeOf", [7]], [machine, "state", [9]], [machine, "micros", [4, 3]], [machine, "prepare", [900]]];
 const calls = [...Object.entries(CALLS).map(([name, words]) => [px, name, words]), ...OTHERS];
 const FIELDS = ["words", "width", "height"];
+// What an engine says where nothing looked at an argument.
+const BY_ACCIDENT = /Cannot mix|Cannot convert|Cannot read|can't convert|not a function|not iterable|undefined \(/;
 
 // The bytes of an answer, as a text to compare.
 const shownAs = value => JSON.stringify(value, (_, own) => typeof own === "bigint" ? String(own) : ArrayBuffer.isView(own) ? Array.from(own, String).join() : own);
@@ -70,7 +72,7 @@ function one(at) {
     own[name](...given);
   } catch (error) {
     outcome = error?.name;
-    if (!["TypeError", "RangeError", "Refused"].includes(outcome) || !error.message) failures.push(`${name}, argument ${place}: ${error?.stack}`);
+    if (!["TypeError", "RangeError", "Refused"].includes(outcome) || !error.message || BY_ACCIDENT.test(error.message)) failures.push(`${name}, argument ${place}: ${error?.stack}`);
   }
   outcomes[outcome] = (outcomes[outcome] ?? 0) + 1;
   if (at % EVERY === 0 && RIGHT.some((call, which) => shownAs(call()) !== right[which])) failures.push(`${name}, argument ${place}: another answer after it`);

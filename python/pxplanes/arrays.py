@@ -14,8 +14,7 @@ except ImportError:
 
 
 class Buffer:
-    """Room for so many elements of a kind: B, I, i or Q, of 1, 4, 4 and 8 bytes, or another of a size that is given.
-    The system hands out its pages as they are written, so too much room costs nothing."""
+    """Room for so many elements of a kind: B, I, i or Q, of 1, 4, 4 and 8 bytes, or another of a size that is given."""
 
     def __init__(self, kind: str, count: int, size: int = 0):
         self.kind, self.count, self.size = kind, count, size or struct.calcsize("=" + kind)
@@ -42,15 +41,21 @@ def shaped(flat: memoryview, kind: str, shape: Sequence[int]) -> Any:
     return flat.cast(kind, list(shape)) if all(shape) else flat.cast(kind)
 
 
-def put(whole: Any, x: int, y: int, part: Any) -> None:
-    """Writes an array of two dimensions into another from column x and row y on."""
-    high, wide = part.shape
+def put(wholes: Sequence[Any], x: int, y: int, parts: Sequence[Any]) -> None:
+    """Writes arrays of two dimensions into others, from column x and row y on. Raises `ValueError` if these don't hold
+    the numbers afterwards."""
+    high, wide = parts[0].shape
     if numpy is not None:
-        whole[y:y + high, x:x + wide] = part
+        places = [numpy.asanyarray(whole)[y:y + high, x:x + wide] for whole in wholes]
+        for place, part in zip(places, parts):
+            place[...] = part
+        if not all(map(numpy.array_equal, places, parts)):
+            raise ValueError("the arrays of out overlap, or their type is too small for the numbers")
         return
-    row, (target, source) = whole.shape[1], (each.cast("B").cast("I") for each in (whole, part))
-    for at in range(high):
-        target[(y + at) * row + x:(y + at) * row + x + wide] = source[at * wide:(at + 1) * wide]
+    row = wholes[0].shape[1]
+    for target, source in zip(*([each.cast("B").cast("I") for each in side] for side in (wholes, parts))):
+        for at in range(high):
+            target[(y + at) * row + x:(y + at) * row + x + wide] = source[at * wide:(at + 1) * wide]
 
 
 def spread(words: memoryview, wide: int, high: int, words_per_row: int) -> Any:

@@ -5,7 +5,7 @@ import ctypes
 import functools
 import os
 from ctypes import POINTER, c_char_p, c_int64, c_size_t, c_uint32, c_uint64, c_void_p
-from typing import Any, Protocol, Union
+from typing import Any, Callable, Protocol, Union
 
 from .arrays import Buffer
 from .errors import Limit, Malformed, NoClock, NoCommand, NoLibrary, NoMicro, NoOperation
@@ -93,11 +93,14 @@ def content(text: Text) -> bytes:
     if isinstance(text, str):
         return text.encode("utf-8")
     try:
-        return bytes(memoryview(text))  # type: ignore[arg-type]
+        view = memoryview(text)  # type: ignore[arg-type]
+        if view.itemsize == 1:
+            return bytes(view)
+        hint = " of %d bytes each" % view.itemsize
     except TypeError:
         hint = ("; pxplanes.from_file reads the text in a file" if isinstance(text, os.PathLike) else
                 "; what its read() answers is one" if hasattr(text, "read") else "")
-        raise TypeError("a text is a str or bytes, and no %s%s" % (type(text).__name__, hint)) from None
+    raise TypeError("a text is a str or bytes, and no %s%s" % (type(text).__name__, hint))
 
 
 def is_name_of_file(text: Text) -> bool:
@@ -122,32 +125,23 @@ def answered(name: str, *arguments: Any) -> tuple[int, Found]:
     return judged(call(name)(*arguments, ctypes.byref(found)), found)
 
 
+REFUSALS: dict[int, Callable[[Found], Exception]] = {
+    USAGE: lambda found: NoCommand(),
+    MALFORMED: lambda found: Malformed(found.line, word_of("cause_name", found.cause)),
+    LIMIT: lambda found: Limit(found.line, word_of("kind_name", found.kind), found.number),
+    MEMORY: lambda found: MemoryError("pxplanes had no memory"),
+    NO_CLOCK: lambda found: NoClock(found.clocks),
+    NO_OPERATION: lambda found: NoOperation(found.operations),
+    NO_FACE: lambda found: ValueError("faces are numbered from 1 to %d" % found.faces),
+    NO_MICRO: lambda found: NoMicro(found.number)}
+
+
 def judged(status: int, found: Found) -> tuple[int, Found]:
     """A status with what was found, where it is `OK` or `NO_ROOM`."""
     if status in (OK, NO_ROOM):
         return status, found
-    raise refusal(status, found)
-
-
-def refusal(status: int, found: Found) -> Exception:
-    """The error of a status."""
-    if status == USAGE:
-        return NoCommand()
-    if status == MALFORMED:
-        return Malformed(found.line, word_of("cause_name", found.cause))
-    if status == LIMIT:
-        return Limit(found.line, word_of("kind_name", found.kind), found.number)
-    if status == MEMORY:
-        return MemoryError("pxplanes had no memory")
-    if status == NO_CLOCK:
-        return NoClock(found.clocks)
-    if status == NO_OPERATION:
-        return NoOperation(found.operations)
-    if status == NO_FACE:
-        return ValueError("faces are numbered from 1 to %d" % found.faces)
-    if status == NO_MICRO:
-        return NoMicro(found.number)
-    return NoLibrary("the library answers the unknown status %d" % status)
+    unknown = NoLibrary("the library answers the unknown status %d" % status)
+    raise REFUSALS[status](found) if status in REFUSALS else unknown
 
 
 def word_of(name: str, *numbers: int) -> str:

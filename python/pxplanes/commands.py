@@ -66,8 +66,7 @@ def tile(text: Text, width: int, height: int, clocks: Optional[int] = None, prog
     # The command refuses by the first tile, or draws where the scene's own picture is refused, and the first tile is
     # smaller.
     maps = taken(out, width, height)
-    for array, found in zip(maps, netpbm.images(run(text, "tile %d %d" % (width, height), progress))):
-        put(array, 0, 0, numbers(found))
+    put(maps, 0, 0, [numbers(each) for each in netpbm.images(run(text, "tile %d %d" % (width, height), progress))])
     return Picture(*maps, width, height)
 
 

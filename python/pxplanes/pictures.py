@@ -8,11 +8,11 @@ import operator
 import os
 from typing import TYPE_CHECKING, Any, Callable, NamedTuple, Optional, Sequence, Tuple, Union
 
-from .arrays import Buffer, put, rows, shaped
+from .arrays import Buffer, numpy, put, rows, shaped
 from .calls import LONGEST_NAME, FoundFace, Text, asked, content, word_of
 from .errors import OverBudget, Refused
 from .image import netpbm
-from .running import MANY, Progress, done, filled, gathered, run
+from .running import MANY, Progress, done, filled, gathered, heard, run
 from .scene.limits import MAX_PICTURE_SIZE, MAX_WIDE_PICTURE_SIZE
 
 Out = Optional[Tuple[Any, Any]]
@@ -90,7 +90,7 @@ class Picture(NamedTuple):
             raise ValueError("what is 'depths' or 'faces', and not %r" % (what,))
         greys = show.greys_of_depths(flat[0], [face != 0 for face in flat[1]])
         colours = show.colours_of_faces(flat[1]) if what == "faces" else greys
-        is_png = os.fspath(path).lower().endswith(".png")
+        is_png = os.fsdecode(path).lower().endswith(".png")
         with open(path, "wb") as file:
             file.write(netpbm.png(self.width, self.height, colours, 1) if is_png else self.maps())
 
@@ -107,7 +107,7 @@ def restored(depths: Any, faces: Any, width: int, height: int) -> Picture:
 
 
 def image(numbers: Any, width: int, height: int) -> bytes:
-    flat = memoryview(numbers).cast("B").tobytes()
+    flat = memoryview(numbers if numpy is None else numpy.ascontiguousarray(numbers, "<u4")).cast("B").tobytes()
     body = bytearray(3 * width * height)
     for place, byte in enumerate((2, 1, 0)):
         body[place::3] = flat[byte::4]
@@ -190,8 +190,7 @@ def drawn(text: Text, windows: Sequence[Window], size: tuple[int, int], out: Out
         for found in pieces:
             if found is not None and not isinstance(found, Cost):
                 (x, y), part = found
-                for array, numbers in zip(maps, part[:2]):
-                    put(array, x, y, numbers)
+                put(maps, x, y, part[:2])
                 area += part.width * part.height
             if progress is not None:
                 progress(area / (size[0] * size[1]))
@@ -200,12 +199,12 @@ def drawn(text: Text, windows: Sequence[Window], size: tuple[int, int], out: Out
 
 def taken(out: Out, width: int, height: int) -> tuple[Any, Any]:
     """The two arrays that a picture is written to."""
-    depths, faces = out or (Buffer("I", width * height).shaped(height, width) for _ in range(2))
-    for array in depths, faces:
-        if getattr(array, "shape", None) != (height, width):
-            found = getattr(array, "shape", array)
-            raise ValueError("out has arrays of shape (%d, %d), and not %r" % (height, width, found))
-    return depths, faces
+    if out is None:
+        return Buffer("I", width * height).shaped(height, width), Buffer("I", width * height).shaped(height, width)
+    found = [getattr(each, "shape", type(each).__name__) for each in out] if isinstance(out, (tuple, list)) else type(out).__name__
+    if found != [(height, width)] * 2:
+        raise ValueError("out has two arrays of shape (%d, %d), and not %s" % (height, width, found))
+    return out
 
 
 def piece(data: bytes, x: int, y: int, width: int, height: int) -> tuple[tuple[int, int], Picture]:
@@ -228,7 +227,8 @@ def window(text: Text, x: int, y: int, width: int, height: int) -> Picture:
     for first, count in ((x, width), (y, height)):
         if first < 0 or not 1 <= count <= MAX_PICTURE_SIZE or first + count > MAX_WIDE_PICTURE_SIZE:
             raise ValueError("there is no window of %d by %d pixels at (%d, %d)" % (width, height, x, y))
-    return piece(content(text), x, y, width, height)[1]
+    data, clocks = content(text), asked("window", text, x, y, width, height, None, 0, None, 0)[1].clocks
+    return heard(lambda: piece(data, x, y, width, height)[1], clocks)
 
 
 class Face(NamedTuple):
@@ -281,8 +281,8 @@ def colour(text: Text, clocks: Optional[int] = None, progress: Optional[Progress
     shown: NDArray[np.uint8] = rgb.shaped(*shape, 3)
     if out is None:
         return shown
-    out[..., :3] = shown
-    out[..., 3:] = 255
+    colours = [*(shown[..., part] for part in range(3)), numpy.full(shape, 255, numpy.uint8)]
+    put([out[..., part] for part in range(out.shape[2])], 0, 0, colours)
     given: NDArray[np.uint8] = out
     return given
 

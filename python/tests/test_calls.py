@@ -117,13 +117,38 @@ def test_pictures_in_the_callers_arrays():
     rgba = numpy.zeros((32, 48, 4), numpy.uint8)
     assert pxplanes.colour(FIRST, out=rgba[::-1]).base is rgba
     assert (rgba[::-1, :, :3] == colours).all() and (rgba[..., 3] == 255).all()
-    wrong = (pxplanes.render, maps), (pxplanes.render, (1, 2)), (pxplanes.colour, rgba[1:]), (pxplanes.colour, 5)
+    wrong = ((pxplanes.render, maps), (pxplanes.render, (1, 2)), (pxplanes.colour, rgba[1:]), (pxplanes.colour, 5),
+             (pxplanes.render, ()), (pxplanes.render, (due.depths, due.faces, due.faces)), (pxplanes.render, due.depths))
     for call, out in wrong:
         with pytest.raises(ValueError, match="out has .* shape"):
             call(FIRST, out=out)
+    given = pxplanes.render(FIRST, out=(depths[::-1], numpy.zeros((32, 48), numpy.int64)))
+    assert given.maps() == due.maps()
+    one = numpy.zeros((33, 48), numpy.uint32)
+    rows_in_one = numpy.lib.stride_tricks.as_strided(one, (32, 48), (0, 4))
+    for first, second in (numpy.zeros((32, 48), numpy.uint8), faces[1:33, 1:49]), (one[:32], one[1:]), (rows_in_one, due.faces.copy()):
+        with pytest.raises(ValueError, match="overlap, or their type is too small"):
+            pxplanes.render(FIRST, out=(first, second))
+    with pytest.raises(ValueError, match="too small for the numbers"):
+        pxplanes.colour(FIRST, out=numpy.zeros((32, 48, 3), numpy.int8))
+    with pytest.raises(TypeError, match="no ndarray of 2 bytes each"):
+        pxplanes.check(numpy.frombuffer(FIRST, numpy.uint8).astype(numpy.uint16))
+    for tolerance in -1, float("nan"):
+        with pytest.raises(ValueError, match="0 or more"):
+            due.compare(due, tolerance)
     for call in pxplanes.render, lambda text, threads: pxplanes.tile(text, 9, 9, threads=threads):
         with pytest.raises(ValueError, match="0 threads"):
             call(FIRST, threads=0)
+
+
+def test_microinstructions_of_ones_own():
+    state = pxplanes.state(FIRST, 100)
+    for field, wrong in (("act", "zap"), ("place", -1), ("place", 1 << 32), ("value", 2), ("tree", "grow"), ("lines", (2, 0, 0)), ("lines", (1, 0)),
+                         ("lines", (1, 0, 0, 1))):
+        with pytest.raises(ValueError, match="is no microinstruction"):
+            pxplanes.clocked(state, [pxplanes.Micro("nop", 0, 0, "feed", (1, 0, 1))._replace(**{field: wrong})])
+    with pytest.raises(TypeError, match="a Micro is wanted, and no str"):
+        pxplanes.clocked(state, "nop")
 
 
 class Box:

@@ -63,11 +63,13 @@ def compare(ours: Any, theirs: Any, tolerance: float = 0, scene: Optional[str | 
     cell are compared with the exact surfaces of the scene, whose text is given, and may be off by `epsilon` roundings
     of single precision (docs/COMPARE.md); without a scene it is only known in which cell they must be.
 
-    Raises `ValueError` if the sizes differ, and `Trouble` if NumPy is missing or the scene's text is refused.
+    Raises `ValueError` if the sizes differ or a number is below 0, and `Trouble` if NumPy is missing or the scene's text is refused.
 
     >>> pxplanes.compare([[1, 2]], [[1, 3]]).differ
     1
     """
+    if not (tolerance >= 0 and epsilon >= 0):
+        raise ValueError("tolerance is %s and epsilon %s; both are 0 or more" % (tolerance, epsilon))
     numpy = needed("numpy")
     from . import picture, verdict
     both = isinstance(ours, Picture) and isinstance(theirs, Picture)

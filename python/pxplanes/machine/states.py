@@ -49,13 +49,15 @@ def unpacked(word: int) -> Optional[Micro]:
 
 
 def packed(micro: Micro) -> int:
-    """The word of a microinstruction. Raises `ValueError` for an act or an operation of the tree that has no such name."""
+    """The word of a microinstruction. Raises `ValueError` for names and numbers that none has."""
+    if not isinstance(micro, tuple) or len(micro) != len(Micro._fields):
+        raise TypeError("a Micro is wanted, and no %s" % type(micro).__name__)
     act, place, value, tree, lines = micro
-    if act not in ACTS or tree not in TREES:
+    place, *bits = map(operator.index, (place, value, *lines))
+    if act not in ACTS or tree not in TREES or not 0 <= place < 1 << 32 or len(bits) != 4 or not set(bits) <= {0, 1}:
         raise ValueError("%r is no microinstruction" % (micro,))
-    bits = [operator.index(bit) & 1 for bit in lines] if tree == "feed" else [0, 0, 0]
-    return (operator.index(place) & 0xffffffff | ACTS.index(act) + 1 << 32 | (operator.index(value) & 1) << 40 | TREES.index(tree) << 48
-            | bits[0] << 56 | bits[1] << 57 | bits[2] << 58)
+    word = place | ACTS.index(act) + 1 << 32 | TREES.index(tree) << 48
+    return word | sum(bit << at for bit, at in zip(bits, (40, 56, 57, 58)))
 
 
 class Pixel(NamedTuple):

@@ -53,7 +53,7 @@ pub struct Colours {
 ///
 /// # Panics
 ///
-/// If a row does not fit.
+/// If a row does not fit, or `height` is 0.
 pub fn place<T: Copy, U: Copy, const FROM: usize, const TO: usize>(
     pixels: &[T], height: u32, to: &mut [U], stride: usize, is_from_bottom: bool, make: impl Fn(&[T; FROM]) -> [U; TO],
 ) {
@@ -73,13 +73,8 @@ pub fn check(text: impl AsRef<[u8]>) -> Result<Cost> {
     let mut found = sys::Found::default();
     let status = unsafe { sys::pxplanes_check(text.as_ptr(), text.len(), &mut found) };
     ended(status, &found)?;
-    Ok(Cost {
-        width: found.width,
-        height: found.height,
-        faces: found.faces,
-        operations: found.operations,
-        clocks: found.clocks,
-    })
+    let sys::Found { width, height, faces, operations, clocks, .. } = found;
+    Ok(Cost { width, height, faces, operations, clocks })
 }
 
 /// Draws the depths and the faces of a scene.
@@ -160,18 +155,14 @@ pub fn face(text: impl AsRef<[u8]>, number: u32) -> Result<Face> {
         &found,
     )?;
     let len = name.iter().position(|&byte| byte == 0).unwrap_or(name.len());
-    Ok(Face {
-        solid: face.solid,
-        name: String::from_utf8_lossy(&name[..len]).into_owned(),
-        kind: match face.kind {
-            sys::FACE_NEAR => FaceKind::Near,
-            sys::FACE_FRONT => FaceKind::Front,
-            _ => FaceKind::Back,
-        },
-        plane: face.plane,
-        line: face.line,
-        colour: [face.red as u8, face.green as u8, face.blue as u8],
-    })
+    let kind = match face.kind {
+        sys::FACE_NEAR => FaceKind::Near,
+        sys::FACE_FRONT => FaceKind::Front,
+        _ => FaceKind::Back,
+    };
+    let sys::Face { solid, plane, line, red, green, blue, .. } = face;
+    let name = String::from_utf8_lossy(&name[..len]).into_owned();
+    Ok(Face { solid, name, kind, plane, line, colour: [red as u8, green as u8, blue as u8] })
 }
 
 /// Draws a scene in its colours.

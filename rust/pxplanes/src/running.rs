@@ -26,6 +26,7 @@ pub fn run(text: impl AsRef<[u8]>, words: impl AsRef<[u8]>) -> Result<Vec<u8>> {
         if status != sys::NO_ROOM {
             ended(status, &found)?;
             out.truncate(room);
+            out.shrink_to_fit();
             return Ok(out);
         }
     }

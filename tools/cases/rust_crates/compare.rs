@@ -123,12 +123,12 @@ fn pages() -> u64 {
     text.split(' ').nth(1).unwrap().parse().unwrap()
 }
 
-/// Whether 100,000 renders leave the process as large as it was.
+/// Whether 100,000 renders leave the process as large as it was, and an answer keeps no more room than it has bytes for.
 fn is_flat() -> bool {
     let small = "pxscene 1\npicture 8 4\ndepth 4\nsolid ramp 200 100 50\nfront 1 0 0\nback 0 0 9\nshow ramp\nend\n";
     let render = |count| (0..count).all(|_| pxplanes::render(small).is_ok());
     let (first, before) = (render(100), pages());
-    first && render(100_000) && pages() < before + 256
+    first && render(100_000) && pages() < before + 256 && pxplanes::run(small, "tidy").is_ok_and(|text| text.capacity() < 4096)
 }
 
 /// The words of commands, of which the last name none.
