@@ -436,7 +436,7 @@ def shown_in(scene: Any, rows: range) -> Array:
     cells, live, now = np.full(len(x), far), np.arange(len(x)), np.zeros(len(x))
     while len(live):
         has = np.concatenate([(first <= now) & (now < end), np.zeros((1, len(live)), bool)])
-        holds = rays.folded(scene.show, lambda at: has[row[at]], both)
+        holds = rays.folded(scene.show, lambda at: np.asarray(has[row[at]]), both)
         cells[live[holds]] = now[holds]
         later = np.minimum(*(np.where(own > now, own, far).min(0, initial=far) for own in (first, end)))
         goes = ~holds & (later < far)

@@ -105,7 +105,7 @@ def folded(show: list[Node], leaf: Callable[[int], Made], join: Callable[[str, M
 
 def is_member(show: list[Node], found: Crossings, cell: int) -> bool:
     has = [each is not None and each.has(cell) for each in found]
-    return bool(folded(show, has.__getitem__, lambda sign, left, right: JOINED[sign](left, right)))
+    return folded(show, has.__getitem__, lambda sign, left, right: bool(JOINED[sign](left, right)))
 
 
 def runs(scene: Scene, found: Crossings) -> list[tuple[int, int]]:
