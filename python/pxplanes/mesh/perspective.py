@@ -177,6 +177,6 @@ def around(turn: kinds.Vector, fov: Optional[float], size: Sequence[int], tree: 
         [views.box_of(rows, solid.points) for solid, _ in solids.leaves(tree)])
     half = [part / 2 for part in views.widths((low, high))]
     focal = cameras.focal_of(fov or views.FIELD, size)
-    distance = half[1] + focal / views.FILLS * max(half[0] / (size[0] / 2), half[2] / (size[1] / 2))
+    distance = half[1] + max(focal * half[0] / (views.FILLS * size[0] / 2), focal * half[2] / (views.FILLS * size[1] / 2))
     middle = [(a + b) / 2 for a, b in zip(low, high)]
     return [sum(middle[k] * rows[k][i] for k in range(3)) for i in range(3)] + list(turn) + [distance]
