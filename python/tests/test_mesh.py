@@ -153,12 +153,38 @@ def test_the_rules_of_a_scene_in_numpy_have_the_programs_depths(show):
     assert (columns.shown_by(scenes.read(text.encode())) == by_program).all()
 
 
-def test_what_is_not_compared_is_said(tmp_path, monkeypatch, capsys):
+STEP = """OFF
+12 8 0
+0 0 0
+2 0 0
+2 1 0
+1 1 0
+1 2 0
+0 2 0
+0 0 1
+2 0 1
+2 1 1
+1 1 1
+1 2 1
+0 2 1
+6 5 4 3 2 1 0
+6 6 7 8 9 10 11
+4 0 1 7 6
+4 1 2 8 7
+4 2 3 9 8
+4 3 4 10 9
+4 4 5 11 10
+4 5 0 6 11
+"""
+
+
+def test_meshes_that_are_not_compared_are_said(tmp_path, monkeypatch, capsys):
+    """Without NumPy that is said of a mesh that is divided."""
     def without():
         raise Trouble("this needs NumPy")
 
-    path = tmp_path / "cube.csg"
-    path.write_text(CUBE % (1, 0, 1, 0, 1, 0))
+    path = tmp_path / "step.off"
+    path.write_text(STEP)
     monkeypatch.setattr(modelling, "columns_module", without)
     modelling.made(str(path), modelling.Choices(size=SIZE))
     assert "the pixels of the scene are not compared with the model: this needs NumPy" in capsys.readouterr().err

@@ -152,20 +152,14 @@ def run_program(words: list[str]) -> int:
         return refusal.status
 
 
-def prefer_numpy(words: Sequence[str], command: Sequence[str] = ("-m", "pxplanes")) -> bool:
-    """Goes on in Debian's Python if that one has NumPy, and this one does not; whether this one has it."""
+def need_numpy(words: Sequence[str], command: Sequence[str] = ("-m", "pxplanes")) -> None:
+    """Goes on in Debian's Python if that one has NumPy, and this one does not."""
     if importlib.util.find_spec("numpy") is not None:
-        return True
+        return
     if os.path.realpath(sys.executable) != os.path.realpath(DEBIAN_PYTHON) and shutil.which(DEBIAN_PYTHON) and subprocess.run(
             [DEBIAN_PYTHON, "-c", "import numpy"], capture_output=True).returncode == 0:
         os.execv(DEBIAN_PYTHON, [DEBIAN_PYTHON, *command, *words])
-    return False
-
-
-def need_numpy(words: Sequence[str], command: Sequence[str] = ("-m", "pxplanes")) -> None:
-    """The same; `Trouble` if neither has it."""
-    if not prefer_numpy(words, command):
-        raise Trouble("%s needs NumPy: install Debian's python3-numpy, or `pip install numpy`" % words[0])
+    raise Trouble("%s needs NumPy: install Debian's python3-numpy, or `pip install numpy`" % words[0])
 
 
 def complete(parser: argparse.ArgumentParser) -> None:
@@ -205,8 +199,6 @@ def answered(words: list[str]) -> int:
         raise Trouble("%s is no word; `pxplanes --help` lists them" % words[0])
     if words[0] in OF_PIXELS and "-h" not in words and "--help" not in words:
         need_numpy(words)
-    elif words[0] == "convert":
-        prefer_numpy(words)
     status = word(words[0]).run(parsed(parser_of(words[0]), glued(words[1:])))
     sys.stdout.flush()
     return status

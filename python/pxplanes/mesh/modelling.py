@@ -503,18 +503,19 @@ def flatter(tree: kinds.Tree, choices: Any) -> Any:
 
 def looked_at(whole: kinds.Tree, scene: Any, view: Any, choices: Any, rounded: float) -> None:
     """`Trouble` where the scene of meshes does not show what they have at the pixels of the picture; of other solids
-    this is said, and where the pixels are not compared."""
+    this is said. It needs NumPy; that the pixels of meshes are not compared is said."""
+    meshes = [leaf for leaf, _ in solids.leaves(whole) if isinstance(leaf, solids.Mesh)]
     try:
         columns = columns_module()
     except Trouble as trouble:
-        say("the pixels of the scene are not compared with the model: %s" % trouble)
+        if meshes:
+            say("the pixels of the scene are not compared with the model: %s" % trouble)
         return
     model = columns.Model(whole, view, choices.size)
     if model.is_cut and model.gaps():
         say("the pixels of the scene are not compared with the model: %s" % model.gaps()[0])
         return
-    digits = [facets.digit_of(leaf.mesh[0]) * facets.extent(leaf.mesh[0])[0] * solids.growth(leaf.matrix)
-              for leaf, _ in solids.leaves(whole) if isinstance(leaf, solids.Mesh)]
+    digits = [facets.digit_of(leaf.mesh[0]) * facets.extent(leaf.mesh[0])[0] * solids.growth(leaf.matrix) for leaf in meshes]
     count, at = columns.unlike(model, columns.shown_by(scene), choices.bits, rounded, max(digits, default=0))
     if count:
         why = ("the scene is not what the model is at %d pixels, the first x %d, y %d, as where a solid is thinner than a "
