@@ -71,7 +71,9 @@ module _ (far near : ℕ) (fs : List Face) (x y z : ℕ) where
   ])
 
 second_of : (a b c : Bool) → (a && b && c) ≡ true → b ≡ true
-second_of a b c h = grind arith
+second_of true true c h = refl
+second_of true false c h = h
+second_of false b c h = cc
 
 pub whole_fronts : WholeFronts
 whole_fronts s far x y z inside =
