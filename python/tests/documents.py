@@ -25,6 +25,7 @@ HEADING = re.compile(r"^#{1,6} (.+?) *$", re.M)
 NAMED = re.compile(r'\b(above|below|[\w/.]*?[A-Z_]+\.md)(?:\]\([^)]*\))?,? \(?((?:(?:, | and )?"[^"]+")+)')
 COMMENT = re.compile(r"\n *(?:///?!?|#|\*|%)? *")
 SPOKEN = re.compile(r'"""(.*?)"""|^\s*(?:\*|//[/!]?|/\*\*?|#!?) (.*?)$|  (?://|#|/\*) (.*?)$', re.M | re.S)
+SPOKEN_IN_CRATES = re.compile(r"^\s*(?://[/!]?|--) (.*?)$", re.M)
 SPAN = re.compile(r"`([^`\n]+)`")
 PLACE = re.compile(r"(?:tools|docs|crates|cases|gallery|suite|man|rtl|python|include|examples|editors|page)/[\w./-]*\w")
 TOOL = re.compile(r"(?:^|[\s(])(?:\./|\S*/)?(tools/[\w/]+|rtl/rtl|page/build|pxplanes(?: (?:%s)\b)?)(?=\s|$)" % "|".join(frame.WORDS))
@@ -420,12 +421,13 @@ def wrong_size():
 
 def comments(leaf):
     """The comments and docstrings of a source."""
-    return " ".join(" ".join(filter(None, found.groups())) for found in SPOKEN.finditer(content(leaf)))
+    form = SPOKEN_IN_CRATES if leaf.startswith("crates/") else SPOKEN
+    return " ".join(" ".join(filter(None, found.groups())) for found in form.finditer(content(leaf)))
 
 
 def wrong_words():
-    """A word that a plain one can replace, outside of quotes, code and headings: in documents, and in comments outside of crates/."""
-    texts = [(leaf, prose(leaf)) for leaf in names()] + [(leaf, comments(leaf)) for leaf in sources() if not leaf.startswith("crates/")]
+    """A word that a plain one can replace, outside of quotes, code and headings: in documents and in comments."""
+    texts = [(leaf, prose(leaf)) for leaf in names()] + [(leaf, comments(leaf)) for leaf in sources()]
     for leaf, text in texts:
         text = re.sub(r'(?m)^#.*$|`[^`\n]*`|"[^"]*"|\]\([^)]*\)', " ", text)
         for form, plain in PLAIN:

@@ -22,7 +22,7 @@ after_save slot device slots = slice_set slots slot (Some device)
 abbrev pub worked : (clocks work : ℕ) → ℕ
 worked clocks work = work + min clocks (2 ^ 64 - 1 - work)
 
--- all that is told of an array: what is clocked, what its slots keep, and its work
+-- all that is said of an array: what is clocked, what its slots keep, and its work
 pub record ArrayView : Type 0 where
   pub device : Device
   pub slots : List (Option Device)

@@ -1,4 +1,4 @@
-//! What the pixels are told to do in a clock.
+//! What the pixels do in a clock.
 
 /// An act, which every pixel does in the same clock (docs/MACHINE.md, "The fourteen acts").
 ///

@@ -22,7 +22,7 @@ pub trait Array {
 
     ghost BITS: { ℕ };
 
-    /// All that is told of an array: the state of every pixel and node with the clocks since it was
+    /// All that is said of an array: the state of every pixel and node with the clocks since it was
     /// opened, what each of the four slots keeps, and the clocks made, also those taken back.
     ghost view: { Self → ArrayView };
 

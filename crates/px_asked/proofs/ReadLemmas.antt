@@ -20,7 +20,7 @@ on_err_consumed (Err e) a b limit xs taken few = (xs, taken, few)
 seen_longer : (s : Search) (text more : List ℕ) → HasSeen s text → HasSeen s (text ++ more)
 seen_longer s text more seen = grind (arith, take-append-le, drop-append-le, length-drop, length-append)
 
--- a text grows behind its end, and is looked at up to a limit
+-- a text grows at its end, and is looked at up to a limit
 pub seen_more : (s : Search) (old new : List ℕ) (limit n : ℕ) → HasSeen s (take limit old) → take n new ≡ old
     → HasSeen s (take limit new)
 seen_more s old new limit n seen front =

@@ -31,6 +31,6 @@ holds_part bytes = is_some (part_end bytes)
 abbrev pub scene_part : List ℕ → List ℕ
 scene_part bytes = take (unwrap_or (part_end bytes) (length bytes)) bytes
 
--- the bytes behind the scene part
+-- the bytes after the scene part
 abbrev pub behind_part : List ℕ → List ℕ
 behind_part bytes = drop (unwrap_or (part_end bytes) (length bytes)) bytes

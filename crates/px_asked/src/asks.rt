@@ -10,9 +10,9 @@ use std::io::Read;
 
 /// A source that is asked for bytes in the sight of the sink `O`.
 ///
-/// What a clause says of its asks holds of any such source; most tell none.
+/// What a clause says of its asks holds of any such source; most report none.
 pub trait Asks<O: Sink>: Source {
-    /// Each ask so far, first to last, where the source tells them.
+    /// Each ask so far, first to last, where the source reports them.
     ghost asks: { Self → Option (List Ask) };
 
     /// Reads as `read` does, and notes what `out` has taken by then.

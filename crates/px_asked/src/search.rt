@@ -36,7 +36,7 @@ impl Search {
         None
     }
 
-    /// Goes past a byte, and tells whether the scene part ends with it.
+    /// Goes past a byte, and says whether the scene part ends with it.
     fn pass(&mut self, text: &[u8]) -> bool
         requires more { self.old.at < length text.now }
         requires seen { HasSeen self.old text.now }

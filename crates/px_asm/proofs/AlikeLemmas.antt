@@ -1,6 +1,6 @@
 -- Two runs of the same micros from states of which some parts are known to be the same.
 use Rattle.px_num.proofs.Basics.{◌≡◌, ℕ, zero, suc, ◌+◌, ◌-◌, ◌*◌, ◌/◌, ◌%◌, ◌^◌, ◌<◌, ◌≤◌, ◌==◌, Bool, true, false}
-use Rattle.px_num.proofs.Basics.{if◌then◌else◌, List, [], ◌∷◌, All, refl, sym, subst, ap, ◌∙◌, arith, nat_tests}
+use Rattle.px_num.proofs.Basics.{if◌then◌else◌, List, [], ◌∷◌, All, refl, sym, subst, ◌∙◌, arith, nat_tests}
 use Rattle.px_asm.proofs.Words.{Act, act_at, after_act, after_clock, after_clocks, after_clocks-append, after_tree_op}
 use Rattle.px_asm.proofs.Words.{all_known, all_micros, all_renewed, Clear, cycles, ext_get_or, Feed, grid_after_clock}
 use Rattle.px_asm.proofs.Words.{HasGrid, Hold, IsLawful, Known, Macro, Micro, micro_at, micros, no_pixel, pixel_at}
@@ -41,30 +41,7 @@ known_by_act a k = k
 
 pub act_alike : (a : Act) (k : Known) (b c : Bool) (p q : PixelState) → suits a k → (k.tree ≡ true → b ≡ c)
     → AlikePixels k p q → AlikePixels (known_by_act a k) (after_act a b p) (after_act a c q)
-act_alike act.Nop k b c p q fit tree h = h
-act_alike act.EnableAll k b c p q fit tree h =
-    record { memory = h.memory; enable = refl; carry = h.carry; latch = h.latch }
-act_alike (act.EnableCarry v) k b c p q fit tree h =
-    record { memory = h.memory; enable = rw (h.enable, h.carry fit) refl; carry = h.carry; latch = h.latch }
-act_alike (act.EnableTree v) k b c p q fit tree h =
-    record { memory = h.memory; enable = rw (h.enable, tree fit) refl; carry = h.carry; latch = h.latch }
-act_alike (act.EnableBit at v) k b c p q fit tree h =
-    record { memory = h.memory; enable = rw (h.enable, h.memory) refl; carry = h.carry; latch = h.latch }
-act_alike (act.SetCarry v) k b c p q fit tree h =
-    record { memory = h.memory; enable = h.enable; carry = λ e. refl; latch = h.latch }
-act_alike (act.Fetch at) k b c p q fit tree h =
-    record { memory = h.memory; enable = h.enable; carry = h.carry; latch = λ e. rw h.memory refl }
-act_alike (act.StoreTree at) k b c p q fit tree h =
-    record { memory = rw (h.memory, h.enable, tree fit) refl; enable = h.enable; carry = h.carry; latch = h.latch }
-act_alike (act.StoreLatch at) k b c p q fit tree h =
-    record { memory = rw (h.memory, h.enable, h.latch fit) refl; enable = h.enable; carry = h.carry; latch = h.latch }
-act_alike (act.StoreConst at v) k b c p q fit tree h =
-    record { memory = rw (h.memory, h.enable) refl; enable = h.enable; carry = h.carry; latch = h.latch }
-act_alike (act.Toggle at) k b c p q fit tree h =
-    record { memory = rw (h.memory, h.enable) refl; enable = h.enable; carry = h.carry; latch = h.latch }
-act_alike (act.CarryTree at) k b c p q fit tree h = grind arith
-act_alike (act.CarryLatch at) k b c p q fit tree h = grind arith
-act_alike (act.AddTree at) k b c p q fit tree h = grind arith
+act_alike a k b c p q fit tree h = grind arith
 
 -- ---- one clock
 
@@ -81,15 +58,11 @@ act_keeps_tree act.Nop k = refl
 act_keeps_tree a k = refl
 
 op_alike : (op : TreeOp) (k : Known) (p q : PixelState) → AlikePixels k p q → AlikePixels (known_by_op op k) p q
-op_alike Hold k p q h = h
-op_alike Clear k p q h = record { memory = h.memory; enable = h.enable; carry = h.carry; latch = h.latch }
-op_alike (Feed a b c) k p q h = h
+op_alike op k p q h = grind arith
 
 trees_alike : (op : TreeOp) (k : Known) (s t : TreeState) → s.nx ≡ t.nx → s.ny ≡ t.ny → (k.tree ≡ true → s ≡ t)
     → (known_by_op op k).tree ≡ true → after_tree_op op s ≡ after_tree_op op t
-trees_alike Hold k s t columns rows same known = same known
-trees_alike Clear k s t columns rows same known = rw (columns, rows) refl
-trees_alike (Feed a b c) k s t columns rows same known = ap (after_tree_op (Feed a b c)) (same known)
+trees_alike op k s t columns rows same known = grind arith
 
 pub clock_alike : (bits nx ny : ℕ) (micro : Micro) (k : Known) (s t : State) → suits micro.act k
     → Alike bits nx ny k s t → Alike bits nx ny (known_by micro k) (after_clock micro s) (after_clock micro t)
@@ -111,8 +84,7 @@ pub run_alike : (bits nx ny : ℕ) (micro : ℕ → Micro) (k : Known) (from n :
     → ((i : ℕ) → from ≤ i → i < from + n → Keeps (micro i) k)
     → Alike bits nx ny k (steps micro from s) (steps micro from t)
     → Alike bits nx ny k (steps micro (from + n) s) (steps micro (from + n) t)
-run_alike bits nx ny micro k from zero s t keeps h =
-    let e : from ≡ from + 0 = omega arith in rw (← e) h
+run_alike bits nx ny micro k from zero s t keeps h = grind arith
 run_alike bits nx ny micro k from (suc n) s t keeps h =
     let before = run_alike bits nx ny micro k from n s t (λ i low high. keeps i low (omega arith)) h in
     let here = keeps (from + n) (omega arith) (omega arith) in

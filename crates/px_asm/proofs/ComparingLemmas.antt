@@ -1,4 +1,4 @@
--- What is left of one pixel by acts that compare two numbers, bit by bit.
+-- What remains of one pixel by acts that compare two numbers, bit by bit.
 use Rattle.px_num.proofs.Basics.{◌≡◌, ℕ, zero, suc, ◌+◌, ◌-◌, ◌*◌, ◌%◌, ◌^◌, ◌<◌, ◌≤◌, ℤ, pos, Bool, true, false}
 use Rattle.px_num.proofs.Basics.{nat_le, nat_lt, refl, ap, ◌∙◌, arith, beq, mod-eq_of_lt, nat_tests}
 use Rattle.px_asm.proofs.Words.{bits_of, BitsOfNumber, carry_from, carry_is_overflow, Field, flipped, flipped_bit}

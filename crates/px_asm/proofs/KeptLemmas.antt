@@ -1,9 +1,9 @@
--- What the micros of an operation do not begin anew they leave as it was.
-use Rattle.px_num.proofs.Basics.{arith, ◌≡◌, ℕ, zero, suc, ◌+◌, ◌%◌, ◌/◌, ◌^◌, ◌<◌, ◌==◌, Bool, true, false}
-use Rattle.px_num.proofs.Basics.{if◌then◌else◌, refl, sym, ap, ◌∙◌}
-use Rattle.px_asm.proofs.Words.{Act, act_at, after_act, after_clocks, after_tree_op, cycles, HasGrid, Hold}
+-- What the micros of an operation do not reset they leave as it was.
+use Rattle.px_num.proofs.Basics.{arith, ◌≡◌, ℕ, zero, suc, ◌+◌, ◌^◌, ◌<◌, Bool, true, false}
+use Rattle.px_num.proofs.Basics.{if◌then◌else◌, refl, sym}
+use Rattle.px_asm.proofs.Words.{Act, act_at, after_act, after_clocks, cycles, HasGrid, Hold}
 use Rattle.px_asm.proofs.Words.{LeavesTheRest, Macro, Micro, micro_at, micros, none_known, pixel_at}
-use Rattle.px_asm.proofs.Words.{pixel_at-after_clock, PixelState, renewed, State, TreeOp}
+use Rattle.px_asm.proofs.Words.{pixel_at-after_clock, PixelState, renewed, State}
 use Rattle.px_asm.proofs.StepLemmas.{grid_after_steps, run_is_steps, steps}
 use Rattle.px_array.specs.declared.act.Act.TheVariants as act
 use Rattle.px_macro.specs.declared.operation.Macro.TheVariants as m
@@ -20,11 +20,7 @@ leaves_carry (act.AddTree at) = false
 leaves_carry a = true
 
 carry_left : (a : Act) (b : Bool) (p : PixelState) → leaves_carry a ≡ true → (after_act a b p).carry ≡ p.carry
-carry_left (act.SetCarry v) b p e = absurd (no (sym e))
-carry_left (act.CarryTree at) b p e = absurd (no (sym e))
-carry_left (act.CarryLatch at) b p e = absurd (no (sym e))
-carry_left (act.AddTree at) b p e = absurd (no (sym e))
-carry_left a b p e = refl
+carry_left a b p e = grind arith
 
 -- and those that leave the latch
 abbrev leaves_latch : Act → Bool
@@ -63,42 +59,19 @@ module _ (leaves : Act → Bool) where
 
 micro_leaves_carry : (op : Macro) (nx ny i : ℕ) → (renewed op none_known).carry ≡ false
     → leaves_carry (micro_at op nx ny i).act ≡ true
-micro_leaves_carry (m.KeepSign form) nx ny i e =
-    choice leaves_carry (i == 40 + (nx + ny)) (act.EnableTree false) act.Nop refl refl
-micro_leaves_carry (m.LoadLinear form f) nx ny i e =
-    on_bits leaves_carry (nx + ny) i act.Nop (λ t. act.StoreTree (f.at + t)) refl refl (λ t. refl)
-micro_leaves_carry (m.KeepAtMost form f) nx ny i e = absurd (no e)
-micro_leaves_carry (m.AddLinear form f) nx ny i e = absurd (no e)
-micro_leaves_carry (m.Copy f g) nx ny i e =
-    choice leaves_carry (i % 2 == 0) (act.Fetch (f.at + i / 2)) (act.StoreLatch (g.at + i / 2)) refl refl
-micro_leaves_carry (m.KeepLess f g) nx ny i e = absurd (no e)
-micro_leaves_carry op nx ny i e = refl
+micro_leaves_carry op nx ny i e = grind (arith, choice, on_bits)
 
 micro_leaves_latch : (op : Macro) (nx ny i : ℕ) → (renewed op none_known).latch ≡ false
     → leaves_latch (micro_at op nx ny i).act ≡ true
-micro_leaves_latch (m.KeepSign form) nx ny i e =
-    choice leaves_latch (i == 40 + (nx + ny)) (act.EnableTree false) act.Nop refl refl
-micro_leaves_latch (m.LoadLinear form f) nx ny i e =
-    on_bits leaves_latch (nx + ny) i act.Nop (λ t. act.StoreTree (f.at + t)) refl refl (λ t. refl)
-micro_leaves_latch (m.KeepAtMost form f) nx ny i e = grind (arith, micro_choice, on_bits)
-micro_leaves_latch (m.AddLinear form f) nx ny i e =
-    on_bits leaves_latch (nx + ny) i (act.SetCarry false) (λ t. act.AddTree (f.at + t)) refl refl (λ t. refl)
-micro_leaves_latch (m.Copy f g) nx ny i e = absurd (no e)
-micro_leaves_latch (m.KeepLess f g) nx ny i e = absurd (no e)
-micro_leaves_latch op nx ny i e = refl
+micro_leaves_latch op nx ny i e = grind (arith, choice, on_bits, micro_choice)
 
 micro_holds : (op : Macro) (nx ny i : ℕ) → (renewed op none_known).tree ≡ false → (micro_at op nx ny i).tree ≡ Hold
-micro_holds (m.KeepSign form) nx ny i e = absurd (no e)
-micro_holds (m.LoadLinear form f) nx ny i e = absurd (no e)
-micro_holds (m.KeepAtMost form f) nx ny i e = absurd (no e)
-micro_holds (m.AddLinear form f) nx ny i e = absurd (no e)
-micro_holds op nx ny i e = refl
+micro_holds op nx ny i e = grind arith
 
 steps_hold : (micro : ℕ → Micro) (n : ℕ) (s : State) → ((i : ℕ) → (micro i).tree ≡ Hold)
     → (steps micro n s).tree ≡ s.tree
 steps_hold micro zero s each = refl
-steps_hold micro (suc n) s each =
-    ap (λ (op : TreeOp). after_tree_op op (steps micro n s).tree) (each n) ∙ steps_hold micro n s each
+steps_hold micro (suc n) s each = grind (arith, steps_hold micro n s each)
 
 pub kept_by_micros : (bits nx ny : ℕ) (op : Macro) (s : State) → HasGrid bits nx ny s
     → LeavesTheRest op nx ny s (after_clocks (micros op nx ny) s)

@@ -1,4 +1,4 @@
--- Arrays on which operations were made at once, beside those on which their micros were made.
+-- Arrays on which operations were made at once, compared with those on which their micros were made.
 use Rattle.px_num.proofs.Basics.{◌≡◌, ℕ, ◌+◌, ◌*◌, ◌/◌, ◌%◌, ◌^◌, ◌<◌, ◌&&◌, not, Bool, true, false, refl, ap, ◌∙◌}
 use Rattle.px_num.proofs.Basics.{arith, one-le-pow, pow-add}
 use Rattle.px_asm.proofs.Words.{Agree, AgreeIn, BecomeTheSame, BecomeTheSameAgain, grid_after_clocks, Known}

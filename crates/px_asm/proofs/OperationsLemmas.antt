@@ -1,5 +1,5 @@
 -- Operations one after another, of which some are made at once.
-use Rattle.px_num.proofs.Basics.{◌≡◌, ℕ, suc, ◌+◌, ◌*◌, ◌<◌, ◌≤◌, List, [], ◌∷◌, ◌++◌, length, drop, get_or, refl, sym}
+use Rattle.px_num.proofs.Basics.{◌≡◌, ℕ, suc, ◌+◌, ◌*◌, ◌<◌, ◌≤◌, List, [], ◌∷◌, ◌++◌, length, drop, get_or, refl}
 use Rattle.px_num.proofs.Basics.{ap, ◌∙◌, arith, common_steps, All, between, drop-append-le, drop-cons}
 use Rattle.px_num.proofs.Basics.{length-append}
 use Rattle.px_asm.proofs.Words.{after_clocks, AgreeIn, all_clocked, all_clocked-append, all_known, all_made}
@@ -23,7 +23,7 @@ pub renewed_both : (xs ys : List Macro) (k : Known) → all_renewed (xs ++ ys) k
 renewed_both [] ys k = refl
 renewed_both (x ∷ xs) ys k = renewed_both xs ys (renewed x k)
 
--- an operation that is made at once leaves what its clocks leave, once those that begin anew what it does are made
+-- an operation that is made at once leaves what its clocks leave, once those that reset what it does are made
 pub overtaken : StayKnown → BecomeTheSameAgain → (bits : ℕ) (op : Macro) (rest : List Macro) (before now : Device)
     → CanMake bits (op ∷ rest) before → IsOperated bits op before now → IsOvertaken op rest
     → all_made rest now ≡ all_made (op ∷ rest) before
@@ -56,15 +56,10 @@ own_grid : (bits nx ny : ℕ) (d : Device) → HasGrid bits nx ny d.state
     → HasGrid bits d.state.tree.nx d.state.tree.ny d.state
 own_grid bits nx ny d grid = grind arith
 
--- what is left of two lists is an operation, the rest of the first, and the second
+-- what remains of two lists is an operation, the rest of the first, and the second
 pub left_is : (ops behind : List Macro) (i : ℕ) (d : Macro) → i < length ops
     → drop i (ops ++ behind) ≡ get_or ops i d ∷ (between (i + 1) (length ops) ops ++ behind)
-left_is ops behind i d low =
-    let next : suc i ≡ i + 1 = omega arith in
-    let rest : drop (suc i) ops ≡ between (i + 1) (length ops) ops =
-    ap (λ k. drop k ops) next ∙ sym (between_to_end ops (i + 1) (length ops) (omega arith)) in
-    rw (drop-append-le i ops behind (omega arith), drop-cons ops i d low)
-    (ap (λ xs. get_or ops i d ∷ (xs ++ behind)) rest)
+left_is ops behind i d low = grind (arith, between_to_end, drop-append-le, drop-cons)
 
 -- and it can be made
 pub can_go_on : (bits : ℕ) (ops behind : List Macro) (i : ℕ) (d : Macro) (start now : Device)

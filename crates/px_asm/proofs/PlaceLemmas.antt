@@ -27,8 +27,7 @@ before_last i last low differs = grind (arith, nat_tests)
 
 pub has_place : (bits nx ny : ℕ) (m : Macro) → IsLawful m bits → (i : ℕ) → i < cycles m nx ny
     → HasPlace bits (micro_at m nx ny i).act
-has_place bits nx ny (KeepSign form) lawful i low =
-    chosen bits (i == 40 + (nx + ny)) (act.EnableTree false) act.Nop (λ e. tt) (λ e. tt)
+has_place bits nx ny (KeepSign form) lawful i low = grind (arith, chosen)
 has_place bits nx ny (LoadLinear form f) lawful i low = grind (arith, for_each_bit)
 has_place bits nx ny (KeepAtMost form f) lawful i low = grind (arith, act_of_choice, chosen, for_each_bit, before_last)
 has_place bits nx ny (AddLinear form f) lawful i low = grind (arith, for_each_bit)

@@ -1,4 +1,4 @@
--- What is left of one pixel by acts that store a field, bit by bit.
+-- What remains of one pixel by acts that store a field, bit by bit.
 use Rattle.px_num.proofs.Basics.{rules, ◌≡◌, ℕ, zero, suc, ◌+◌, ◌*◌, ◌<◌, ◌≤◌, Bool, List, length, if◌then◌else◌, ◌⊎◌}
 use Rattle.px_num.proofs.Basics.{inl, inr, refl, sym, ap, subst, ◌∙◌, arith, nat_tests}
 use Rattle.px_asm.proofs.Words.{Act, after_act, AreApart, bit_at, bits_of, BitsOfNumber, copy_act, Field, nat_bit}
@@ -74,8 +74,7 @@ pub written_by_copy : (f g : Field) (tree : ℕ → Bool) (n : ℕ) (p : PixelSt
     → g.at + g.len ≤ length p.memory → AreApart f g
     → IsWritten g.at n (λ t. bit_at p.memory (f.at + t)) p.enable p.memory
     (after_acts (copy_act f g) tree (2 * n) p).memory
-written_by_copy f g tree zero p low below room apart =
-    none_written g.at (λ t. bit_at p.memory (f.at + t)) p.enable p.memory
+written_by_copy f g tree zero p low below room apart = grind (arith, none_written)
 written_by_copy f g tree (suc n) p low below room apart =
     let q = after_acts (copy_act f g) tree (2 * n) p in
     let before = written_by_copy f g tree n p (omega arith) (omega arith) room apart in

@@ -8,6 +8,6 @@ use Rattle.px_macro.specs.declared.operation.Macro.{Macro}
 abbrev pub known_of : Renewal → Known
 known_of r = record { tree = r.tree; carry = r.carry; latch = r.latch }
 
--- the operations behind an operation that is made at once begin anew all that it does
+-- the operations after one that is made at once reset all that it does
 abbrev pub IsOvertaken : Macro → (rest : List Macro) → Type 0
 IsOvertaken op rest = all_renewed rest (untouched op all_known) ≡ all_known

@@ -23,7 +23,7 @@ none_known = record { tree = false; carry = false; latch = false }
 abbrev pub all_known : Known
 all_known = record { tree = true; carry = true; latch = true }
 
--- what an operation begins anew: the tree by a clear, the carry where it is set, and the latch where it is fetched
+-- what an operation resets: the tree by a clear, the carry where it is set, and the latch where it is fetched
 abbrev pub renewed : Macro → Known → Known
 renewed (m.KeepSign form) k = record { tree = true; carry = k.carry; latch = k.latch }
 renewed (m.LoadLinear form f) k = record { tree = true; carry = k.carry; latch = k.latch }
@@ -33,7 +33,7 @@ renewed (m.Copy f g) k = record { tree = k.tree; carry = k.carry; latch = true }
 renewed (m.KeepLess f g) k = record { tree = k.tree; carry = true; latch = true }
 renewed op k = k
 
--- what the operation does not begin anew is as it was
+-- what the operation does not reset is as it was
 pub record LeavesTheRest (op : Macro) (nx ny : ℕ) (before now : State) : Type 0 where
   pub tree : (renewed op none_known).tree ≡ false → now.tree ≡ before.tree
   pub carry : (renewed op none_known).carry ≡ false → (place : ℕ) → place < 2 ^ (nx + ny) → (pixel_at now place).carry
@@ -42,7 +42,7 @@ pub record LeavesTheRest (op : Macro) (nx ny : ℕ) (before now : State) : Type 
       ≡ (pixel_at before place).latch
 
 -- every pixel has what the operation means there, in memory and enable, and its clocks are counted; what the operation
--- begins anew of carries, latches and the tree may be anything, and all else of them is as it was
+-- resets of carries, latches and the tree may be anything, and the rest of them is as it was
 pub record IsOperated (bits : ℕ) (op : Macro) (before now : Device) : Type 0 where
   pub grid : HasGrid bits before.state.tree.nx before.state.tree.ny now.state
   pub meaning : (x y : ℕ) → x < 2 ^ before.state.tree.nx → y < 2 ^ before.state.tree.ny
@@ -60,7 +60,7 @@ abbrev pub all_renewed : List Macro → Known → Known
 all_renewed [] k = k
 all_renewed (op ∷ ops) k = all_renewed ops (renewed op k)
 
--- the micros of operations that begin all of it anew leave the same state
+-- the micros of operations that reset all of it leave the same state
 abbrev pub BecomeTheSame : Type 0
 BecomeTheSame = (bits nx ny : ℕ) (ops : List Macro) → All (λ op. IsLawful op bits) ops → (s t : State)
     → Agree bits nx ny s t →
@@ -75,7 +75,7 @@ StayInAgreement = (bits nx ny : ℕ) → IsGrid nx ny → (op : Macro) → IsLaw
     Agree bits nx ny before.state s → IsOperated bits op before now
     → Agree bits nx ny now.state (after_clocks (micros op nx ny) s)
 
--- they agree, and what is known to be the same of all else is so
+-- they agree, and what is known to be the same of everything else is so
 pub record AgreeIn (k : Known) (bits nx ny : ℕ) (s t : State) : Type 0 where
   pub agree : Agree bits nx ny s t
   pub tree : k.tree ≡ true → s.tree ≡ t.tree
@@ -89,14 +89,14 @@ untouched op k =
     record { tree = k.tree && not new.tree; carry = k.carry && not new.carry; latch = k.latch && not new.latch }
 
 -- an operation that is made at once on one of two states, and by its micros on the other, leaves the same what was
--- the same, but for what it begins anew
+-- the same, but for what it resets
 abbrev pub StayKnown : Type 0
 StayKnown = (bits nx ny : ℕ) → IsGrid nx ny → (op : Macro) → IsLawful op bits
     → (k : Known) (before now : Device) (s : State) →
     AgreeIn k bits nx ny before.state s → IsOperated bits op before now →
     AgreeIn (untouched op k) bits nx ny now.state (after_clocks (micros op nx ny) s)
 
--- the micros of operations that begin anew all that is not known leave the same state
+-- the micros of operations that reset all that is not known leave the same state
 abbrev pub BecomeTheSameAgain : Type 0
 BecomeTheSameAgain = (bits nx ny : ℕ) (ops : List Macro) → All (λ op. IsLawful op bits) ops
     → (k : Known) (s t : State) →

@@ -14,7 +14,7 @@ use px_array::{Array, ArrayOf, Grid, PixelGrid};
 use px_macro::Macro;
 
 /// An array that makes an operation at once: memory and enable of every pixel are as its micros
-/// leave them. What it begins anew of carries, latches and the tree may be anything, and all else is
+/// leave them. What it resets of carries, latches and the tree may be anything, and the rest is
 /// as it was.
 pub trait Operating: Array {
     /// Makes an operation, which counts as its clocks.
@@ -81,7 +81,7 @@ fn operate_at_once<G: OperatingGrid>(array: &mut ArrayOf<G>, m: &Macro) -> bool
 }
 
 /// Two arrays that agree in memory and enable of every pixel become the same by operations that
-/// begin anew all else that is not known to be the same.
+/// reset all that is not known to be the same.
 pub fn law_of_renewal()
     ensures same { BecomeTheSame }
     ensures agreement { StayInAgreement }
@@ -91,7 +91,7 @@ pub fn law_of_renewal()
     law_of_microprograms();
 }
 
-/// Which of the tree, the carry and the latch an operation begins anew.
+/// Which of the tree, the carry and the latch an operation resets.
 #[derive(Clone, Copy)]
 pub struct Renewal {
     pub tree: bool,
@@ -99,7 +99,7 @@ pub struct Renewal {
     pub latch: bool,
 }
 
-/// What an operation begins anew, whatever it was before.
+/// What an operation resets, whatever it was before.
 pub fn renewal_of(m: &Macro) -> Renewal
     ensures tree { result.tree ≡ (renewed m.now none_known).tree }
     ensures carry { result.carry ≡ (renewed m.now none_known).carry }

@@ -26,7 +26,7 @@ pub fn make_operations<A: Operating>(array: &mut A, operations: &[Macro])
 /// Makes operations, one after another, so that those behind them, made as well, leave what the
 /// clocks of all leave.
 ///
-/// An operation is made at once if others behind it begin anew all that it does, and else by its
+/// An operation is made at once if later ones reset all that it does, and otherwise by its
 /// clocks.
 pub fn make_before<A: Operating>(array: &mut A, operations: &[Macro], behind: &[Macro])
     requires can { CanMake A.BITS (operations.now ++ behind.now) (A.view array.old).device }
@@ -43,7 +43,7 @@ pub fn make_before<A: Operating>(array: &mut A, operations: &[Macro], behind: &[
     }
 }
 
-/// Makes one operation, at once if the rest and those behind it begin anew all that it does.
+/// Makes one operation, at once if the rest and those after it reset all that it does.
 fn make_one<A: Operating>(array: &mut A, m: &Macro, rest: &[Macro], behind: &[Macro])
     requires can { CanMake A.BITS (m.now ∷ (rest.now ++ behind.now)) (A.view array.old).device }
     ensures device { all_made (rest.now ++ behind.now) (A.view array.new).device
@@ -64,7 +64,8 @@ fn make_one<A: Operating>(array: &mut A, m: &Macro, rest: &[Macro], behind: &[Ma
     }
 }
 
-/// Whether the rest and those behind it begin anew all that an operation does.
+/// Whether the rest and those after it reset all that an operation does.
+#[tactic(auto, using(crate::proofs::OperationsLemmas::renewed_both))]
 fn is_overtaken(m: &Macro, rest: &[Macro], behind: &[Macro]) -> bool
     ensures { OnTrue result (IsOvertaken m.now (rest.now ++ behind.now)) }
 {
@@ -85,6 +86,7 @@ fn left_by(m: &Macro) -> Renewal
 }
 
 /// What is known behind the clocks of some operations, where so much was known before.
+#[tactic(auto, using(px_num::proofs::Basics::common_steps, crate::proofs::OperationsLemmas::all_stay))]
 fn known_after(before: Renewal, operations: &[Macro]) -> Renewal
     ensures { known_of result ≡ all_renewed operations.now (known_of before) }
 {

@@ -9,7 +9,7 @@ use Rattle.px_c.specs.declared.found.Found.{Found}
 use Rattle.px_c.specs.declared.status.TheConstants.{NO_ROOM, OK}
 use Rattle.px_c.specs.Answers.{Answers, refused_answer, answer_unless_refused, within_room}
 
--- a fault that is want of memory, or the refusal that is due
+-- a fault that says that memory ran out, or the expected refusal
 pub refuses : (refusal : Option SceneFault) (due : Answer) (fault : SceneFault)
     → (fault ≡ f.Memory want) ⊎ (refusal ≡ Some fault)
     → Answers (answer_unless_refused refusal due) (refused_answer fault)

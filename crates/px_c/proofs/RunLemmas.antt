@@ -56,7 +56,7 @@ gains (Some c.Shadow) bits u input before after meets leaves = leaves.wrote.all
 gains (Some (c.Sample n)) bits u input before after meets leaves = leaves.wrote.all
 gains (Some c.Play) bits u input before after meets leaves = leaves.wrote.all
 
--- over a text that is told, into an output that was empty, that is all of it
+-- over a text that is reported, into an output that was empty, that is all of it
 pub comes_whole : (command : Option Command) (bits : ℕ) (u : Unit {0}) (before after : Ends) (text bytes : List ℕ)
     → Performs (Ok u) command bits before after → before.rest ≡ Some text → before.out.written ≡ Some []
     → after.out.written ≡ Some bytes → commanded command text bits ≡ done bytes

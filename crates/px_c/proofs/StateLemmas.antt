@@ -7,7 +7,7 @@ use Rattle.px_c.specs.declared.answer.Answer.{Answer}
 use Rattle.px_c.specs.Answers.{Answers}
 use Rattle.px_c.specs.StateAnswers.{state_refused, unless_faulty}
 
--- a fault that is want of memory, or the refusal that is due
+-- a fault that says that memory ran out, or the expected refusal
 pub faulty : (refusal : Option StateFault) (l : ListingView) (fault : StateFault) → IsRefusedBy fault refusal
     → Answers (unless_faulty refusal l) (state_refused fault)
 faulty refusal l fault (inl memory) = rw memory (inr refl)

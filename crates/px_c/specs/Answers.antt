@@ -115,7 +115,7 @@ colour_answer text room =
 abbrev pub products_answer : List ℕ → (room : ℕ) → Answer
 products_answer text room = answer_unless_refused (refusal_of text) (listed_answer room (scene_of (worded text)))
 
--- a call answers this, or want of memory, with which it found nothing
+-- a call answers this, or that memory ran out, and then it found nothing
 abbrev pub Answers : Answer → Answer → Type 0
 Answers due answer = (answer ≡ due) ⊎ (answer ≡ refused_answer (f.Memory want))
 

@@ -64,7 +64,7 @@ pub record IsOver (l : ListingView) (operation cycle word : ℕ) : Type 0 where
   pub cycle_is : cycle ≡ 0
   pub word_is : word ≡ 0
 
--- what stands beside the words of a state
+-- what comes with the words of a state
 pub record TellsState (l : ListingView) (clock : ℕ) (s : State) : Type 0 where
   pub columns : s.grid_width ≡ 2 ^ l.nx
   pub rows : s.grid_height ≡ 2 ^ l.ny

@@ -8,7 +8,7 @@ use crate::found::{Found, nothing};
 use crate::status::{BITS, NO_GRID, NO_MICRO, NO_ROOM, OK};
 use px_state::{make_clocks, room_of};
 
-/// Makes a clock of each micro, each packed into a word, on the state that stands in the front of `words`.
+/// Makes a clock of each micro, each packed into a word, on the state that is in the front of `words`.
 #[unsafe(no_mangle)]
 pub extern "C" fn pxplanes_clocks(
     words: &mut [u64],

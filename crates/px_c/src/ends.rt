@@ -91,7 +91,7 @@ impl Output {
         self.bytes
     }
 
-    /// Why a run over a lent text into this output was stopped: a write failed for want of memory, and no read did.
+    /// Why a run over a lent text into this output was stopped: a write failed since memory ran out, and no read did.
     pub(crate) fn stop_of(self, stop: Stop) -> Stop
         requires causes { HasCauses (Err stop) 0 0 0 self.faults }
         ensures calm { IsCalm result }

@@ -93,55 +93,21 @@ pub(crate) fn course_found(operations: u64, clocks: u64) -> Found
 pub(crate) fn cause_number(cause: Cause) -> u32
     ensures { result ≡ cause_number cause }
 {
-    match cause {
-        Cause::NotHeader => 1,
-        Cause::Unexpected => 2,
-        Cause::WordCount => 3,
-        Cause::NotNumber => 4,
-        Cause::BadName => 5,
-        Cause::SecondName => 6,
-        Cause::BadExpression => 7,
-        Cause::UnknownName => 8,
-        Cause::AfterEnd => 9,
-        Cause::MissingEnd => 10,
-    }
+    cause as u32 + 1
 }
 
 /// The number of what has a limit.
 pub(crate) fn kind_number(kind: LimitKind) -> u32
     ensures { result ≡ kind_number kind }
 {
-    match kind {
-        LimitKind::Text => 1,
-        LimitKind::Picture => 2,
-        LimitKind::Depth => 3,
-        LimitKind::Colour => 4,
-        LimitKind::Coefficient => 5,
-        LimitKind::Solids => 6,
-        LimitKind::Fronts => 7,
-        LimitKind::Backs => 8,
-        LimitKind::Sides => 9,
-        LimitKind::Faces => 10,
-        LimitKind::Leaves => 11,
-        LimitKind::Nesting => 12,
-        LimitKind::Fraction => 13,
-        LimitKind::PixelMemory => 14,
-        LimitKind::Products => 15,
-    }
+    kind as u32 + 1
 }
 
 /// The number of what has a limit in a listing.
 pub(crate) fn list_number(kind: ListKind) -> u32
     ensures { result ≡ list_number kind }
 {
-    match kind {
-        ListKind::Grid => 16,
-        ListKind::Coefficient => 17,
-        ListKind::Length => 18,
-        ListKind::Place => 19,
-        ListKind::Value => 20,
-        ListKind::Overlap => 21,
-    }
+    kind as u32 + 16
 }
 
 /// The number of what has a limit in what a command reads.

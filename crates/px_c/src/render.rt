@@ -79,7 +79,7 @@ pub(crate) fn render_scene(
     }
 }
 
-/// The answer where a buffer has fewer elements than are due: nothing is drawn.
+/// The answer where a buffer has fewer elements than are needed: nothing is drawn.
 #[tactic(auto, using(crate::proofs::AnswerLemmas::refuses, crate::proofs::AnswerLemmas::accepts, crate::proofs::AnswerLemmas::scant))]
 pub(crate) fn short_of_room(alloc: Global, scene: &Scene, due: usize) -> Answer
     ensures answer { (room : ℕ) → room < due → Answers (drawn_answer room due scene.now) result }

@@ -54,7 +54,7 @@ pub extern "C" fn pxplanes_run(
     OK
 }
 
-/// What a command writes for a text, on an array with as many bits a pixel as it wants.
+/// What a command writes for a text, on an array with as many bits a pixel as it needs.
 fn output_of(alloc: Global, text: &[u8], command: Option<Command>) -> Result<Vec<u8>, Stop>
     requires lawful { IfSome command HasLawfulNumbers }
     ensures ok { IfOk result (λ bytes. outcome_of command text.now ≡ done bytes.items) }

@@ -112,7 +112,7 @@ fn coming(found: &px_state::State) -> (u64, u64, u64)
     }
 }
 
-/// What is told where there is no state.
+/// What is reported where there is no state.
 fn no_state() -> State
     ensures { result ≡ no_state }
 {

@@ -15,7 +15,7 @@ use Rattle.px_commands.specs.Results.{Meets}
 use Rattle.px_commands.specs.Stops.{DoesWork}
 use Rattle.px_commands.specs.declared.stop.Stop.TheVariants as s
 
--- the bytes of an input that tells them, and those taken of another
+-- the bytes of an input that reports them, and those taken of another
 abbrev pub bytes_of : Option (List ℕ) → (taken : List ℕ) → List ℕ
 bytes_of None taken = taken
 bytes_of (Some bytes) taken = bytes

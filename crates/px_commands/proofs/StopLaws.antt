@@ -45,7 +45,7 @@ stop_leaves (halted.Refused (r.Malformed line cause)) IsMade array = refl
 stop_leaves (halted.Refused (r.Limit line kind found)) IsMade array = refl
 stop_leaves (halted.Memory _) IsMade array = inl refl
 
--- where a refusal is due, the array is left as it would be by anything else
+-- where a refusal must come, the array is left as it would be by anything else
 pub refused_leaves : (result : Result (Unit {0}) Stop) (reason : Refusal) (IsMade Other : Device → Type 0)
     (before now : ArrayView) → Meets result (refused reason) → LeavesMade IsMade (status_in result) before now
     → LeavesMade Other (status_in result) before now

@@ -1,4 +1,4 @@
--- What is left of the array where something is made on it. Clauses of public calls stand on it.
+-- What remains of the array where something is made on it. Clauses of public calls stand on it.
 use Rattle.std.specs.Prelude.{◌≡◌, ℕ, ◌⊎◌}
 use Rattle.px_array.specs.Arrays.{Device}
 use Rattle.px_array.specs.Slots.{ArrayView, IsRunOnce, none_open}
@@ -7,12 +7,12 @@ use Rattle.px_frame.specs.Drawn.{IsDrawn}
 use Rattle.px_commands.specs.declared.status.Status.{Status}
 use Rattle.px_commands.specs.declared.status.Status.TheVariants as status
 
--- for want of memory the array is as before, or none is open
+-- if memory runs out the array is as before, or none is open
 abbrev pub IsKeptOrClosed : (before now : ArrayView) → Type 0
 IsKeptOrClosed before now = (now ≡ before) ⊎ (now ≡ none_open)
 
--- what is left of the array, of its slots and its work too, where something is made on a new one: it is made, also where
--- it could not be written; and else the array is as before
+-- what remains of the array, of its slots and its work too, where something is made on a new one: it is made, also if
+-- it could not be written; and otherwise the array is as before
 abbrev pub LeavesMade : (IsMade : Device → Type 0) → Status → (before now : ArrayView) → Type 0
 LeavesMade IsMade status.Done before now = IsMade now.device × IsRunOnce now
 LeavesMade IsMade status.WriteFault before now = IsMade now.device × IsRunOnce now

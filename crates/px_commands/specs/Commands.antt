@@ -81,7 +81,7 @@ command_of (word ∷ argument ∷ []) = of_two word argument
 command_of (word ∷ first ∷ second ∷ []) = of_three word first second
 command_of (word ∷ first ∷ second ∷ third ∷ more) = None
 
--- shadows are found on pixels of 80 bits, and all else is drawn on pixels of 72
+-- shadows are found on pixels of 80 bits, and everything else is drawn on pixels of 72
 abbrev pub needs_wide_pixels : Option Command → Bool
 needs_wide_pixels (Some c.Shadow) = true
 needs_wide_pixels command = false

@@ -1,10 +1,10 @@
--- What is told of the ends of a run: of its input, its output, its array and its notes. Clauses of public calls
+-- What is said of the ends of a run: of its input, its output, its array and its notes. Clauses of public calls
 -- stand on it.
 use Rattle.std.specs.Prelude.{◌≡◌, ℕ, List, Option}
 use Rattle.px_io.specs.Reports.{SinkState, TakesNone}
 use Rattle.px_array.specs.Slots.{ArrayView}
 
--- of the input the bytes to come and the count of faults, what the output tells, and the array
+-- of the input the bytes to come and the count of faults, what the output reports, and the array
 pub record Ends : Type 0 where
   pub rest : Option (List ℕ)
   pub faults : ℕ

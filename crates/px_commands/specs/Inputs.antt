@@ -12,7 +12,7 @@ use Rattle.px_commands.specs.Ends.{Ends, Input}
 use Rattle.px_commands.specs.Outcomes.{Outcome, output}
 use Rattle.px_commands.specs.Results.{Meets, Wrote}
 
--- where an input tells its bytes, it is these
+-- where an input reports its bytes, it is these
 abbrev pub IsInput : Option (List ℕ) → List ℕ → Type 0
 IsInput None bytes = ⊤
 IsInput (Some known) bytes = bytes ≡ known
@@ -40,7 +40,7 @@ pub record WritesAndLeaves (result : Result (Unit {0}) Stop) (o : Outcome) (Leav
   pub wrote : Wrote result (output o) before.out after.out
   pub array : Leaves before.array after.array
 
--- what is left behind as many bytes as a text may have and one more
+-- the rest after as many bytes as a text may have and one more
 abbrev pub IsRestBehind : Option (List ℕ) → Option (List ℕ) → Type 0
 IsRestBehind None new = ⊤
 IsRestBehind (Some bytes) new = new ≡ Some (drop READ_LIMIT bytes)

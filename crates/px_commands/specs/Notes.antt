@@ -1,4 +1,4 @@
--- The lines that the notes tell. Clauses of public calls stand on them.
+-- The lines that the notes get. Clauses of public calls stand on them.
 use Rattle.std.specs.Prelude.{◌⊎◌, ℕ, ℤ, List, ◌++◌, Result, Ok, Err, codes, decimal}
 use Rattle.std.specs.Fmt.{signed_decimal}
 use Rattle.px_io.specs.Counts.{Still}
@@ -49,13 +49,13 @@ note_of s.ReadFault = read_fault_line
 note_of s.WriteFault = write_fault_line
 note_of (s.Memory _) = memory_line
 
--- a line was written whole and the notes finished where they had no fault, and else so or a front of it that is
+-- a line was written whole and the notes finished where they had no fault, and otherwise so or a front of it that is
 -- not finished
 pub record IsTold (line : List ℕ) (before after : SinkState) : Type 0 where
   pub whole : Still before.faults after.faults → FinishesWith before after line
   pub front : FinishesWith before after line ⊎ TakesFront before after line
 
--- a stop tells its line; where there is none the notes are as before
+-- a stop writes its line; where there is none the notes are as before
 abbrev pub IsNoted : Result (Unit {0}) Stop → (before after : SinkState) → Type 0
 IsNoted (Ok u) before after = TakesNone before after
 IsNoted (Err stop) before after = IsTold (note_of stop) before after

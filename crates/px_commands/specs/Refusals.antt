@@ -14,7 +14,7 @@ use Rattle.px_commands.specs.declared.refusal.Kind.TheVariants as k
 use Rattle.px_commands.specs.declared.refusal.Refusal.{Refusal}
 use Rattle.px_commands.specs.declared.refusal.Refusal.TheVariants as r
 
--- the refusal of a fault; the want of memory is none
+-- the refusal of a fault; that memory ran out is none
 abbrev pub refusal_in : SceneFault → Option Refusal
 refusal_in (f.Malformed line cause) = Some (r.Malformed line cause)
 refusal_in (f.Limit line kind found) = Some (r.Limit line (k.Scene kind) found)
@@ -44,7 +44,7 @@ too_long = r.Limit 0 (k.Scene kind.Text) (pos READ_LIMIT)
 unfoldable pub is_long : List ℕ → Bool
 is_long bytes = nat_lt MAX_TEXT_BYTES (length bytes)
 
--- the refusal of a listing's fault; the want of memory is none
+-- the refusal of a listing's fault; that memory ran out is none
 abbrev pub list_refusal_in : ListFault → Option Refusal
 list_refusal_in (f.Malformed line cause) = Some (r.Malformed line cause)
 list_refusal_in (f.Limit line kind found) = Some (r.Limit line (k.List kind) found)

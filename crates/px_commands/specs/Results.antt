@@ -23,7 +23,7 @@ abbrev pub status_in : Result (Unit {0}) Stop → Status
 status_in (Ok u) = status.Done
 status_in (Err stop) = status_of stop
 
--- the result is the outcome's, where it is not a read fault's or the want of memory
+-- the result is the outcome's, where it is neither a read fault's nor that memory ran out
 abbrev pub Meets : Result (Unit {0}) Stop → Outcome → Type 0
 Meets (Ok u) o = o ≡ done (output o)
 Meets (Err s.Usage) o = o ≡ usage

@@ -22,7 +22,7 @@ abbrev pub read_stop : ReadError → Stop
 read_stop read.Failed = s.ReadFault
 read_stop (read.Memory m) = s.Memory m
 
--- a refusal, or the want of memory where there is none
+-- a refusal, or, where there is none, that memory ran out
 abbrev pub stop_at : Option Refusal → SceneStop
 stop_at (Some reason) = halted.Refused reason
 stop_at None = halted.Memory want
@@ -40,7 +40,7 @@ abbrev pub IsReadCause : ReadError → (old new : ℕ) → Type 0
 IsReadCause read.Failed old new = Rose old new
 IsReadCause (read.Memory _) old new = new ≡ old
 
--- a scene was not served, as these limits of outcomes say, or for want of memory
+-- a scene was not served, as these limits of outcomes say, or memory ran out
 abbrev pub StopsAt : (limits : Outcome → Outcome) → SceneStop → Type 0
 StopsAt limits (halted.Refused reason) = (o : Outcome) → refusal (limits o) ≡ Some reason
 StopsAt limits (halted.Memory _) = ⊤

@@ -10,7 +10,7 @@ pub enum Command {
     Debug,
     /// Draws the sample of so many blocks, 1 to `px_model::MAX_BLOCKS`, and prints four numbers of it.
     Sample(u32),
-    /// Draws the image of the lights that the lines behind the scene name.
+    /// Draws the image of the lights that the lines after the scene name.
     Shadow,
     /// Plays the listing that is the whole input, and prints the memory of every pixel.
     Play,

@@ -1,4 +1,4 @@
-//! The line that tells why a run did not do its work.
+//! The line that says why a run did not do its work.
 ghost use Rattle.std.specs.Prelude.{◌≡◌, ◌≤◌, length};
 ghost use Rattle.px_commands.specs.Notes.{IsTold, kind_word, limit_line, malformed_line, note_of};
 

@@ -14,7 +14,8 @@ use std::alloc::Global;
 /// The count of the kept products and of all, and a line for each that is kept
 /// (docs/SCENES.md, "Commands").
 ///
-/// At most `MAX_PRODUCTS` are kept. `Memory` is answered for want of memory alone.
+/// At most `MAX_PRODUCTS` are kept. `Memory` is answered only if memory runs out.
+#[tactic(auto, using(std::proofs::lemmas::Grind::common_steps))]
 pub fn plan_text(
     alloc: Global,
     solids: &[Solid],

@@ -27,7 +27,7 @@ pub enum Stop {
     Memory(Memory),
 }
 
-/// Why a scene was not served: by what it is, or for want of memory.
+/// Why a scene was not served: by what it is, or since memory ran out.
 #[derive(Drop)]
 pub enum SceneStop {
     Refused(Refusal),

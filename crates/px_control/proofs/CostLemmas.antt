@@ -74,7 +74,7 @@ module _ (scene : SceneView) (measure : Measure) where
         (weighed edges_count scene l (worth scene measure) blind (Turn other solid face) there)
     rated_is step there = omega (arith, are, weighed edges_count scene l (worth scene measure) blind step there)
 
-    -- what is told of the products that are kept
+    -- what is said of the products that are kept
     pub passes_come_to : (products : List Product) → products ≡ kept_of scene (sum_of_products scene.show)
         → products_worth (rated rates scene) scene products ≡ sum_by (worth scene measure) (passes scene)
     passes_come_to products same =

@@ -10,7 +10,7 @@ use Rattle.px_control.specs.declared.place.Place.{Place}
 use Rattle.px_control.specs.Program.{CanRun, columns_of, rows_of, total}
 use Rattle.px_control.specs.Standing.{StandsFor}
 
--- what is at hand to give the program of a scene: the products that are kept, the layout, and the grid
+-- what is available to give the program of a scene: the products that are kept, the layout, and the grid
 pub record IsProgram (scene : SceneView) (kept : List Product) (l : LayoutView) (nx ny : ℕ) : Type 0 where
   pub can_run : CanRun scene
   pub products : kept ≡ kept_of scene (sum_of_products scene.show)

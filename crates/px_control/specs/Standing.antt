@@ -1,4 +1,4 @@
--- Where a job stands in the program of its scene. Clauses of public calls stand on it.
+-- Where a job is in the program of its scene. Clauses of public calls stand on it.
 use Rattle.std.specs.Prelude.{◌≡◌, ℕ, ◌+◌, ◌<◌, ◌≤◌, ◌⊎◌, min, length, Option, Some, None, slice_get}
 use Rattle.px_macro.specs.declared.operation.Macro.{Macro}
 use Rattle.px_model.specs.Scenes.{SceneView}
@@ -30,7 +30,7 @@ pub record JobView : Type 0 where
   pub scene : SceneView
   pub place : Place
 
--- what a refusal leaves of the array, of its slots and its work too: only for want of memory may it be another
+-- what a refusal leaves of the array, of its slots and its work too: only if memory runs out may it be another
 -- one, and then none is open
 abbrev pub LeavesOnRefusal : JobFault → (before now : ArrayView) → Type 0
 LeavesOnRefusal (PixelMemory need) before now = now ≡ before

@@ -59,7 +59,7 @@ impl<'s> Job<'s> {
     /// Opens an array for a scene.
     ///
     /// The array is opened last: every refusal leaves it as it was, its slots and its work too, but
-    /// for want of the memory of the array itself, after which none is open. A new array has no slot
+    /// where memory for the array itself runs out: then none is open. A new array has no slot
     /// saved, and its work is 0.
     pub fn open<A: Array>(
         alloc: Global,
@@ -132,6 +132,7 @@ impl<'s> Job<'s> {
     }
 
     /// How many clocks are left.
+    #[tactic(auto, using(crate::proofs::PlaceLemmas::clock_within))]
     fn left(&self) -> u64
         ensures left { result ≡ total self.now.scene - self.now.place.clock }
         ensures within { self.now.place.clock ≤ total self.now.scene }
@@ -143,6 +144,7 @@ impl<'s> Job<'s> {
     }
 
     /// How many clocks were made.
+    #[tactic(auto, using(crate::proofs::PlaceLemmas::clock_within))]
     pub fn now(&self) -> u64
         ensures clock { result ≡ self.now.place.clock }
         ensures within { result ≤ total self.now.scene }

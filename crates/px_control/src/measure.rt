@@ -64,6 +64,7 @@ impl Measure {
 }
 
 /// The clocks of an operation on the grid of a scene.
+#[tactic(auto, using(crate::proofs::PictureLemmas::scene_grid))]
 fn clocks(scene: &Scene, operation: &Macro) -> u64
     requires lawful { IsLawful operation.now 256 }
     ensures clocks { result ≡ cycles_in scene.now operation.now }

@@ -1,4 +1,4 @@
-//! Where a job stands in the program of its scene.
+//! Where a job is in the program of its scene.
 use px_macro::Macro;
 use px_sched::Cursor;
 

@@ -42,7 +42,7 @@ impl<'s> Program<'s> {
         self.march(&place, array, end)
     }
 
-    /// Makes what is left of an operation that runs, up to a clock, and answers the place there.
+    /// Makes the rest of an operation that runs, up to a clock, and answers the place there.
     fn leave<A: Array>(&self, from: &Place, array: &mut A, end: u64) -> Place
         requires stands { StandsFor self.now from.now }
         requires order { from.now.clock ≤ end }

@@ -1,4 +1,4 @@
--- An array that fits a session, and one beside its course.
+-- An array that fits a session, and one next to its course.
 use Rattle.px_num.proofs.Basics.{◌≡◌, ℕ, ◌*◌, ◌<◌, ◌≤◌, arith, cases_lt}
 use Rattle.px_debug.proofs.Words.{AreMarked, ArrayView, Fits, IsOnCourse, quarter_of, SessionView}
 use Rattle.px_debug.specs.declared.course.Course.{Course}

@@ -1,4 +1,4 @@
--- A job on its course, beside an array. Only proofs and private functions stand on it.
+-- A job on its course, with an array. Only proofs and private functions stand on it.
 use Rattle.std.specs.Prelude.{◌≡◌, ℕ}
 use Rattle.circular_buffer.specs.Buffer.{buffer}
 use Rattle.px_array.specs.Slots.{ArrayView}

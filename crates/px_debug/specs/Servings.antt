@@ -67,7 +67,7 @@ HasRead e.End bytes more rest = (length bytes < more) × IsAtEnd rest
 HasRead e.Long bytes more rest = length bytes ≡ more
 HasRead ending bytes more rest = ⊤
 
--- of so many bytes that may yet be read the last is only to be told
+-- of so many bytes that may yet be read the last is only to be reported
 abbrev pub seen : (more : ℕ) → List ℕ → List ℕ
 seen more bytes = take (more - 1) bytes
 

@@ -9,7 +9,7 @@ use Rattle.px_debug.specs.Sessions.{Stand, is_last, sitting}
 use Rattle.px_debug.specs.declared.serving.Ending.{Ending}
 use Rattle.px_debug.specs.declared.serving.Ending.TheVariants as e
 
--- lines were answered, and whether the last that counts was a `quit` is told
+-- lines were answered, and whether the last that counts was a `quit` is reported
 pub record Went (on : Going) (bits : ℕ) (from now : Stand) (lines : List (List ℕ)) : Type 0 where
   pub answered : Answered false from now (sitting bits from.session lines)
   pub going : is_last on ≡ (sitting bits from.session lines).quit

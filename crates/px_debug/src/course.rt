@@ -137,6 +137,7 @@ impl<'s> Course<'s> {
     }
 
     /// So many broadcasts, which the trace takes.
+    #[tactic(auto, using(crate::proofs::TraceLemmas::walk_more))]
     fn walk<A: Operating>(&mut self, array: &mut A, clocks: u64)
         requires course { IsOnCourse A.BITS self.old (A.view array.old) }
         requires left { self.old.job.place.clock + clocks ≤ total self.old.job.scene }
@@ -179,6 +180,7 @@ impl<'s> Course<'s> {
     }
 
     /// Goes back to a clock, from the latest quarter after which the trace fills again.
+    #[tactic(auto, using(crate::proofs::TraceLemmas::none_before))]
     pub(crate) fn back<A: Operating>(&mut self, array: &mut A, target: u64)
         requires course { IsOnCourse A.BITS self.old (A.view array.old) }
         requires before { target ≤ self.old.job.place.clock }
@@ -232,6 +234,7 @@ fn checkpoint_for(quarter: u64, target: u64) -> usize
 }
 
 /// Whether the next quarter has just been passed, where so many have their places.
+#[tactic(auto, using(crate::proofs::MarkingLemmas::due))]
 fn is_due(count: usize, quarter: u64, now: u64) -> bool
     requires few { count ≤ 4 }
     requires some { 1 ≤ quarter }

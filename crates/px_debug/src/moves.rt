@@ -93,7 +93,7 @@ impl<'s> Course<'s> {
         }
     }
 
-    /// Goes so many clocks back, at most to the first; where it stands there already it does nothing.
+    /// Goes so many clocks back, at most to the first; if it is there already it does nothing.
     fn go_back<A: Operating>(&mut self, array: &mut A, clocks: u64)
         requires course { IsOnCourse A.BITS self.old (A.view array.old) }
         requires quarter { self.old.quarter ≡ quarter_of self.old.job.scene }

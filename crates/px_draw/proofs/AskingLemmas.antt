@@ -17,7 +17,7 @@ use Rattle.px_draw.specs.Debugs.{command_text, has_part, whole_sitting}
 use Rattle.px_draw.specs.Sittings.{Opens, Sits, more_than}
 use Rattle.px_draw.proofs.ServedLemmas.{Begins, holds, no_part}
 
--- nothing is due while no scene part is whole, and behind one the answers to the lines behind it
+-- nothing must be written while no scene part is whole, and after one the answers to the lines after it
 none_due : (bits : ℕ) (text : List ℕ) → has_part text ≡ false → due bits text ≡ []
 unfolding due
 none_due bits text none = rw none refl

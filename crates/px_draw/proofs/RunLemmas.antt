@@ -16,7 +16,7 @@ use Rattle.px_commands.specs.declared.stop.Stop.TheVariants as s
 use Rattle.px_commands.specs.declared.status.Status.TheVariants as status
 use Rattle.px_commands.specs.declared.command.Command.TheVariants as c
 
--- a run that did its work tells nothing
+-- a run that did its work writes no note
 pub run_done : (words : List (List ℕ)) (bits : ℕ) (u : Unit {0}) (before after : Ends) (notes : SinkState)
     → Performs (Ok u) (command_of words) bits before after
     → HasCauses (Ok u) before.faults after.faults before.out.faults after.out.faults

@@ -38,7 +38,7 @@ use Rattle.px_commands.specs.declared.refusal.Refusal.TheVariants as r
 use Rattle.px_commands.specs.declared.stop.SceneStop.TheVariants as halted
 use Rattle.px_commands.specs.declared.stop.Stop.TheVariants as s
 
--- what stands in an input behind the bytes that were taken of it
+-- what an input has after the bytes that were taken of it
 pub record Extends (known rest : Option (List ℕ)) (taken : List ℕ) : Type 0 where
   pub more : List ℕ
   pub input : IsInput known (taken ++ more)

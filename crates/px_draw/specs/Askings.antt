@@ -13,11 +13,11 @@ due bits taken = if has_part taken then (whole_sitting bits taken).said else []
 abbrev pub GoesOn : (bits : ℕ) → (taken : List ℕ) → Type 0
 GoesOn bits taken = has_part taken ≡ true → Admits bits taken × ((whole_sitting bits taken).quit ≡ false)
 
--- all that was due had been written, and nothing else
+-- all that had to be written had been, and nothing else
 abbrev pub IsInTime : (bits : ℕ) → (written told : Option (List ℕ)) → (taken : List ℕ) → Type 0
 IsInTime bits written told taken = Appends written told (due bits taken) × GoesOn bits taken
 
--- a source was asked some times, each time with all that was due written, and gave the bytes that were taken
+-- a source was asked some times, each time with all written that had to be, and gave the bytes that were taken
 pub record AnswersInTime (bits : ℕ) (asks_old asks_new : Option (List Ask)) (rest_old rest_new : Option (List ℕ))
     (written : Option (List ℕ)) : Type 0 where
   pub asks : List Ask

@@ -99,7 +99,7 @@ pub record IsBroken (bits : ℕ) (from : SessionView) (lines : List (List ℕ)) 
 abbrev pub Admits : (bits : ℕ) → (bytes : List ℕ) → Type 0
 Admits bits bytes = (outcome : Outcome) → admitted (scene_part_of bytes) bits outcome ≡ outcome
 
--- a write failed behind a scene part that is a scene's that the array can draw
+-- a write failed after a scene part that is a scene's that the array can draw
 pub record IsBrokenOff (bits : ℕ) (taken : List ℕ) (before after : Ends) : Type 0 where
   pub admits : Admits bits taken
   pub broken : IsBroken bits (session_of taken) (all_commands taken) before after
@@ -116,23 +116,23 @@ pub record LeavesAtReadFault (bits : ℕ) (taken : List ℕ) (before after : End
   pub whole : has_part taken ≡ true → IsCutOff bits taken before after
   pub other : has_part taken ≡ false → IsUntouched before after
 
--- at a limit: that of the text behind a scene part, or another
+-- at a limit: that of the text after a scene part, or another
 abbrev pub LeavesAtLimit : Outcome → (bits : ℕ) → (bytes : List ℕ) → (before after : Ends) → Type 0
 LeavesAtLimit (cut text reason) bits bytes before after =
     IsAnswered false bits (session_of bytes) (whole_commands bytes) before after
 LeavesAtLimit outcome bits bytes before after = IsUntouched before after
 
--- for want of memory the array is as before, or none is open, or it is opened for the scene
+-- if memory runs out the array is as before, or none is open, or it is opened for the scene
 abbrev pub IsKeptOrOpened : (bits : ℕ) → SceneView → (before now : ArrayView) → Type 0
 IsKeptOrOpened bits scene before now = (now ≡ before) ⊎ (now ≡ none_open)
     ⊎ (IsAt bits scene 0 now.device × IsRunOnce now)
 
--- and only behind a scene part that is accepted is it not as before
+-- and only after a scene part that is accepted is it not as before
 abbrev pub LeavesAtMemory : (bits : ℕ) → (taken : List ℕ) → (before now : ArrayView) → Type 0
 LeavesAtMemory bits taken before now =
     (now ≡ before) ⊎ ((text_refusal (scene_part_of taken) ≡ None) × IsKeptOrOpened bits (part_scene taken) before now)
 
--- what is written, and what is left of the array
+-- what is written, and what remains of the array
 abbrev pub LeavesSession : Result (Unit {0}) Stop → (bits : ℕ) → Input → (before after : Ends) → Type 0
 LeavesSession (Ok u) bits input before after =
     IsAnswered true bits (session_of input.bytes) (all_commands input.bytes) before after

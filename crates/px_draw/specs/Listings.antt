@@ -35,7 +35,7 @@ list_refusal bits text =
 unfoldable pub listing_written : List ℕ → ListingView
 listing_written text = listing_of (worded text)
 
--- the refusal of a text, or else the memory that its listing leaves, played on zeros
+-- the refusal of a text, otherwise the memory that its listing leaves, played on zeros
 abbrev pub played_out : List ℕ → (bits : ℕ) → Outcome
 played_out text bits = unless_refused (list_refusal bits text) (done (played_text bits (listing_written text)))
 
@@ -45,11 +45,11 @@ pub record IsPlayed (bits : ℕ) (l : ListingView) (device : Device) : Type 0 wh
   pub clocks : device.clocks ≡ sum_by (λ m. cycles m l.nx l.ny) l.macros
   pub pixels : HasPlayed bits l device.state
 
--- what is left of the array where a listing is played
+-- what remains of the array where a listing is played
 abbrev pub Plays : Status → (bits : ℕ) → ListingView → (before now : ArrayView) → Type 0
 Plays status bits l before now = LeavesMade (IsPlayed bits l) status before now
 
--- what is written, and what is left of the array
+-- what is written, and what remains of the array
 abbrev pub LeavesPlayed : Result (Unit {0}) Stop → (bits : ℕ) → (bytes : List ℕ) → (before after : Ends) → Type 0
 LeavesPlayed result bits bytes before after =
     WritesAndLeaves result (played_out bytes bits)

@@ -33,13 +33,13 @@ commanded (Some c.Play) bytes bits = played_out bytes bits
 abbrev pub outcome : (words : List (List ℕ)) → (bytes : List ℕ) → (bits : ℕ) → Outcome
 outcome words bytes bits = commanded (command_of words) bytes bits
 
--- what is left of the array by a sample, which no read fault can end
+-- what remains of the array by a sample, which no read fault can end
 abbrev pub LeavesSample : (n : ℕ) → Result (Unit {0}) Stop → (bits : ℕ) → (before after : Ends) → Type 0
 LeavesSample n result bits before after =
     WritesAndLeaves result (sampled n bits)
     (λ old new. (result ≢ Err s.ReadFault) × Draws (status_in result) bits (sample_scene n) old new) before after
 
--- what is written, and what is left of the array, by each command
+-- what is written, and what remains of the array, by each command
 abbrev pub Leaves : Option Command → Result (Unit {0}) Stop → (bits : ℕ) → Input → (before after : Ends) → Type 0
 Leaves None result bits input before after = IsUntouched before after
 Leaves (Some (c.Make work)) result bits input before after = LeavesWork work result bits input.bytes before after

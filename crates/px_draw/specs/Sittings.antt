@@ -68,13 +68,13 @@ Refuses bits o (halted.Refused reason) =
     (more : List ℕ) → MayFollow o more → debugged (o.text.items ++ more) bits ≡ refused reason
 Refuses bits o (halted.Memory _) = ⊤
 
--- lines behind the scene part were answered; where it is not whole there is none, and the input is at its end
+-- lines after the scene part were answered; where it is not whole there is none, and the input is at its end
 pub record Sits (o : Opening) (ending : Ending) (bits : ℕ) (read : List ℕ) (was now : Moment) : Type 0 where
   pub serves : Serves ending bits read (more_than o.text.items) was now
   pub idle : o.part ≡ None → (serves.bytes ≡ []) × (serves.prompts.asks ≡ []) × IsAtEnd now.rest
       × (ending ≢ e.ReadFault)
 
--- what is left of the array where no session began
+-- what remains of the array where no session began
 abbrev pub LeavesClosed : Status → (bits : ℕ) → SceneView → (before now : ArrayView) → Type 0
 LeavesClosed (status.Memory _) bits scene before now = IsKeptOrOpened bits scene before now
 LeavesClosed found bits scene before now = now ≡ before

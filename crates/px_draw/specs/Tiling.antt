@@ -18,7 +18,7 @@ use Rattle.px_commands.specs.declared.status.Status.TheVariants as status
 use Rattle.px_commands.specs.Outcomes.{Outcome, done, unless_refused}
 use Rattle.px_commands.specs.Refusals.{short_of_bits, too_many}
 
--- the refusal of a fault; the want of memory is none
+-- the refusal of a fault; that memory ran out is none
 abbrev pub wide_fault_refusal : WideFault → Option Refusal
 wide_fault_refusal (fault.Tiles found) = Some (r.Limit 0 k.Tiles (pos found))
 wide_fault_refusal (fault.Coefficient found) = Some (r.Limit 0 (k.Scene kind.Coefficient) found)
@@ -42,8 +42,8 @@ wide_images size scene =
 abbrev pub tiled : Size → SceneView → (bits : ℕ) → Outcome
 tiled size scene bits = unless_refused (tiles_refusal size scene bits) (done (wide_images size scene))
 
--- what is left of the array, of its slots and its work too: the last tile is drawn, also where the images could not
--- be written; for want of memory the array is as before, or closed, or a tile is drawn; and else it is as before
+-- what remains of the array, of its slots and its work too: the last tile is drawn, also where the images could not
+-- be written; if memory runs out the array is as before, or closed, or a tile is drawn; and otherwise it is as before
 abbrev pub DrawsTiles : Status → (bits : ℕ) → Size → SceneView → (before now : ArrayView) → Type 0
 DrawsTiles status.Done bits size scene before now = IsLastDrawn bits scene size.width size.height now
 DrawsTiles status.WriteFault bits size scene before now = IsLastDrawn bits scene size.width size.height now

@@ -1,4 +1,4 @@
--- What is made of the scene that is the whole input, and what is left of the array. Clauses of public calls
+-- What is made of the scene that is the whole input, and what remains of the array. Clauses of public calls
 -- stand on it.
 use Rattle.std.specs.Prelude.{◌≡◌, ℕ, List, [], ◌∷◌, Result, length}
 use Rattle.px_array.specs.Slots.{ArrayView}
@@ -56,11 +56,11 @@ made (w.Refine fineness) scene bits = refined (doublings fineness) scene bits
 made (w.Tile size) scene bits = tiled size scene bits
 made w.List scene bits = listed scene bits
 
--- the refusal of the text, or else what comes of its scene
+-- the refusal of the text, otherwise what comes of its scene
 abbrev pub worked_out : Work → List ℕ → (bits : ℕ) → Outcome
 worked_out work bytes bits = unless_refused (text_refusal bytes) (made work (scene_of (worded bytes)) bits)
 
--- what is left of the array: all but what draws leaves it as before, whatever the status
+-- what remains of the array: all but what draws leaves it as before, whatever the status
 abbrev pub LeavesArray : Work → Status → (bits : ℕ) → SceneView → (before now : ArrayView) → Type 0
 LeavesArray w.Render status bits scene before now = Draws status bits scene before now
 LeavesArray w.Colour status bits scene before now = Draws status bits scene before now
@@ -69,7 +69,7 @@ LeavesArray (w.Refine fineness) status bits scene before now =
 LeavesArray (w.Tile size) status bits scene before now = DrawsTiles status bits size scene before now
 LeavesArray work status bits scene before now = now ≡ before
 
--- what is written, and what is left of the array
+-- what is written, and what remains of the array
 abbrev pub LeavesWork : Work → Result (Unit {0}) Stop → (bits : ℕ) → (bytes : List ℕ) → (before after : Ends) → Type 0
 LeavesWork work result bits bytes before after =
     WritesAndLeaves result (worked_out work bytes bits)

@@ -32,7 +32,7 @@ use std::alloc::Global;
 ///
 /// `render`, `colour`, `refine`, `tile`, `shadow`, `sample` and `play` open the array and clock it, and
 /// `debug` holds its session on it. Every other command and every refusal leaves it as it was, its
-/// slots and its work too; for want of memory it may be left closed, with a tile drawn, or opened for
+/// slots and its work too; if memory runs out it may be left closed, with a tile drawn, or opened for
 /// a session.
 pub fn run<S: Asks<O>, O: Sink, E: Sink, A: Operating>(
     alloc: Global,
@@ -65,7 +65,7 @@ pub fn run<S: Asks<O>, O: Sink, E: Sink, A: Operating>(
     }
 }
 
-/// Does a command, as `run` does, and tells its end. Where there is none, that is `Usage`.
+/// Does a command, as `run` does, and reports its end. Where there is none, that is `Usage`.
 pub fn perform<S: Asks<O>, O: Sink, A: Operating>(
     alloc: Global,
     command: Option<Command>,

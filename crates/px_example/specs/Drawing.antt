@@ -13,7 +13,7 @@ abbrev pub by_array : Option JobFault → Option NotDrawn
 by_array None = None
 by_array (Some fault) = Some (n.Array fault)
 
--- the refusal of the text, or else the array's of the scene
+-- the refusal of the text, otherwise the array's of the scene
 abbrev pub by_text : Option SceneFault → Option JobFault → Option NotDrawn
 by_text None of_array = by_array of_array
 by_text (Some fault) of_array = Some (n.Text fault)

@@ -1,6 +1,6 @@
 -- The nodes of a tree, read from the first on.
 use Rattle.px_num.proofs.Basics.{ℕ, ◌≡◌, ◌≤◌, ◌<◌, ◌+◌, ◌*◌, List, [], ◌∷◌, ◌++◌, length, take, get_or, fold, refl}
-use Rattle.px_num.proofs.Basics.{arith, rules, length-append, All, fold-append, All-nil, All-cons, All-append, zero}
+use Rattle.px_num.proofs.Basics.{arith, rules, length-append, All, fold-append, All-append, zero}
 use Rattle.px_num.proofs.Basics.{suc}
 use Rattle.px_expr.proofs.Words.{CanPlace, HasLeavesBelow, IsLeafBelow, join, joined, leaf, leaf_count, MAX_NESTING}
 use Rattle.px_expr.proofs.Words.{MAX_WAITING, nesting, Node, node_shape, nodes_behind, nodes_of, Op, op_node, placed}
@@ -66,8 +66,7 @@ abbrev pub AreBelow : ℕ → List Node → Type 0
 AreBelow count nodes = All (λ node. IsLeafBelow count (node_shape node)) nodes
 
 op_is_no_leaf : (count : ℕ) (op : Op) (l r : ℕ) → AreBelow count (op_node op l r ∷ [])
-op_is_no_leaf count op l r =
-    All-cons (λ node. IsLeafBelow count (node_shape node)) _ [] (rw (shape_of_op op l r) tt) (All-nil _)
+op_is_no_leaf count op l r = grind (arith, shape_of_op)
 
 pub leaves_below : (others count : ℕ) (tree : Tree) → HasLeavesBelow count tree
     → AreBelow count (nodes_behind others tree)

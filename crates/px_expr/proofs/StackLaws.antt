@@ -1,6 +1,6 @@
 -- Laws for every loop over nodes that keeps a value of each tree that waits.
 use Rattle.px_num.proofs.Basics.{arith, ap, sym, ◌∙◌, ℕ, ◌≡◌, ◌+◌, ◌<◌, ◌≤◌, List, [], ◌∷◌, ◌++◌, Option, Some, map}
-use Rattle.px_num.proofs.Basics.{take, length, reverse, slice_index_or, refl, take_all, length-reverse, length-map}
+use Rattle.px_num.proofs.Basics.{take, length, reverse, slice_index_or, take_all, length-reverse, length-map}
 use Rattle.px_num.proofs.Basics.{reverse-append, fold_more}
 use Rattle.px_expr.proofs.Words.{join, joined, leaf, Node, node_shape, Op, put, Tree, trees_after}
 use Rattle.std.specs.Option.{option_to_list}
@@ -13,14 +13,11 @@ module _ {X : Type 0} (value : Tree → X) (at : ℕ → X) (made : Op → X →
     (joins : (op : Op) (left right : Tree) →
     value (join op left right) ≡ made op (value left) (value right)) where
   value_joined : (op : Op) (trees : List Tree) → map value (joined join op trees) ≡ joined made op (map value trees)
-  value_joined op [] = refl
-  value_joined op (right ∷ []) = refl
-  value_joined op (right ∷ left ∷ others) = ap (λ x. x ∷ map value others) (joins op left right)
+  value_joined op trees = grind arith
 
   pub value_put : (trees : List Tree) (shape : Shape) →
       map value (put leaf join trees shape) ≡ put at made (map value trees) shape
-  value_put trees (p.Leaf solid) = ap (λ x. x ∷ map value trees) (leaves solid)
-  value_put trees (p.Join op left right) = value_joined op trees
+  value_put trees shape = grind (arith, value_joined)
 
   pub values_more : (nodes : List Node) (i : ℕ) (any : Node) (old new : List X) → i < length nodes
       → old ≡ map value (trees_after (take i nodes)) → new ≡ put at made old (node_shape (slice_index_or nodes i any))
@@ -31,8 +28,7 @@ module _ {X : Type 0} (value : Tree → X) (at : ℕ → X) (made : Op → X →
 pub values_last : {X : Type 0} (value : Tree → X) (nodes : List Node) (i : ℕ) (tree : Tree) (values : List X)
     → length nodes ≤ i → trees_after nodes ≡ tree ∷ [] → values ≡ map value (trees_after (take i nodes))
     → values ≡ value tree ∷ []
-values_last value nodes i tree values past whole now =
-    now ∙ ap (λ some. map value (trees_after some)) (take_all i nodes past) ∙ ap (map value) whole
+values_last value nodes i tree values past whole now = grind (arith, take_all)
 
 -- a stack that keeps the values, the newest last, has as many as trees wait
 pub values_length : {X : Type 0} (value : Tree → X) (stack : List X) (trees : List Tree)

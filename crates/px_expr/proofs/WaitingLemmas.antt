@@ -10,8 +10,7 @@ use Rattle.px_expr.specs.declared.node.Node.TheVariants as n
 
 pub length-all_nodes : (trees : List Tree) → length (all_nodes trees) ≡ all_size trees
 length-all_nodes [] = refl
-length-all_nodes (tree ∷ others) =
-    grind (arith, length-append {A = Node}, length-all_nodes others, length-nodes_behind (all_size others) tree)
+length-all_nodes (tree ∷ others) = grind (arith, length-all_nodes others, length-append, length-nodes_behind)
 
 pub length-subtrees_of : (trees : List Tree) → length (subtrees_of trees) ≡ length trees
 length-subtrees_of [] = refl
@@ -38,9 +37,7 @@ reverse_push xs x = reverse-append xs (x ∷ [])
 pub kept_leaf : (given : List Node) (kept : List Subtree) (trees : List Tree) (solid : ℕ) → IsKept given kept trees
     → all_leaves trees < MAX_LEAVES → solid < 256 → IsKept (given ++ n.Leaf solid ∷ [])
     (kept ++ record { root = length given; nesting = 0 } ∷ []) (leaf solid ∷ trees)
-kept_leaf given kept trees solid is few known =
-    let root : length given ≡ all_size trees + 1 - 1 = omega (arith, (counts given kept trees is).nodes)
-    in grind (arith, reverse_push)
+kept_leaf given kept trees solid is few known = grind (arith, counts given kept trees is, reverse_push)
 
 all_nodes_joined : (op : Op) (left right : Tree) (others : List Tree) →
     all_nodes (join op left right ∷ others)
@@ -57,9 +54,7 @@ last_are kept rest left right a b others is last = grind (arith, reverse-append)
 pub nesting_joined : (kept rest : List Subtree) (left right : Subtree) (op : Op) (trees : List Tree) → reverse kept
     ≡ subtrees_of trees → 2 ≤ length trees
     → kept ≡ rest ++ left ∷ right ∷ [] → max left.nesting right.nesting + 1 ≡ nesting (newest (joined join op trees))
-nesting_joined kept rest left right op [] is two last = absurd (omega arith)
-nesting_joined kept rest left right op (b ∷ []) is two last = absurd (omega arith)
-nesting_joined kept rest left right op (b ∷ a ∷ others) is two last = grind (arith, nat_tests, common_steps, last_are)
+nesting_joined kept rest left right op trees is two last = grind (arith, nat_tests, common_steps, last_are)
 
 -- the last two trees are joined
 pub kept_joined : (given : List Node) (kept rest : List Subtree) (left right : Subtree) (trees : List Tree) (op : Op)

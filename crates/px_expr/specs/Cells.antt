@@ -76,7 +76,7 @@ shown_in Complement side = side.hidden
 abbrev pub shown_where : Sense → Cell → List ℕ
 shown_where sense side = where_true (truth_in sense side.member) (shown_in sense side)
 
--- the faces of a side: shown where it has the cell, or else hidden
+-- the faces of a side: shown where it has the cell, otherwise hidden
 abbrev pub own_faces : Cell → List ℕ
 own_faces side = if side.member then side.shown else side.hidden
 
@@ -95,7 +95,7 @@ combined op left right = record {
   hidden = shown_when (complement_of (combination_of op)) left right;
 }
 
--- an expression at a cell: a solid as it is there, and else its sides combined
+-- an expression at a cell: a solid as it is there, and otherwise its sides combined
 abbrev pub cell : (ℕ → Cell) → Tree → Cell
 cell solid_at (leaf solid) = solid_at solid
 cell solid_at (join op left right) = combined op (cell solid_at left) (cell solid_at right)

@@ -12,7 +12,7 @@ abbrev pub leaf_count : Tree → ℕ
 leaf_count (leaf solid) = 1
 leaf_count (join op left right) = leaf_count left + leaf_count right
 
--- how many operators stand above the deepest leaf
+-- how many operators are above the deepest leaf
 abbrev pub nesting : Tree → ℕ
 nesting (leaf solid) = 0
 nesting (join op left right) = max (nesting left) (nesting right) + 1

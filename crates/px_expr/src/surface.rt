@@ -3,7 +3,7 @@ ghost use Rattle.std.specs.Prelude.{◌≡◌, ◌<◌, ℕ};
 ghost use Rattle.px_expr.specs.Tree.{Tree, HasLeavesBelow};
 ghost use Rattle.px_expr.specs.Cells.{Cell, cell, is_member, HasSurface};
 
-/// Where an expression begins along a ray it shows a face, and just behind its end it hides one,
+/// Where an expression begins along a ray it shows a face, and just after its end it hides one,
 /// wherever that stands of each of its solids.
 pub fn surface_law()
     ensures { (before : ℕ → Cell) (now : ℕ → Cell) (count : ℕ) →

@@ -1,6 +1,6 @@
 -- The covering law: one front and one back cover a pixel where the solid has a cell there.
 use Rattle.px_num.proofs.Basics.{common_steps, ◌≡◌, ◌<◌, ◌≤◌, ◌+◌, ◌-◌, ℕ, zero, suc, ℤ, pos, neg_ℤ, ◌-ℤ◌, Bool, true}
-use Rattle.px_num.proofs.Basics.{false, ◌&&◌, List, [], ◌∷◌, ◌++◌, length, map, take, drop, get_or, eqb, refl, ap, sym}
+use Rattle.px_num.proofs.Basics.{false, ◌&&◌, List, [], ◌∷◌, ◌++◌, length, map, take, drop, get_or, eqb, ap, sym}
 use Rattle.px_num.proofs.Basics.{◌∙◌, arith, add-one, list_all, ints, cases_lt, nat_tests, get_or-append_right}
 use Rattle.px_num.proofs.Basics.{get_or-map, get_or_append_left, length-map, list_all-append, list_all-map}
 use Rattle.px_face.proofs.Words.{above, all_same, and_false, and_true, AreFaces, at_least, back_edges, back_planes}
@@ -48,9 +48,7 @@ kept_parts a b c d x y = grind (arith, list_all-append)
 
 one_place : (sides first others met here : Bool) → first ≡ here → (here ≡ true → others ≡ met) → (sides && first)
     && others ≡ (sides && met) && here
-one_place false first others met here e is = refl
-one_place true false others met here e is = rw (← e) (sym (and_false met))
-one_place true true others met here e is = is (sym e) ∙ rw (← e) (sym (and_true met))
+one_place sides first others met here e is = grind (arith, and_false, and_true)
 
 -- the place that leads, of values of planes
 lead_is : (v : Linear → ℤ) (ps : List Linear) (i : ℕ) → i < length ps → is_first_greatest (map v (take i ps))

@@ -17,12 +17,7 @@ le_same v = grind (arith, ints)
 
 -- the tests of a cell, in the order of the depths
 in_order : (near n sides f b : Bool) → near ≡ true → (n && sides) && f && b ≡ (sides && ((near && f) && (n && b)))
-in_order near true true true b e = rw e refl
-in_order near true true false b e = rw e refl
-in_order near true false f b e = refl
-in_order near false true true b e = rw e refl
-in_order near false true false b e = rw e refl
-in_order near false false f b e = refl
+in_order near n sides f b e = grind arith
 
 some_cell : (sides : Bool) (e l z : ℤ) → (sides && (le_z e z && lt_z z l))
     ≡ ((sides && lt_z e l) && le_z e z && lt_z z l)
@@ -50,12 +45,7 @@ module _ (s : SolidView) (end x y : ℕ) where
 
   pub turned_backs : (z : ℤ) → list_all (λ u. le_z u (neg_ℤ z -ℤ pos 1)) (map turned (back_planes s.backs end))
       ≡ lt_z z (leaves_at s end x y)
-  turned_backs z =
-      list_all-map (λ u. le_z u (neg_ℤ z -ℤ pos 1)) turned (back_planes s.backs end)
-      ∙ all_same (λ q. le_z (turned q) (neg_ℤ z -ℤ pos 1)) (λ q. lt_z z (at q)) (λ q. before_turned z (at q))
-      (back_planes s.backs end)
-      ∙ sym (list_all-map (λ u. lt_z z u) at (back_planes s.backs end))
-      ∙ backs_over z
+  turned_backs z = grind (arith, backs_over z, list_all-map, all_same, before_turned)
 
   pub cells_are : (z : ℕ) → is_inside_at s end x y z ≡ (is_met s end x y && le_z (enters_at s x y) (pos z)
       && lt_z (pos z) (leaves_at s end x y))

@@ -2,7 +2,7 @@
 use Rattle.px_num.proofs.Basics.{rules, ◌≡◌, ◌<◌, ◌≤◌, ◌+◌, ◌-◌, ◌^◌, All, ℕ, List, [], ◌∷◌, ◌++◌, length, map, take}
 use Rattle.px_num.proofs.Basics.{drop, get_or, ap, sym, ◌∙◌, arith, append_assoc, length-append, inl, inr, nat_tests}
 use Rattle.px_num.proofs.Basics.{common_steps, cases_lt, length-map, get_or_append_left, get_or-append_right}
-use Rattle.px_num.proofs.Basics.{get_or-map, get_or-take, take_all, take_more, All-get_or}
+use Rattle.px_num.proofs.Basics.{get_or-map, get_or-take, take_all, take_more}
 use Rattle.px_face.proofs.Words.{above, at_least, back_edges, back_planes, edge_count, edges, face_count, front_planes}
 use Rattle.px_face.proofs.Words.{get_or-drop, IsInTreeRange, IsLawfulSolid, length-drop, length-take-le, level, Linear}
 use Rattle.px_face.proofs.Words.{lt_false, lt_true, SolidView}
@@ -116,8 +116,7 @@ edges_range s lawful end small face there = elim (cases_lt face (length s.fronts
 pub edge_range : (s : SolidView) → IsLawfulSolid s → (end : ℕ) → end < 2 ^ 32 → (face k : ℕ) (r : Linear)
     → face < face_count s → k < edge_count s → r ≡ get_or (edges s end face) k (level 0) → IsInTreeRange r
 edge_range s lawful end small face k r there low is =
-    rw is (All-get_or IsInTreeRange (edges s end face) k (level 0) (omega (arith, edges_count s end face there))
-    (edges_range s lawful end small face there))
+    grind (arith, edges_count s end face there, edges_range s lawful end small face there)
 
 pub edges_more : (s : SolidView) (end face k : ℕ) (old new : List Linear) (r : Linear) → face < face_count s
     → old ≡ take k (edges s end face) → r ≡ get_or (edges s end face) k (level 0)

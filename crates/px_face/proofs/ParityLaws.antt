@@ -14,10 +14,7 @@ odd_next : (n : ℕ) → is_odd (1 + n) ≡ not (is_odd n)
 odd_next n = grind (arith, nat_tests)
 
 turns : (b odd : Bool) → (if not b then not odd else odd) ≡ (if b then not (not odd) else not odd)
-turns true true = refl
-turns true false = refl
-turns false true = refl
-turns false false = refl
+turns b odd = grind arith
 
 pub turned_is_odd : (test : ℕ → Bool) (odd : Bool) (places : List ℕ) →
     fold (turned_where test) odd places ≡ (if is_odd (count_by test places) then not odd else odd)

@@ -33,19 +33,11 @@ count_one test a (suc n) k b one low high = elim (cases_eq a k) [
 -- a test that adds something where the place is the one
 where_here : (met here passed known : Bool) → (here ≡ true → passed ≡ known) → ((met && here) && passed)
     ≡ ((met && known) && here)
-where_here false here passed known h = refl
-where_here true false passed true h = refl
-where_here true false passed false h = refl
-where_here true true passed true h = h refl
-where_here true true passed false h = h refl
+where_here met here passed known h = grind arith
 
 odd_between : (met entered left : Bool) → (met ≡ true → left ≡ true → entered ≡ true) → (met && entered && not left)
     ≡ is_odd (cond (met && entered) 1 0 + cond (met && left) 1 0)
-odd_between false entered left first = refl
-odd_between true true true first = refl
-odd_between true true false first = refl
-odd_between true false true first = let e : false ≡ true = first refl refl in cc
-odd_between true false false first = refl
+odd_between met entered left first = grind arith
 
 module _ (s : SolidView) (end x y : ℕ) (law : IsCoveredOnce s end x y) where
   fronts_passed : (z i : ℕ) → i < length s.fronts + 1 → is_passed_at s end x y z i

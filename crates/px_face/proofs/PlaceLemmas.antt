@@ -17,12 +17,7 @@ step_to v z g low false e is = grind (arith, ints)
 greatest_cons : (v : ℤ) (vs : List ℤ) (d z : ℤ) → le_z (get_or (v ∷ vs) (greatest_place (v ∷ vs)) d) z
     ≡ list_all (λ u. le_z u z) (v ∷ vs)
 greatest_cons v [] d z = sym (and_true (le_z v z))
-greatest_cons v (w ∷ ws) d z =
-    let step = step_to v z _ _ _ (greatest_cons w ws d v) (greatest_cons w ws d z) in
-    elim (cases_Bool (list_all (λ u. le_z u v) (w ∷ ws))) [
-      | inl all ↦ rw all (rw all at step)
-      | inr some ↦ rw some (rw some at step)
-    ]
+greatest_cons v (w ∷ ws) d z = grind (arith, greatest_cons w ws d v, greatest_cons w ws d z, step_to, cases_Bool)
 
 -- the greatest is at most z exactly where all are
 pub greatest_bounds : (vs : List ℤ) (d z : ℤ) → 0 < length vs → le_z (get_or vs (greatest_place vs) d) z

@@ -14,8 +14,7 @@ least_shown (n ∷ m ∷ ns) some = grind (arith, nat_tests, common_steps, min_c
 least_lowest : (ns : List ℕ) (face : ℕ) → has_face face ns ≡ true → least ns ≤ face
 least_lowest [] face has = absurd cc
 least_lowest (n ∷ []) face has = grind (arith, nat_tests, has)
-least_lowest (n ∷ m ∷ ns) face has =
-    let later = least_lowest (m ∷ ns) face in grind (arith, nat_tests, has, later)
+least_lowest (n ∷ m ∷ ns) face has = grind (arith, least_lowest (m ∷ ns) face)
 
 pub shows_first_cells : ScenesHaveSurfaces → PicturesShowFirstCells
 shows_first_cells surfaces scene lawful x y = grind (arith, first_cells, least_shown, begins, least_lowest)

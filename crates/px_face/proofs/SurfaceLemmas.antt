@@ -1,4 +1,4 @@
--- Where a solid begins it shows a front, and just behind its end it hides a back; and so does a scene.
+-- Where a solid begins it shows a front, and just after its end it hides a back; and so does a scene.
 use Rattle.px_num.proofs.Basics.{common_steps, ◌≡◌, ◌<◌, ◌&&◌, ℕ, zero, suc, ℤ, pos, Bool, true, false, nat_le, nat_lt}
 use Rattle.px_num.proofs.Basics.{List, [], ◌∷◌, ◌++◌, length, map, Option, Some, None, refl, sym, ◌∙◌, arith, inl, inr}
 use Rattle.px_num.proofs.Basics.{if◌then◌else◌, slice_get, option_map_or, int_eq, ints, nat_tests}

@@ -71,9 +71,7 @@ module _ (far near : ℕ) (fs : List Face) (x y z : ℕ) where
   ])
 
 second_of : (a b c : Bool) → (a && b && c) ≡ true → b ≡ true
-second_of true true c h = refl
-second_of true false c h = h
-second_of false b c h = cc
+second_of a b c h = grind arith
 
 pub whole_fronts : WholeFronts
 whole_fronts s far x y z inside =

@@ -1,4 +1,4 @@
--- The surface law: where a solid or a scene begins along a ray it shows a face, and just behind its end it hides one;
+-- The surface law: where a solid or a scene begins along a ray it shows a face, and just after its end it hides one;
 -- so a pixel shows face 0 exactly at the background. Clauses of public calls stand on it.
 use Rattle.std.specs.Prelude.{◌≡◌, ◌<◌, ◌≤◌, ◌↔◌, ℕ, Bool, true, false, Option, Some, None, All}
 use Prim.Native.Nat.{zero, suc}
@@ -16,7 +16,7 @@ abbrev pub scene_before : SceneView → (x y z : ℕ) → Cell
 scene_before scene x y zero = no_cell
 scene_before scene x y (suc z) = scene_cell scene x y z
 
--- the far limit has no number, so nothing is said of the cell there; no member stands there or behind it
+-- the far limit has no number, so nothing is said of the cell there; no member is there or after it
 abbrev pub SolidsHaveSurfaces : Type 0
 SolidsHaveSurfaces = (s : SolidView) (d : Depths) (x y z : ℕ) → z < d.far →
     HasSurface (solid_before d x y z s) (solid_cell d x y z s)
@@ -48,7 +48,7 @@ pub record ShowsBackground (scene : SceneView) (x y : ℕ) : Type 0 where
   pub face : ((picture scene x y).face ≡ 0) ↔ (first_cell scene x y ≡ None)
   pub depth : ((picture scene x y).depth ≡ far_of scene) ↔ (first_cell scene x y ≡ None)
 
--- a picture shows no face but the scene's
+-- a picture shows only faces of the scene
 abbrev pub PicturesShowFaces : Type 0
 PicturesShowFaces = (scene : SceneView) → IsLawfulScene scene → (x y : ℕ)
     → (picture scene x y).face ≤ faces_of scene.solids

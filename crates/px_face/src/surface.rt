@@ -9,9 +9,9 @@ ghost use Rattle.px_face.specs.Surfaces.{
   SolidsHaveSurfaces,
 };
 
-/// Where a solid or a scene begins along a ray it shows a face, and just behind its end, before the
+/// Where a solid or a scene begins along a ray it shows a face, and just after its end, before the
 /// far limit, it hides one (docs/PICTURE.md, "What a pixel shows"). A pixel shows face 0, and the
-/// far limit's depth, exactly where no cell of it is a member; else its first cell that is one, and the
+/// far limit's depth, exactly where no cell of it is a member; otherwise its first cell that is one, and the
 /// lowest-numbered face shown there.
 pub fn laws_of_surfaces()
     ensures solids { SolidsHaveSurfaces }

@@ -23,7 +23,7 @@ pub small_more : (b : Bool) (n t : ℕ) → n < 2 ^ t → n + (if b then 2 ^ t e
 small_more true n t small = omega (arith, power_next t)
 small_more false n t small = omega (arith, power_next t)
 
--- eight rows of a column stand in one word
+-- eight rows of a column are in one word
 pub in_one_word : (ny x top j : ℕ) → top % 8 ≡ 0 → j < 8 → top + j < 2 ^ ny → (x * 2 ^ ny + top) % 64 + j < 64
 in_one_word zero x top j first low within = omega arith
 in_one_word (suc zero) x top j first low within = omega arith

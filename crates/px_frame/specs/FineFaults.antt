@@ -20,7 +20,7 @@ fine_fault s scene =
     else if nat_lt MAX_PICTURE_SIZE (2 ^ s * scene.height) then Some (fault.Picture (2 ^ s * scene.height))
     else option_map fault.Coefficient (first_past (fine_scene s scene).solids)
 
--- a refusal is this fault, or want of memory
+-- a refusal is this fault, or that memory ran out
 abbrev pub IsRefusal : Option FineFault → FineFault → Type 0
 IsRefusal found (fault.Fraction bits) = found ≡ Some (fault.Fraction bits)
 IsRefusal found (fault.Picture pixels) = found ≡ Some (fault.Picture pixels)

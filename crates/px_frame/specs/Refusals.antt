@@ -12,7 +12,7 @@ too_many_of None = None
 too_many_of (Some count) = Some (f.Products count)
 
 -- why an array with pixels of so many memory bits cannot draw a scene, where it cannot: its passes need more bits,
--- or else a wanted list of products is past the limit
+-- otherwise a wanted list of products is past the limit
 abbrev pub job_refusal : (bits : ℕ) → SceneView → Option JobFault
 job_refusal bits scene =
     if nat_lt bits (need_of (layout_of scene)) then Some (f.PixelMemory (need_of (layout_of scene)))

@@ -73,7 +73,7 @@ pub fn deliver_images<A: Operating, O: Sink>(
     out.finish()
 }
 
-/// Makes the clocks that are left, and answers where the picture then stands in a pixel's memory.
+/// Makes the clocks that are left, and answers where the picture then is in a pixel's memory.
 #[tactic(auto, using(crate::proofs::PictureLemmas::background_shown))]
 pub fn draw_job<A: Operating>(job: &mut Job<'_>, scene: &Scene, array: &mut A) -> Layout
     requires scene { scene.now ≡ job.old.scene }

@@ -15,7 +15,7 @@ pub enum FineFault {
     /// The picture would be wider or higher than 512 pixels.
     #[error("a picture of {found} pixels, of at most 512")]
     Picture {
-        /// Its width, or else its height.
+        /// Its width, otherwise its height.
         found: u32,
     },
     /// The constant of a plane would be greater than `2^33` in size.

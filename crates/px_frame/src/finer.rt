@@ -16,7 +16,7 @@ use std::alloc::Global;
 ///
 /// It is refused where the fraction of a depth would have too many bits, then where the picture
 /// would be too wide or too high, then where the constant of a plane would be too large; each of
-/// them comes where it is due, before memory is taken.
+/// them comes when it must, before memory is taken.
 pub fn fine_scene(alloc: Global, scene: &Scene, s: u32) -> Result<Scene, FineFault>
     requires { s ≤ 2 }
     ensures scene { IfOk result (λ fine. fine ≡ fine_scene s scene.now) }

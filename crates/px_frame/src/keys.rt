@@ -25,6 +25,7 @@ pub fn stored<A: Array>(array: &A, layout: &Layout, x: u32, y: u32) -> (u32, u32
 }
 
 /// The number in a field of at most 24 bits of the memory of the pixel (x, y).
+#[tactic(auto, using(px_num::proofs::Basics::pow_mono))]
 fn short_number<A: Array>(array: &A, field: Field, x: u32, y: u32) -> u32
     requires pixel { HasPixel (A.view array.now).device x y }
     requires room { field.at + field.len ≤ A.BITS }

@@ -21,6 +21,7 @@ pub(crate) fn mean_at(strip: &Strip, fine: &Scene, s: u32, x: u32, y: u32) -> Co
 }
 
 /// Over so many rows of as many pixels.
+#[tactic(auto, using(crate::proofs::MeanSumLaws::block_more, crate::proofs::MeanSumLaws::most_together))]
 fn block_sums(strip: &Strip, fine: &Scene, from: u32, top: u32, across: u32) -> Sums
     requires few { across ≤ 4 }
     requires across { from + across ≤ fine.now.width }
@@ -37,6 +38,7 @@ fn block_sums(strip: &Strip, fine: &Scene, from: u32, top: u32, across: u32) -> 
 }
 
 /// Over so many pixels of row `y`.
+#[tactic(auto, using(crate::proofs::MeanSumLaws::row_more, crate::proofs::MeanSumLaws::most_more))]
 fn row_sums(strip: &Strip, fine: &Scene, from: u32, y: u32, across: u32) -> Sums
     requires few { across ≤ 4 }
     requires across { from + across ≤ fine.now.width }

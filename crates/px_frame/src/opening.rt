@@ -12,7 +12,7 @@ use px_control::{Job, JobFault};
 use px_scene::Scene;
 use std::alloc::Global;
 
-/// Opens an array for a scene: `Job::open`, whose refusals it tells as one value of the scene and the
+/// Opens an array for a scene: `Job::open`, whose refusals it reports as one value of the scene and the
 /// memory bits of a pixel.
 pub fn open_job<'s, A: Array>(
     alloc: Global,

@@ -1,4 +1,4 @@
--- The laws of told bytes over several calls in a row.
+-- The laws of reported bytes over several calls in a row.
 use Rattle.px_num.proofs.Basics.{◌≡◌, ℕ, ◌+◌, ◌-◌, Bool, List, [], ◌++◌, take, drop, length, Option, Some, None, Result}
 use Rattle.px_num.proofs.Basics.{Ok, Err, OnErr, append_assoc, append-nil, refl, sym, arith, length-append, length-drop}
 use Rattle.px_num.proofs.Basics.{zero, suc, take-add, take-append-add, take_all, Appends, Consumes, Keeps}

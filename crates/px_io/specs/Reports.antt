@@ -1,4 +1,4 @@
--- What is told of bytes and of an end. Clauses of public calls stand on it.
+-- What is said of bytes and of an end. Clauses of public calls stand on it.
 use Rattle.std.specs.Prelude.{◌≡◌, ℕ, ◌<◌, ◌≤◌, List, length, take, Bool, true, false, ⊤, Result, MatchResult}
 use Rattle.std.specs.Io.KnownBytes.{Appends, Consumes, Keeps}
 use Rattle.std.specs.declared.option.Option.{Option}
@@ -13,7 +13,7 @@ abbrev pub IsFrontOf : Option (List ℕ) → ℕ → List ℕ → Type 0
 IsFrontOf None limit bytes = ⊤
 IsFrontOf (Some known) limit bytes = bytes ≡ take limit known
 
--- where it is told, it is this
+-- where it is reported, it is this
 abbrev pub Tells : Option Bool → Bool → Type 0
 Tells None answer = ⊤
 Tells (Some told) answer = told ≡ answer
@@ -23,7 +23,7 @@ pub record Reopens (old new : Option Bool) (count : ℕ) : Type 0 where
   pub taken : 0 < count → Tells new false
   pub idle : count ≡ 0 → new ≡ old
 
--- what a sink tells of itself: the bytes taken, whether it is finished, and its count of faults
+-- what a sink reports of itself: the bytes taken, whether it is finished, and its count of faults
 pub record SinkState : Type 0 where
   pub written : Option (List ℕ)
   pub finished : Option Bool

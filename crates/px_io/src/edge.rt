@@ -9,7 +9,7 @@ use crate::{Failed, Sink, Source};
 use std::io::{Read, Write};
 use std::marker::Model;
 
-/// A reader of std as a source: it tells what the reader tells.
+/// A reader of std as a source: it reports what the reader reports.
 #[derive(Drop)]
 pub struct StdSource<R> {
     reader: R,
@@ -52,7 +52,7 @@ impl<R: Read> Source for StdSource<R> {
     }
 }
 
-/// A writer of std as a sink: it tells what the writer tells, and not whether it is finished.
+/// A writer of std as a sink: it reports what the writer reports, and not whether it is finished.
 #[derive(Drop)]
 pub struct StdSink<W> {
     writer: W,

@@ -2,7 +2,7 @@
 ghost use Rattle.std.specs.Prelude.{◌≡◌, ◌≤◌};
 ghost use Rattle.px_io.specs.Counts.{one_more};
 
-/// A call on a source or a sink failed. The count of faults of that end tells it too.
+/// A call on a source or a sink failed. The count of faults of that end shows it too.
 #[derive(Clone, Copy, Debug, PartialEq, Eq)]
 pub struct Failed;
 

@@ -1,4 +1,4 @@
-//! A sink over memory, whose calls fail by a list or for want of room.
+//! A sink over memory, whose calls fail by a list or for lack of room.
 ghost use Rattle.std.specs.Prelude.{◌≡◌, ◌<◌, ◌-◌, ◌++◌, ◌↔◌, ◌⊎◌, [], Contains, IsErr, IfOk, OnOk, OnErr, length, min, take, true, false, Some, if◌then◌else◌, nat_lt};
 ghost use Rattle.px_io.specs.Counts.{HasCause, HasWriteCause, one_more};
 

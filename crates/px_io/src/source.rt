@@ -8,7 +8,7 @@ use crate::Failed;
 
 /// A source of bytes, which is read to its end.
 pub trait Source {
-    /// The bytes still to come, where the source tells them.
+    /// The bytes still to come, where the source reports them.
     ghost rest: { Self → Option (List ℕ) };
 
     /// How often a call failed. It never falls.

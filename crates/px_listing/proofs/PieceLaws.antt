@@ -21,7 +21,7 @@ puts_broken a b c u v xs ys first second =
     sym (append_assoc first.taken v ys) ∙ (ap (λ bytes. bytes ++ ys) first.rest ∙ append_assoc u xs ys) in
     rw whole at (front_after a b c first.taken (v ++ ys) first.all second)
 
--- a front of what waits and ys, which stand in a whole behind xs
+-- a front of what waits and ys, which are in a whole after xs
 pub puts_cut : (a b c : SinkState) (u v xs ys rest whole : List ℕ) → xs ++ (ys ++ rest) ≡ whole → Puts a b u xs v
     → TakesFront b c (v ++ ys) → TakesFront a c (u ++ whole)
 puts_cut a b c u v xs ys rest whole is first second =

@@ -4,7 +4,7 @@ use Rattle.px_num.proofs.Basics.{Result, Ok, Err, sym, subst, arith, length-appe
 use Rattle.px_listing.proofs.Words.{grid, grid_past, IsDraft, IsGrid, IsListingDraftOf, IsOpened, ListForm}
 use Rattle.px_listing.proofs.Words.{listing_limit_of, Macro, negsuc, none_first, none_second, operation, past, size_of}
 use Rattle.px_listing.proofs.Words.{Words}
-use Rattle.px_listing.specs.Reading.{ListingDraft, extended, listing_taken, unwritten}
+use Rattle.px_listing.specs.Reading.{ListingDraft, extended, listing_taken}
 use Rattle.px_listing.specs.Reading.{with_operation}
 use Rattle.px_listing.proofs.AcceptedLemmas.{all_more, draft_more, kind_lawful}
 use Rattle.px_listing.proofs.LimitLemmas.{within}
@@ -33,9 +33,6 @@ pub kept_more : (bits count : ℕ) (draft new : ListingDraft) (form : ListForm) 
     → IsOpened draft.due form → new ≡ extended draft form → IsDraft bits count draft → IsDraft bits (count + 1) new
 kept_more bits count draft new form good opened is keeps =
     subst (IsDraft bits (count + 1)) (sym is) (kept bits count draft form good opened keeps)
-
-pub read_start : (bits : ℕ) (draft : ListingDraft) → draft ≡ unwritten → IsListingDraftOf bits draft []
-read_start bits draft e = grind arith
 
 pub read_next : {T E : Type 0} (r : Result T E) (bits : ℕ) (draft new : ListingDraft) (before : List Words) (l : Words)
     → (bits ≤ 256) × IsListingDraftOf bits draft before → OnOk r (new ≡ listing_taken draft l)

@@ -137,7 +137,7 @@ plain_word : (kind : Kind) → is_plain (word_of kind) ≡ true
 plain_word n.All = refl
 plain_word kind = refl
 
--- so many numbers, by which an operation of a kind is due
+-- so many numbers, that an operation of a kind needs
 counted_by : (counts are : Bool) (kind : Kind) (ws : Words) → counts ≡ true → are ≡ true
     → operation_form kind (if not counts then Err c.WordCount else if are then Ok (numbers_of ws) else Err c.NotNumber)
     ≡ Ok (operation kind (numbers_of ws))

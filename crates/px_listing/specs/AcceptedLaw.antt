@@ -11,6 +11,6 @@ abbrev pub AcceptedListingIsLawful : Type 0
 AcceptedListingIsLawful = (bits : ℕ) (text : List ℕ) → listing_refusal_of bits text ≡ None →
     All (λ m. IsLawful m bits) (listing_of (worded text)).macros
 
--- no text is refused for want of memory, which is a call's own fault
+-- no text is refused because memory runs out, which is a call's own fault
 abbrev pub MemoryIsNoRefusal : Type 0
 MemoryIsNoRefusal = (bits : ℕ) (text : List ℕ) → listing_refusal_of bits text ≢ Some (fault.Memory want)

@@ -38,7 +38,7 @@ abbrev pub head_of : Due → ℕ
 head_of d.Header = 0
 head_of due = 1
 
--- operations come only behind a line
+-- operations come only after a line
 abbrev pub IsOpened : Due → ListForm → Type 0
 IsOpened due (operation kind numbers) = 1 ≤ head_of due
 IsOpened due form = ⊤

@@ -23,10 +23,6 @@ form_past a b c =
     (option_or (size_past kind.Coefficient (2 ^ 27) a) (size_past kind.Coefficient (2 ^ 27) b))
     (size_past kind.Coefficient (2 ^ 38) c)
 
-abbrev pub sign_past : List ℤ → Option (LineFault ListKind)
-sign_past (a ∷ b ∷ c ∷ []) = form_past a b c
-sign_past zs = None
-
 -- a place that is negative, or, with so many bits from it on, past the memory: then its end is found
 abbrev pub end_past : (bits : ℕ) → (at len : ℤ) → Option (LineFault ListKind)
 end_past bits at len =
@@ -34,29 +30,13 @@ end_past bits at len =
     else if le_z (at +ℤ len) (pos bits) then None
     else Some (f.Limit kind.Place (at +ℤ len))
 
-abbrev pub place_past : (bits : ℕ) → List ℤ → Option (LineFault ListKind)
-place_past bits (place ∷ []) = end_past bits place (pos 1)
-place_past bits zs = None
-
-abbrev pub bit_past : (bits : ℕ) → List ℤ → Option (LineFault ListKind)
-bit_past bits (place ∷ v ∷ []) = option_or (end_past bits place (pos 1)) (past kind.Value (pos 0) (pos 1) v)
-bit_past bits zs = None
-
 -- the length of a field, and then its place
 abbrev pub field_past : (bits : ℕ) → (at len : ℤ) → Option (LineFault ListKind)
 field_past bits at len = option_or (past kind.Length (pos 1) (pos 40) len) (end_past bits at len)
 
-abbrev pub linear_past : (bits : ℕ) → List ℤ → Option (LineFault ListKind)
-linear_past bits (a ∷ b ∷ c ∷ at ∷ len ∷ []) = option_or (form_past a b c) (field_past bits at len)
-linear_past bits zs = None
-
 -- a constant that has more bits than its field
 abbrev pub value_past : (len number : ℤ) → Option (LineFault ListKind)
 value_past len number = past kind.Value (pos 0) (pos (2 ^ size_of len - 1)) number
-
-abbrev pub const_past : (bits : ℕ) → List ℤ → Option (LineFault ListKind)
-const_past bits (at ∷ len ∷ number ∷ []) = option_or (field_past bits at len) (value_past len number)
-const_past bits zs = None
 
 -- two fields of one length
 abbrev pub fields_past : (bits : ℕ) → (at len to : ℤ) → Option (LineFault ListKind)
@@ -67,24 +47,16 @@ abbrev pub overlap : (at len to : ℤ) → Option (LineFault ListKind)
 overlap at len to =
     if le_z (at +ℤ len) to || le_z (to +ℤ len) at then None else Some (f.Limit kind.Overlap to)
 
-abbrev pub copy_past : (bits : ℕ) → List ℤ → Option (LineFault ListKind)
-copy_past bits (at ∷ len ∷ to ∷ []) = option_or (fields_past bits at len to) (overlap at len to)
-copy_past bits zs = None
-
-abbrev pub less_past : (bits : ℕ) → List ℤ → Option (LineFault ListKind)
-less_past bits (at ∷ len ∷ to ∷ []) = fields_past bits at len to
-less_past bits zs = None
-
 -- the first limit that the numbers of an operation pass
 abbrev pub shape_past : (bits : ℕ) → Shape → List ℤ → Option (LineFault ListKind)
-shape_past bits s.Nothing zs = None
-shape_past bits s.Form zs = sign_past zs
-shape_past bits s.Place zs = place_past bits zs
-shape_past bits s.Bit zs = bit_past bits zs
-shape_past bits s.FormAndField zs = linear_past bits zs
-shape_past bits s.Constant zs = const_past bits zs
-shape_past bits s.FieldsApart zs = copy_past bits zs
-shape_past bits s.Fields zs = less_past bits zs
+shape_past bits s.Form (a ∷ b ∷ c ∷ []) = form_past a b c
+shape_past bits s.Place (at ∷ []) = end_past bits at (pos 1)
+shape_past bits s.Bit (at ∷ v ∷ []) = option_or (end_past bits at (pos 1)) (past kind.Value (pos 0) (pos 1) v)
+shape_past bits s.FormAndField (a ∷ b ∷ c ∷ at ∷ len ∷ []) = option_or (form_past a b c) (field_past bits at len)
+shape_past bits s.Constant (at ∷ len ∷ number ∷ []) = option_or (field_past bits at len) (value_past len number)
+shape_past bits s.FieldsApart (at ∷ len ∷ to ∷ []) = option_or (fields_past bits at len to) (overlap at len to)
+shape_past bits s.Fields (at ∷ len ∷ to ∷ []) = fields_past bits at len to
+shape_past bits shape zs = None
 
 -- the first limit that a line of good form passes, in pixels of so many memory bits
 abbrev pub listing_limit_of : (bits : ℕ) → ListForm → Option (LineFault ListKind)

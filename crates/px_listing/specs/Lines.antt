@@ -60,7 +60,7 @@ abbrev pub closing_form : Words → Result ListForm Cause
 closing_form [] = Ok closing
 closing_form ws = Err c.WordCount
 
--- what a line says, by what is due, its first word and those behind: the header, the grid, operations and the end
+-- what a line says, by what is expected, its first word and those after: the header, the grid, operations and the end
 abbrev pub timely_form : Due → Keyword → Words → Result ListForm Cause
 timely_form d.Header k.Pxlist ws = opening_form ws
 timely_form d.Header keyword ws = Err c.NotHeader

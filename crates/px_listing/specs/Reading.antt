@@ -23,7 +23,7 @@ use Rattle.px_listing.specs.declared.limit.ListKind.{ListKind}
 abbrev pub ListFault : Type 0
 ListFault = TextFault ListKind
 
--- what lines have said: what is due, the exponents of the grid's columns and rows, and the operations
+-- what lines have said: what is expected, the exponents of the grid's columns and rows, and the operations
 pub record ListingDraft : Type 0 where
   pub due : Due
   pub nx : ℕ
@@ -81,7 +81,7 @@ listing_in draft = record { nx = draft.nx; ny = draft.ny; macros = draft.macros 
 abbrev pub listing_of : List Words → ListingView
 listing_of lines = listing_in (listing_draft_of lines)
 
--- whether nothing more is due, as behind the end
+-- whether nothing more is expected, as after the end
 abbrev pub is_listing_over : Due → Bool
 is_listing_over d.Nothing = true
 is_listing_over due = false

@@ -1,4 +1,4 @@
-//! What a line of a listing says, where it is due and its form is good (docs/LISTINGS.md, "Refusals").
+//! What a line of a listing says, where it is expected and its form is good (docs/LISTINGS.md, "Refusals").
 ghost use Rattle.std.specs.Prelude.{◌≡◌, ◌≤◌, ◌^◌, All, IfNone, IfOk, IfSome, false, length, true};
 ghost use Rattle.px_num.specs.Forms.{IsWithin};
 ghost use Rattle.px_text.specs.LentWords.{now_of};
@@ -15,7 +15,7 @@ use arrayvec::ArrayVec;
 use px_show::Cause;
 use px_text::number_of;
 
-/// What a line says that is due and of good form, with its numbers, which no limit holds yet.
+/// What a line says that is expected and of good form, with its numbers, which no limit holds yet.
 #[derive(Drop)]
 pub(crate) enum Entry {
     Opening,
@@ -24,7 +24,7 @@ pub(crate) enum Entry {
     Closing,
 }
 
-/// What a first word and the words after it say, by what is due, or why they are bad.
+/// What a first word and the words after it say, by what is expected, or why they are bad.
 pub(crate) fn entry_of(due: Due, word: &[u8], arguments: &[&[u8]]) -> Result<Entry, Cause>
     ensures says { told_of result ≡ timely_form due (listing_keyword_of word.now) (now_of arguments.now) }
     ensures small { IfOk result (λ entry. AreSmall (told_by entry)) }

@@ -1,4 +1,4 @@
-//! The first word of a line, and what is due.
+//! The first word of a line, and what is expected.
 ghost use Rattle.std.specs.Prelude.{◌≡◌};
 ghost use Rattle.px_text.specs.LentWords.{now_of};
 ghost use Rattle.px_listing.specs.Keywords.{is_one, listing_keyword_of};
@@ -15,7 +15,7 @@ pub(crate) enum Keyword {
     Other,
 }
 
-/// What is due on a line, by the line before it.
+/// What is expected on a line, by the line before it.
 #[derive(Clone, Copy)]
 pub(crate) enum Due {
     Header,
@@ -38,7 +38,7 @@ pub(crate) fn keyword_of(word: &[u8]) -> Keyword
     }
 }
 
-/// Whether the words behind the header's are the version of a listing.
+/// Whether the words after the header's are the version of a listing.
 pub(crate) fn is_one(arguments: &[&[u8]]) -> bool
     ensures { result ≡ is_one (now_of arguments.now) }
 {

@@ -1,5 +1,5 @@
 //! The operations by their lines: the word of each, its numbers, and what they write. One that is added
-//! has a line in each table here; all else of a line follows from them.
+//! has a line in each table here; everything else of a line follows from them.
 ghost use Rattle.std.specs.Prelude.{◌≡◌, ◌≤◌, IfSome, None, length};
 ghost use Rattle.std.specs.Str.{bytes_eq};
 ghost use Rattle.px_macro.specs.Macros.{IsLawful};
@@ -166,19 +166,7 @@ impl Shape {
 pub fn kind_number(m: &Macro) -> u32
     ensures { result ≡ operation_kind m.now }
 {
-    match m {
-        Macro::All => 1,
-        Macro::KeepSign(_) => 2,
-        Macro::KeepBit(..) => 3,
-        Macro::LoadLinear(..) => 4,
-        Macro::KeepAtMost(..) => 5,
-        Macro::AddLinear(..) => 6,
-        Macro::LoadConst(..) => 7,
-        Macro::SetBit(..) => 8,
-        Macro::Toggle(_) => 9,
-        Macro::Copy(..) => 10,
-        Macro::KeepLess(..) => 11,
-    }
+    Kind::of(m) as u32 + 1
 }
 
 /// The numbers of an operation, in the order of its line (docs/LISTINGS.md, "Operations").

@@ -7,21 +7,14 @@ ghost use Rattle.px_show.specs.Judged.{past};
 ghost use Rattle.px_listing.specs.Drafts.{AreSmall, told_by};
 ghost use Rattle.px_listing.specs.declared.limit.ListKind.TheVariants as Kind;
 ghost use Rattle.px_listing.specs.Limits.{
-  bit_past,
-  const_past,
-  copy_past,
   end_past,
   field_past,
   fields_past,
   form_past,
   grid_past,
-  less_past,
-  linear_past,
   overlap,
   listing_limit_of,
-  place_past,
   shape_past,
-  sign_past,
   value_past,
 };
 
@@ -60,15 +53,23 @@ fn shape_past(bits: u32, shape: Shape, numbers: &[i64]) -> Option<LineFault<List
     requires small { All (IsWithin (10 ^ 18)) numbers.now }
     ensures { result ≡ shape_past bits shape numbers.now }
 {
-    match shape {
-        Shape::Nothing => None,
-        Shape::Form => sign_past(numbers),
-        Shape::Place => place_past(bits, numbers),
-        Shape::Bit => bit_past(bits, numbers),
-        Shape::FormAndField => linear_past(bits, numbers),
-        Shape::Constant => const_past(bits, numbers),
-        Shape::FieldsApart => copy_past(bits, numbers),
-        Shape::Fields => less_past(bits, numbers),
+    match (shape, numbers) {
+        (Shape::Form, [a, b, c]) => form_past(a, b, c),
+        (Shape::Place, [at]) => end_past(bits, at, &1),
+        (Shape::Bit, [at, v]) => end_past(bits, at, &1).or(past(ListKind::Value, 0, 1, *v)),
+        (Shape::FormAndField, [a, b, c, at, len]) => {
+            form_past(a, b, c).or(field_past(bits, at, len))
+        }
+        (Shape::Constant, [at, len, number]) => match field_past(bits, at, len) {
+            None => value_past(len, number),
+            past => past,
+        },
+        (Shape::FieldsApart, [at, len, to]) => match fields_past(bits, at, len, to) {
+            None => overlap(at, len, to),
+            past => past,
+        },
+        (Shape::Fields, [at, len, to]) => fields_past(bits, at, len, to),
+        _ => None,
     }
 }
 
@@ -78,32 +79,12 @@ fn grid_past(nx: i64, ny: i64) -> Option<LineFault<ListKind>>
     past(ListKind::Grid, 1, 9, nx).or(past(ListKind::Grid, 1, 9, ny))
 }
 
-fn sign_past(numbers: &[i64]) -> Option<LineFault<ListKind>>
-    ensures { result ≡ sign_past numbers.now }
-{
-    match numbers {
-        [a, b, c] => form_past(a, b, c),
-        _ => None,
-    }
-}
-
 fn form_past(a: &i64, b: &i64, c: &i64) -> Option<LineFault<ListKind>>
     ensures { result ≡ form_past a.now b.now c.now }
 {
     past(ListKind::Coefficient, -134217728, 134217728, *a)
         .or(past(ListKind::Coefficient, -134217728, 134217728, *b))
         .or(past(ListKind::Coefficient, -274877906944, 274877906944, *c))
-}
-
-fn place_past(bits: u32, numbers: &[i64]) -> Option<LineFault<ListKind>>
-    requires bits { bits ≤ 256 }
-    requires small { All (IsWithin (10 ^ 18)) numbers.now }
-    ensures { result ≡ place_past bits numbers.now }
-{
-    match numbers {
-        [place] => end_past(bits, place, &1),
-        _ => None,
-    }
 }
 
 /// A place that is negative, or with so many bits from it on past the memory.
@@ -130,17 +111,6 @@ fn end_past(bits: u32, at: &i64, len: &i64) -> Option<LineFault<ListKind>>
     }
 }
 
-fn bit_past(bits: u32, numbers: &[i64]) -> Option<LineFault<ListKind>>
-    requires bits { bits ≤ 256 }
-    requires small { All (IsWithin (10 ^ 18)) numbers.now }
-    ensures { result ≡ bit_past bits numbers.now }
-{
-    match numbers {
-        [place, v] => end_past(bits, place, &1).or(past(ListKind::Value, 0, 1, *v)),
-        _ => None,
-    }
-}
-
 /// The length first, and then the place.
 fn field_past(bits: u32, at: &i64, len: &i64) -> Option<LineFault<ListKind>>
     requires bits { bits ≤ 256 }
@@ -150,31 +120,6 @@ fn field_past(bits: u32, at: &i64, len: &i64) -> Option<LineFault<ListKind>>
     match past(ListKind::Length, 1, 40, *len) {
         None => end_past(bits, at, len),
         past => past,
-    }
-}
-
-fn linear_past(bits: u32, numbers: &[i64]) -> Option<LineFault<ListKind>>
-    requires bits { bits ≤ 256 }
-    requires small { All (IsWithin (10 ^ 18)) numbers.now }
-    ensures { result ≡ linear_past bits numbers.now }
-{
-    match numbers {
-        [a, b, c, at, len] => form_past(a, b, c).or(field_past(bits, at, len)),
-        _ => None,
-    }
-}
-
-fn const_past(bits: u32, numbers: &[i64]) -> Option<LineFault<ListKind>>
-    requires bits { bits ≤ 256 }
-    requires small { All (IsWithin (10 ^ 18)) numbers.now }
-    ensures { result ≡ const_past bits numbers.now }
-{
-    match numbers {
-        [at, len, number] => match field_past(bits, at, len) {
-            None => value_past(len, number),
-            past => past,
-        },
-        _ => None,
     }
 }
 
@@ -215,20 +160,6 @@ fn fields_past(bits: u32, at: &i64, len: &i64, to: &i64) -> Option<LineFault<Lis
     }
 }
 
-fn copy_past(bits: u32, numbers: &[i64]) -> Option<LineFault<ListKind>>
-    requires bits { bits ≤ 256 }
-    requires small { All (IsWithin (10 ^ 18)) numbers.now }
-    ensures { result ≡ copy_past bits numbers.now }
-{
-    match numbers {
-        [at, len, to] => match fields_past(bits, at, len, to) {
-            None => overlap(at, len, to),
-            past => past,
-        },
-        _ => None,
-    }
-}
-
 /// Two fields that share a bit.
 fn overlap(at: &i64, len: &i64, to: &i64) -> Option<LineFault<ListKind>>
     requires first { IsWithin (10 ^ 18) at.now }
@@ -253,15 +184,4 @@ fn is_behind(at: &i64, len: &i64, to: &i64) -> bool
     ensures { result ≡ le_z (at.now +ℤ len.now) to.now }
 {
     *at + *len <= *to
-}
-
-fn less_past(bits: u32, numbers: &[i64]) -> Option<LineFault<ListKind>>
-    requires bits { bits ≤ 256 }
-    requires small { All (IsWithin (10 ^ 18)) numbers.now }
-    ensures { result ≡ less_past bits numbers.now }
-{
-    match numbers {
-        [at, len, to] => fields_past(bits, at, len, to),
-        _ => None,
-    }
 }

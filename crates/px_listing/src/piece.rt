@@ -26,7 +26,7 @@ pub fn put<O: Sink>(out: &mut O, piece: &mut Piece, line: &str) -> Result<(), Fa
     Ok(())
 }
 
-/// Writes what waits, where so many bytes more have no room beside it.
+/// Writes what waits, where so many bytes more have no room next to it.
 fn make_room<O: Sink>(out: &mut O, piece: &mut Piece, count: usize) -> Result<(), Failed>
     requires short { count ≤ 4096 }
     ensures ok { OnOk result (Puts (O.state out.old) (O.state out.new) piece.old.bytes [] piece.new.bytes) }

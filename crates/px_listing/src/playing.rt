@@ -12,8 +12,8 @@ use crate::listing::Listing;
 use px_asm::{Operating, law_of_microprograms, make_operations};
 use px_num::Memory;
 
-/// Opens an array with the grid of a listing and makes its operations, one after another; what is
-/// left is what their clocks leave (docs/LISTINGS.md, "Playing").
+/// Opens an array with the grid of a listing and makes its operations, one after another, which
+/// leaves what their clocks leave (docs/LISTINGS.md, "Playing").
 ///
 /// After `Memory` no array is open.
 pub fn play<A: Operating>(listing: &Listing, array: &mut A) -> Result<(), Memory>

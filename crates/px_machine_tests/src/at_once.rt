@@ -1,4 +1,4 @@
-//! Each operation at once beside its micros, from one random state to the next.
+//! Each operation at once compared with its micros, from one random state to the next.
 ghost use Rattle.std.specs.Prelude.{◌≡◌, ◌≤◌, OnOk};
 ghost use Rattle.px_array.specs.Arrays.{IsOpen};
 ghost use Rattle.px_array.specs.Acts.{HasPlace};
@@ -297,7 +297,7 @@ fn operate<A: Operating>(rt: &impl Abort, array: &mut A, m: &Macro)
     }
 }
 
-/// Makes operations by their micros that begin the tree, the carry and the latch anew, and takes
+/// Makes operations by their micros that reset the tree, the carry and the latch, and takes
 /// both arrays back.
 fn renew_both<A: Array, B: Array>(rt: &impl Abort, planes: &mut A, pixels: &mut B)
     requires planes { IsReady A.BITS (A.view planes.old) }

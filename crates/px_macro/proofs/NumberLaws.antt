@@ -18,16 +18,14 @@ number_same f g zero same = refl
 number_same f g (suc n) same = rw (number_same f g n (λ t low. same t (omega arith)), same n (omega arith)) refl
 
 bit_below : (b : Bool) (p : ℕ) → (if b then p else 0) ≤ p
-bit_below true p = omega arith
-bit_below false p = omega arith
+bit_below b p = grind arith
 
 pub number_below : (bit : ℕ → Bool) (n : ℕ) → number_from_bits bit n < 2 ^ n
 number_below bit zero = omega arith
 number_below bit (suc n) = omega (arith, number_below bit n, bit_below (bit n) (2 ^ n), double_pow n)
 
 if_times : (b : Bool) (p q : ℕ) → (if b then p * q else 0) ≡ p * (if b then q else 0)
-if_times true p q = refl
-if_times false p q = omega arith
+if_times b p q = grind arith
 
 number_of_parts : (bit : ℕ → Bool) (low high : ℕ) → number_from_bits bit (low + high) ≡ number_from_bits bit low + 2 ^
     low
@@ -42,12 +40,10 @@ number_of_parts bit low (suc high) =
 
 -- a number by its highest bit and the rest
 high_bit : (b : Bool) (r p : ℕ) → r + (if b then p else 0) ≡ number b * p + r
-high_bit true r p = omega arith
-high_bit false r p = omega arith
+high_bit b r p = grind arith
 
 only_bit : (b : Bool) → nat_bit (number b) 0 ≡ b
-only_bit true = refl
-only_bit false = refl
+only_bit b = grind arith
 
 -- a number has the bits that it was made of
 pub number_bit : (bit : ℕ → Bool) (n t : ℕ) → t < n → nat_bit (number_from_bits bit n) t ≡ bit t
@@ -60,9 +56,7 @@ number_bit bit (suc n) t low =
     ])
 
 bit_times : (b p : ℕ) → b < 2 → (if b == 1 then p else 0) ≡ b * p
-bit_times zero p h = omega arith
-bit_times (suc zero) p h = omega arith
-bit_times (suc (suc b)) p h = absurd (omega arith)
+bit_times b p h = grind arith
 
 -- the number of the bits of a number
 number_of_bits : (m n : ℕ) → number_from_bits (nat_bit m) n ≡ m % 2 ^ n
@@ -83,8 +77,7 @@ is_in_field field t low = grind (arith, nat_tests)
 
 is_in_other : (field other : Field) (t : ℕ) → t < other.len → (field.at + field.len ≤ other.at)
     ⊎ (other.at + other.len ≤ field.at) → is_in field (other.at + t) ≡ false
-is_in_other field other t low (inl before) = grind (arith, nat_tests)
-is_in_other field other t low (inr after) = grind (arith, nat_tests)
+is_in_other field other t low is = grind arith
 
 pub number_is_read : NumberIsRead
 number_is_read field number memory within =
@@ -102,8 +95,7 @@ number_is_kept field other number memory within apart =
     ∙ rw (is_in_other field other t low apart) refl)
 
 pub bit_beside_is_kept : BitBesideIsKept
-bit_beside_is_kept field number memory place inside beside =
-    places_are_written field number memory place inside ∙ rw beside refl
+bit_beside_is_kept field number memory place inside beside = grind (arith, places_are_written)
 
 beside_each : (field : Field) (place t : ℕ) → t < field.len → is_in field place ≡ false → field.at + t ≢ place
 beside_each field place t low beside = grind (arith, nat_tests)

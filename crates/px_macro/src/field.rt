@@ -1,4 +1,4 @@
-//! Fields: where a number stands in the memory of a pixel.
+//! Fields: where a number is in the memory of a pixel.
 ghost use Rattle.px_macro.specs.FieldLaws.{
   BitBesideIsKept,
   BitsOfNumber,

@@ -107,7 +107,7 @@ scene_cell scene x y z = cell (leaf_cell scene.solids (depths_of scene) x y z) s
 abbrev pub is_member_at : SceneView → ℕ → ℕ → ℕ → Bool
 is_member_at scene x y z = (scene_cell scene x y z).member
 
--- what was found, or else the number itself, where it passes the test
+-- what was found, otherwise the number itself, where it passes the test
 abbrev pub first_or : (ℕ → Bool) → ℕ → Option ℕ → Option ℕ
 first_or test n (Some z) = Some z
 first_or test n None = if test n then Some n else None
@@ -132,7 +132,7 @@ pub record Sight : Type 0 where
   pub depth : ℕ
   pub face : ℕ
 
--- what a pixel with this first cell shows: its depth and the lowest-numbered face, or else the background
+-- what a pixel with this first cell shows: its depth and the lowest-numbered face, otherwise the background
 abbrev pub sight_at : SceneView → ℕ → ℕ → Option ℕ → Sight
 sight_at scene x y None = record { depth = far_of scene; face = 0 }
 sight_at scene x y (Some z) = record { depth = z; face = least (scene_cell scene x y z).shown }

@@ -162,6 +162,7 @@ impl Scene {
     }
 
     /// For width and height the least `n` of at least 1 with `2^n` at least as large.
+    #[tactic(auto, using(crate::proofs::GridLaws::exponent_is))]
     pub fn grid(&self) -> (u32, u32)
         ensures width { IsGridExponent self.now.width result.0 }
         ensures height { IsGridExponent self.now.height result.1 }

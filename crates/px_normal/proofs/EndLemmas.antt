@@ -15,15 +15,6 @@ module _ (s : SolidSet) where
       → ((i : ℕ) → i < clear → bit_at (word place) i ≡ 0) → (q : ℕ) → q < 64 * place + clear → has s q ≡ false
   none_before place clear below most low q before = grind (arith, cases_eq, bit_at-zero)
 
-  pub below_second : word 0 ≡ 0 → (k : ℕ) → k < 1 → word k ≡ 0
-  below_second first k low = subst (λ j. word j ≡ 0) (omega (arith, low)) first
-
-  pub below_third : word 0 ≡ 0 → word 1 ≡ 0 → (k : ℕ) → k < 2 → word k ≡ 0
-  below_third first second k low = grind (arith, cases_eq, below_second)
-
-  pub below_last : word 0 ≡ 0 → word 1 ≡ 0 → word 2 ≡ 0 → (k : ℕ) → k < 3 → word k ≡ 0
-  below_last first second third k low = grind (arith, cases_eq, below_third)
-
   -- no bit of the word at this place from the used ones on, and none of those above
   pub none_past : (place used : ℕ) → ((k : ℕ) → place < k → k < 4 → word k ≡ 0) → word place < 2 ^ used
       → (q : ℕ) → q < 256 → 64 * place + used ≤ q → has s q ≡ false

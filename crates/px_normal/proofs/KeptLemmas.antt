@@ -1,9 +1,8 @@
 -- What is kept of a list with one element more, and of what is crossed with it.
 use Rattle.px_num.proofs.Basics.{arith, ℕ, ◌≡◌, ◌<◌, ◌+◌, Bool, List, [], ◌∷◌, ◌++◌, append_assoc, ap, sym, ◌∙◌}
-use Rattle.px_num.proofs.Basics.{get_or, length, map, take, nat_tests, common_steps, filter, map-append, take_more}
+use Rattle.px_num.proofs.Basics.{get_or, length, take, nat_tests, common_steps, filter, take_more}
 use Rattle.px_num.proofs.Basics.{filter-append}
-use Rattle.px_normal.proofs.Words.{both, Product, products_in}
-use Rattle.px_normal.specs.declared.live.Boxed.{Boxed}
+use Rattle.px_normal.proofs.Words.{Product}
 
 module _ (test : Product → Bool) where
   kept_more : (products : List Product) (i : ℕ) (product : Product) → i < length products
@@ -22,11 +21,3 @@ module _ (test : Product → Bool) where
       → before ≡ start ++ filter test (take i products) → now ≡ start ++ filter test (take (i + 1) products)
   added start before now products i product within one known =
       appended start before now _ _ _ one known (kept_more products i product within)
-
-  pub added_with : (start before now : List Product) (p : Product) (list : List Boxed) (i : ℕ) (q : Boxed)
-      → i < length list → now ≡ before ++ filter test (both p (get_or list i q).product ∷ [])
-      → before ≡ start ++ filter test (map (both p) (products_in (take i list)))
-      → now ≡ start ++ filter test (map (both p) (products_in (take (i + 1) list)))
-  added_with start before now p list i q within one known =
-      appended start before now _ _ _ one known
-      (grind (arith, nat_tests, common_steps, take_more, map-append, filter-append))

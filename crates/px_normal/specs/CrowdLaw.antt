@@ -1,4 +1,4 @@
--- Where no "^" stands in an expression, none of its wanted lists is longer than its whole sum of products.
+-- Where no "^" is in an expression, none of its wanted lists is longer than its whole sum of products.
 -- Clauses of public calls stand on it.
 use Rattle.std.specs.Prelude.{ℕ, ◌≡◌, ◌≢◌, ◌≤◌, ⊤, All, length, Option, None}
 use Rattle.px_expr.specs.Tree.{Tree, leaf, join}

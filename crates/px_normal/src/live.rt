@@ -50,6 +50,7 @@ impl Boxed {
     }
 
     /// Whether the product of both is live, by the parts alone: no box is looked up.
+    #[tactic(auto, using(crate::proofs::LiveLemmas::live_by_parts))]
     fn is_live_with(&self, other: &Boxed) -> bool
         ensures { (boxes : ℕ → Option AnyBox) → IsBoxed boxes self.now → IsBoxed boxes other.now →
             result ≡ is_live boxes (both self.now.product other.now.product) }

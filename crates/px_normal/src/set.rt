@@ -51,6 +51,7 @@ impl SolidSet {
     }
 
     /// The solids of the set, in ascending order.
+    #[tactic(auto, using(crate::proofs::EndLemmas::none_below, crate::proofs::EndLemmas::all_below))]
     pub fn solids(&self) -> ArrayVec<u8, 256>
         ensures { result.items ≡ solids self.now }
     {
@@ -130,7 +131,7 @@ fn used_bits(word: u64) -> usize
     (u64::BITS - word.leading_zeros()) as usize
 }
 
-/// Whether a word has a bit: its range, which sets of numbers do not show, is told besides.
+/// Whether a word has a bit: its range, which sets of numbers do not show, is said besides.
 fn has_bit(word: u64) -> bool
     ensures bit { result ≡ not (nat_eq word 0) }
     ensures range { word < 2 ^ 64 }

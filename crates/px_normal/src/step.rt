@@ -79,7 +79,7 @@ impl Wanted {
 
 /// The steps of an expression, the last first.
 ///
-/// The nodes are read from the root on: of it the products are wanted, and each tells what is
+/// The nodes are read from the root on: of it the products are wanted, and each says what is
 /// wanted of its sides.
 pub(crate) fn steps(alloc: Global, expr: &Expr) -> Result<Vec<Step>, Memory>
     ensures { IfOk result (λ steps. reverse steps.items ≡ steps_of of_root expr.now) }

@@ -1,6 +1,6 @@
--- Want of memory as a value of clauses, of which there is one. Clauses of public calls stand on it.
+-- Out of memory as a value of clauses, of which there is one. Clauses of public calls stand on it.
 use Rattle.px_num.specs.declared.memory.Memory.{Memory}
 
--- what tells that memory was wanted and not given
+-- what says that memory was asked for and not given
 abbrev pub want : Memory
 want = record { refused = tt }

@@ -1,4 +1,4 @@
-//! Linear forms over a pixel's place, the bits of whole numbers, and the answer for want of memory.
+//! Linear forms over a pixel's place, the bits of whole numbers, and the answer if memory runs out.
 #![tactic(auto)]
 
 mod bits;

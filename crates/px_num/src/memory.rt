@@ -1,4 +1,4 @@
-//! The answer for want of memory.
+//! The answer if memory runs out.
 use std::alloc::{AllocError, AllocFailed};
 
 /// Memory was wanted and not given. Only a refusal is made into one, here, and it is not copied: who answers it was refused a

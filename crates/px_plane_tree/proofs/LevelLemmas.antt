@@ -25,7 +25,7 @@ pub record Levels : Type 0 where
 abbrev pub levels : (outputs carries : List ℕ) (still : List Bool) → Levels
 levels outputs carries still = record { outputs = outputs; carries = carries; still = still }
 
--- the words below 2^(u + 1) are as they were, the others were fed, and `still` tells which of the levels of these
+-- the words below 2^(u + 1) are as they were, the others were fed, and `still` says which of the levels of these
 -- stayed
 pub record IsFedDown (nx : ℕ) (now : Lines) (u : ℕ) (old new : Levels) : Type 0 where
   pub fed : (w : ℕ) → 2 ^ (u + 1) ≤ w → w < length old.outputs → WordFed (place_line now.a now.b (2 ^ (nx + 1)) w) now.c

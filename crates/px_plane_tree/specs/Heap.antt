@@ -1,4 +1,4 @@
--- Rows of words in heap order: the children of the nodes in word h stand in the words 2h and 2h + 1.
+-- Rows of words in heap order: the children of the nodes in word h are in the words 2h and 2h + 1.
 -- Only proofs and private functions stand on it.
 use Rattle.std.specs.Prelude.{◌≡◌, ℕ, ◌+◌, ◌*◌, ◌/◌, ◌%◌, ◌<◌, ◌≤◌, ◌^◌, Bool, true, false, if◌then◌else◌, cond}
 use Rattle.std.specs.Prelude.{◌&&◌, eqb, nat_lt, List, length, slice_index, get_or}

@@ -1,4 +1,4 @@
-//! One feed of words in heap order: the children of the nodes in word h stand in the words 2h and 2h + 1.
+//! One feed of words in heap order: the children of the nodes in word h are in the words 2h and 2h + 1.
 ghost use Rattle.std.specs.Prelude.{◌≡◌, ℕ, ◌<◌, ◌≤◌, ◌+◌, ◌*◌, ◌%◌, length, slice_index, nat_lt};
 ghost use Rattle.std.specs.Prelude.{eqb, cond, ◌&&◌};
 ghost use Rattle.px_num.specs.Bits.{nat_bit};

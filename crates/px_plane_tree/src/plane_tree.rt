@@ -18,7 +18,7 @@ use std::marker::Model;
 /// A tree of `2^nx` by `2^ny` leaves, whose outputs and carries are two rows of words.
 ///
 /// Node `i` of level `k` is bit `place mod 64` of word `place div 64`, where `place = 2^k + i`. So
-/// a level of 64 nodes or more is whole words, and the children of the nodes in word `h` stand in
+/// a level of 64 nodes or more is whole words, and the children of the nodes in word `h` are in
 /// the words `2h` and `2h + 1`.
 #[derive(Drop)]
 pub struct PlaneTree {
@@ -54,6 +54,7 @@ impl Model for PlaneTree {
 
 impl PlaneTree {
     /// A tree whose latches are all 0.
+    #[tactic(auto, using(crate::proofs::TreeLemmas::zero_tree, crate::proofs::TreeLemmas::cleared_seen))]
     pub fn new(alloc: Global, nx: u32, ny: u32) -> Result<PlaneTree, Memory>
         requires { IsGrid nx ny }
         ensures { IfOk result (λ tree. tree ≡ cleared nx ny) }
@@ -152,10 +153,12 @@ impl Tree for PlaneTree {
         unpack(self.outputs[0], &mut self.small);
     }
 
+    #[tactic(auto, using(crate::proofs::TreeLemmas::bit_seen))]
     fn leaf(&self, x: u32, y: u32) -> bool {
         bit_of_row(&self.outputs, leaf_place(self.nx, self.ny, x, y))
     }
 
+    #[tactic(auto, using(crate::proofs::TreeLemmas::bit_seen, crate::proofs::TreeLemmas::carry_seen))]
     fn node(&self, level: u32, index: u32) -> (bool, bool) {
         let at = node_place(self.nx + self.ny, level, index);
         (bit_of_row(&self.outputs, at), bit_of_row(&self.carries, at))

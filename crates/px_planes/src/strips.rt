@@ -16,7 +16,7 @@ use px_macro::{Field, laws_of_fields};
 use px_num::{Linear, bit_of};
 use px_rows::{block_step, block_values};
 
-/// The words of a strip: so few that what they carry stays at hand from bit to bit.
+/// The words of a strip: so few that what they carry stays available from bit to bit.
 pub(crate) const STRIP: usize = 512;
 
 /// `f = (f + v) mod 2^len`, in rows of whole strips

@@ -47,9 +47,7 @@ module _ (scene : SceneView) (boxes : ℕ → Option CellBox) (bounding : (q : �
 
   hidden_in : (z q n : ℕ) → has_face n (leaf_cell scene.solids (depths_of scene) x y z q).hidden ≡ true
       → is_in_or_behind (boxes q) x y z ≡ true
-  hidden_in zero q n h = grind (arith, none_behind, slice_get, is_in_or_behind, zero)
-  hidden_in (suc z) q n h =
-      one_behind (boxes q) x y z (member_in z q (member_behind (slice_get scene.solids q) (depths_of scene) x y z n h))
+  hidden_in z q n h = grind (arith, none_behind, one_behind, member_in, member_behind)
 
   pub boxes_have_cells : (z : ℕ) → HasCells boxes x y z (leaf_cell scene.solids (depths_of scene) x y z)
   boxes_have_cells z = record { members = member_in z; hidden = hidden_in z }

@@ -1,6 +1,6 @@
 -- What a solid can have in a block: depths from the least that its fronts allow to the greatest that its backs do.
 use Rattle.px_num.proofs.Basics.{ℕ, ℤ, pos, ◌≡◌, ◌<◌, ◌≤◌, ◌-◌, ◌≤ℤ◌, ◌<ℤ◌, ◌&&◌, ◌||◌, ◌==◌, Bool, true, false, nat_le}
-use Rattle.px_num.proofs.Basics.{ap, get_or, length, list_all-append, sym, take}
+use Rattle.px_num.proofs.Basics.{get_or, length, list_all-append, sym, take}
 use Rattle.px_num.proofs.Basics.{take_more, ◌+◌}
 use Rattle.px_num.proofs.Basics.{nat_lt, List, [], ◌∷◌, refl, ◌∙◌, arith, Some, None, Option, list_all, ints}
 use Rattle.px_prune.proofs.Words.{all_same, Block, cell_is_first, cell_of, CellBox, Depths, end_of, greatest_in}
@@ -115,10 +115,7 @@ module _ (s : SolidView) (d : Depths) (b : Block) where
 -- one element more
 pub all_more : {X : Type 0} (p : X → Bool) (xs : List X) (k : ℕ) (d : X) → k < length xs
     → list_all p (take (k + 1) xs) ≡ true → (list_all p (take k xs) ≡ true) × (p (get_or xs k d) ≡ true)
-all_more p xs k d there all =
-    let both : (list_all p (take k xs) && (p (get_or xs k d) && true)) ≡ true =
-    sym (ap (list_all p) (take_more xs k d there) ∙ list_all-append p (take k xs) (get_or xs k d ∷ [])) ∙ all in
-    (grind arith, grind arith)
+all_more p xs k d there all = grind (arith, take_more xs k d there, list_all-append)
 
 pub le_of_test : (a b : ℤ) → le_z a b ≡ true → a ≤ℤ b
 le_of_test a b test = grind (arith, ints)
@@ -164,9 +161,7 @@ shut_reach cells b none = record { holds = λ x y z h. cc (none x y z, h); least
 
 in_cover : (o u : Option CellBox) (x y z : ℕ) → is_covered o u ≡ true → is_in_box o x y z ≡ true
     → is_in_box u x y z ≡ true
-in_cover None u x y z e h = cc
-in_cover (Some a) None x y z e h = e
-in_cover (Some a) (Some c) x y z e h = in_part a c x y z e h
+in_cover o u x y z e h = grind (arith, in_part)
 
 -- a box that grows by a block
 module _ (found inside : ℕ → ℕ → ℕ → Bool) (b : Block) (box : Option CellBox) (is : IsBoxOf found box) where

@@ -20,7 +20,7 @@ pub record HasCarries (carries : Carries) (j : ℕ) (u v n : ℤ) (t : ℕ) : Ty
   pub first : nat_bit carries.first j ≡ carry_from false u v t
   pub second : nat_bit carries.second j ≡ carry_from false (u +ℤ v) n t
 
--- bit t of the values at the pixels of a block of eight words stands in the eight words t
+-- bit t of the values at the pixels of a block of eight words is in the eight words t
 pub record AreBlockValues (form : Linear) (ny block bits : ℕ) (words : List (List ℕ)) : Type 0 where
   pub each : (t p : ℕ) → t < bits → p < 512 → nat_bit (slice_index (slice_index_or words t []) (p / 64)) (p % 64)
       ≡ bit_of (value_at form ((512 * block + p) / 2 ^ ny) ((512 * block + p) % 2 ^ ny)) t

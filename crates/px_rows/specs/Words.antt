@@ -2,7 +2,7 @@
 use Rattle.std.specs.Prelude.{◌≡◌, ℕ, ◌+◌, ◌<◌, ◌≤◌, cond, List, slice_index}
 use Rattle.px_num.specs.Bits.{majority, nat_bit, xor}
 
--- the sum of value, target and carry where the mask is 1, and else the target
+-- the sum of value, target and carry where the mask is 1, and otherwise the target
 pub record IsAdded (result target carry value mask : ℕ) : Type 0 where
   pub each : (i : ℕ) → i < 64
       → nat_bit result i ≡ cond (nat_bit mask i) (xor (nat_bit value i) (xor (nat_bit target i) (nat_bit carry i)))

@@ -59,6 +59,7 @@ fn added_lanes(target: u64x8, carry: u64x8, value: u64x8, mask: u64x8) -> u64x8
     target ^ ((value ^ carry) & mask)
 }
 
+#[tactic(auto, using(crate::proofs::WordLemmas::carried_lane))]
 #[inline(always)]
 fn carried_lanes(target: u64x8, carry: u64x8, value: u64x8) -> u64x8
     ensures { (i : ℕ) → i < 8 →

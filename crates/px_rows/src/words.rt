@@ -13,7 +13,7 @@ pub fn all_of(v: bool) -> u64
     if v { !0 } else { 0 }
 }
 
-/// The value where the mask is 1, and else the target.
+/// The value where the mask is 1, and otherwise the target.
 #[inline(always)]
 pub fn chosen_word(target: u64, value: u64, mask: u64) -> u64
     ensures { (i : ℕ) → i < 64 → nat_bit result i
@@ -22,7 +22,7 @@ pub fn chosen_word(target: u64, value: u64, mask: u64) -> u64
     target ^ ((target ^ value) & mask)
 }
 
-/// The sum of value, target and carry where the mask is 1, and else the target.
+/// The sum of value, target and carry where the mask is 1, and otherwise the target.
 #[inline(always)]
 pub fn added_word(target: u64, carry: u64, value: u64, mask: u64) -> u64
     ensures { (i : ℕ) → i < 64 → nat_bit result i

@@ -26,7 +26,7 @@ pub(crate) fn two_maps() -> &'static [u8] {
 pub(crate) struct Given<'a> {
     pub(crate) words: &'a [&'a str],
     pub(crate) scene: &'a [u8],
-    /// What stands behind the scene, as a session's lines.
+    /// What comes after the scene, as a session's lines.
     pub(crate) lines: &'a [u8],
     /// How many bytes a read gives at most, and which read fails.
     pub(crate) reads: (usize, u64),
@@ -142,7 +142,7 @@ fn run_on<A: Operating + Drop>(
     left_by(alloc, run, input, out, notes.written())
 }
 
-/// What a run tells beside its ends.
+/// What a run reports besides its ends.
 #[derive(Drop)]
 struct Run {
     status: Status,

@@ -170,7 +170,7 @@ fn lack(rt: &impl Abort, alloc: Global) -> Memory {
     Memory::from(refused.expect(rt, "no machine has so much memory"))
 }
 
-/// Want of memory has its text.
+/// Out of memory has its text.
 fn is_told<F: Display>(rt: &impl Abort, alloc: Global, fault: &F) {
     has_text(rt, alloc, fault, "out of memory");
 }

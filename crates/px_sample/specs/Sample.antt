@@ -18,7 +18,7 @@ block_name i = codes "b" ++ decimal i
 abbrev pub block_line : ℕ → List ℕ
 block_line i = written_line (codes "solid") (block_name i ∷ colour_words (record { red = i; green = 100; blue = 200 }))
 
--- a block has three columns and three rows; 16 blocks stand in a row, four pixels apart
+-- a block has three columns and three rows; 16 blocks are in a row, four pixels apart
 abbrev pub left_and_right : ℕ → List ℕ
 left_and_right i =
     side_line (form (pos 1) (pos 0) (neg_ℤ (pos (4 * (i % 16)))))

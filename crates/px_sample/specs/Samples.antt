@@ -44,7 +44,7 @@ measures scene = four_lines (shown scene) (depth_sum scene) (length (plan_of sce
 abbrev pub measures_answer : SceneView → (bits : ℕ) → Outcome
 measures_answer scene bits = drawable bits scene (done (measures scene))
 
--- the refusal of a text, or else the numbers of its scene
+-- the refusal of a text, otherwise the numbers of its scene
 abbrev pub text_measured : List ℕ → (bits : ℕ) → Outcome
 text_measured text bits = unless_refused (text_refusal text) (measures_answer (scene_of (worded text)) bits)
 

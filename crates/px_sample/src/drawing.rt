@@ -1,4 +1,4 @@
-//! The command `sample`: the scene of so many blocks is drawn, and told by four numbers.
+//! The command `sample`: the scene of so many blocks is drawn, and four numbers of it are printed.
 ghost use Rattle.std.specs.Prelude.{◌≡◌, ◌+◌, ◌*◌, ◌^◌, ◌<◌, ◌≤◌, OnErr, OnOk, length, true};
 ghost use Rattle.std.specs.Io.KnownBytes.{Appends};
 ghost use Rattle.px_io.specs.Counts.{HasCause};
@@ -78,6 +78,7 @@ fn measure_text<O: Sink, A: Operating>(
 }
 
 /// Draws a scene, and prints its numbers.
+#[tactic(auto, using(px_commands::proofs::RunLaws::serves_front, px_commands::proofs::RunLaws::serves_whole))]
 fn measure<O: Sink, A: Operating>(
     alloc: Global,
     scene: &Scene,

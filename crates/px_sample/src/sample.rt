@@ -29,11 +29,12 @@ use px_scene::{
 use px_show::Version;
 use std::alloc::Global;
 
-/// How many blocks stand in a row.
+/// How many blocks are in a row.
 const COLUMNS: u32 = 16;
 
 /// The text of a scene of `n` blocks, 1 to `MAX_BLOCKS`, with one cut through all of them
 /// (docs/SCENES.md, "The sample").
+#[tactic(auto, using(px_scene::proofs::WriteLaws::next_number))]
 pub fn sample_text(alloc: Global, n: u32) -> Result<Vec<u8>, Memory>
     requires some { 1 ≤ n }
     requires few { n ≤ MAX_BLOCKS }
@@ -140,6 +141,7 @@ fn put_shown(text: &mut Vec<u8>, n: u32) -> Result<(), Memory>
 }
 
 /// The union of the blocks from `first` to before `end`, in as few levels as can be.
+#[tactic(auto, using(crate::proofs::SampleLemmas::union_of_one))]
 fn put_union(text: &mut Vec<u8>, first: u32, end: u32) -> Result<(), Memory>
     requires some { first < end }
     requires few { end ≤ MAX_BLOCKS }

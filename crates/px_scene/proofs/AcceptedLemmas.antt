@@ -17,7 +17,7 @@ use Rattle.px_scene.proofs.SolidLemmas.{head_lawful, last_back, last_front, last
 use Rattle.px_scene.proofs.TakenLemmas.{at_most, begun_back, begun_front, face_room}
 use Rattle.px_show.specs.declared.fault.LimitKind.TheVariants as kind
 
--- a line that is due and has no fault leaves the solids lawful
+-- a line that is expected and has no fault leaves the solids lawful
 module _ (draft : DraftView) (is : IsLawfulDraft draft) (all : All IsLawfulSolid draft.solids) where
   abbrev Lawful : Keyword → Result Form Cause → Type 0
   Lawful key r = is_due draft.due key ≡ true → fault_by draft r ≡ None → All IsLawfulSolid (taken_by draft r).solids

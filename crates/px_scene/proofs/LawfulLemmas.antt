@@ -100,7 +100,7 @@ pub new_name : (among : Bool) (bad : LineFault LimitKind) (rest : Option (LineFa
 new_name false bad rest e = (refl, e)
 new_name true bad rest e = cc
 
--- a line that is due and has no fault leaves the draft lawful
+-- a line that is expected and has no fault leaves the draft lawful
 module _ (draft : DraftView) (is : IsLawfulDraft draft) where
   abbrev Lawful : Keyword → Result Form Cause → Type 0
   Lawful key r = is_due draft.due key ≡ true → fault_by draft r ≡ None → IsLawfulDraft (taken_by draft r)
@@ -132,7 +132,7 @@ module _ (draft : DraftView) (is : IsLawfulDraft draft) where
     end = grind (arith, begun_end, ended_end);
   }
 
--- what holds of a form that is due and has no fault holds of the line
+-- what holds of a form that is expected and has no fault holds of the line
 pub with_due : (P : Result Form Cause → Type 0) (draft : DraftView) (key : Keyword) (r : Result Form Cause)
     → (is_due draft.due key ≡ true → fault_by draft r ≡ None → P r)
     → fault_by draft (if is_due draft.due key then r else Err (not_due draft.due)) ≡ None

@@ -15,7 +15,7 @@ part_within x e = grind (arith, past_none, pos, ints)
 plane_within : (p : Linear) → plane_past p ≡ None → IsPlane p
 plane_within p e = grind (arith, none_first, past_none, none_second)
 
--- the colour of a line that has one, or else its solid's
+-- the colour of a line that has one, otherwise its solid's
 face_colour : (colour : Colour) (paint : Option Paint) → IsColour colour → option_map_or colour_past paint None ≡ None
     → IsColour (option_map_or colour_of paint colour)
 face_colour colour x is e = grind (arith, none_first, part_within, none_second)

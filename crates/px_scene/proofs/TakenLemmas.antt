@@ -88,7 +88,7 @@ pub size_within : (limit : LimitKind) (most : ℕ) (z : ℤ) → past limit (pos
     × (size_of z ≤ most)
 size_within limit most x e = grind (arith, past_none)
 
--- fraction bits within their limit, beside the bits of a depth within theirs
+-- fraction bits within their limit, with the bits of a depth within theirs
 pub fraction_within : (bits fraction : ℤ) → fraction_past bits fraction ≡ None → 1 ≤ size_of bits → size_of bits ≤ 24
     → (size_of bits + size_of fraction ≤ 24) × (size_of fraction ≤ 8)
 fraction_within bits x e some most = grind (arith, past_none)

@@ -31,7 +31,7 @@ by_due : (due : Bool) (r : Result Form Cause) (cause : Cause) (form : Form) → 
 by_due true r cause form due is = is
 by_due false r cause form due is = cc
 
--- a line that is due, whose words are of a form without a fault
+-- a line that is expected, whose words are of a form without a fault
 pub line_walk : (draft : DraftView) (l : Words) (w : List ℕ) (ws : Words) (form : Form) → has_no_feed (bare l) ≡ true
     → words_behind l ≡ w ∷ ws → is_due draft.due (keyword_of w) ≡ true
     → form_of draft.version (keyword_of w) ws ≡ Ok form → fault_by draft (Ok form) ≡ None

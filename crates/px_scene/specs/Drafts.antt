@@ -23,7 +23,7 @@ use Rattle.px_model.specs.Scenes.{SolidView, names_of, SceneView}
 use Rattle.px_scene.specs.Lines.{Form, header, picture, depth, solid, front, back, side, show, end}
 use Rattle.px_scene.specs.Lines.{size_of, keyword_of, due_after, line_form, fault_of}
 
--- what lines have said: the version, what is due, how many faces have numbers, and the parts of the scene
+-- what lines have said: the version, what is expected, how many faces have numbers, and the parts of the scene
 pub record DraftView : Type 0 where
   pub version : Version
   pub due : Due
@@ -115,7 +115,7 @@ with_form draft (show expression) =
     record draft { show = show_tree draft.version (names_of draft.solids) expression }
 with_form draft end = draft
 
--- what the words of a line say, by what is due
+-- what the words of a line say, by what is expected
 abbrev pub form_in : DraftView → List ℕ → Words → Result Form Cause
 form_in draft w ws = line_form draft.version draft.due (keyword_of w) ws
 

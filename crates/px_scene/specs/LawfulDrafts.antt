@@ -45,7 +45,7 @@ pub record AreNumbered (numbered : ℕ) (solids : List SolidView) : Type 0 where
   pub count : numbered ≡ faces_of solids
   pub faces : numbered ≤ MAX_FACES
 
--- what stands already, by what is due: a solid, and the expression of so many
+-- what stands already, by what is expected: a solid, and the expression of so many
 pub record IsTimely (due : Due) (show : Option Tree) (count : ℕ) : Type 0 where
   pub begun : is_begun due ≡ true → 0 < count
   pub shown : is_ended due ≡ true → IsSomeAnd show (HasLeavesBelow count)

@@ -1,4 +1,4 @@
--- One line of a scene text: what it says, which lines are due, and why a line is bad.
+-- One line of a scene text: what it says, which lines are expected, and why a line is bad.
 -- Clauses of public calls stand on it.
 use Rattle.std.specs.Prelude.{ℕ, ℤ, pos, List, [], ◌∷◌, Option, Some, None, Result, Ok, Err, ◌+◌, ◌-◌, min}
 use Rattle.std.specs.Prelude.{Bool, true, false, if◌then◌else◌, codes}
@@ -127,7 +127,7 @@ keyword_of w =
     else if bytes_eq w (codes "end") then k.End
     else k.Other
 
--- what is due after a line
+-- what is expected after a line
 abbrev pub due_after : Form → Due
 due_after (header version) = d.Picture
 due_after (picture width height) = d.Depth
@@ -139,7 +139,7 @@ due_after (side form) = d.Plane
 due_after (show expression) = d.End
 due_after end = d.Nothing
 
--- the lines that are due
+-- the lines that are expected
 abbrev pub is_due : Due → Keyword → Bool
 is_due d.Header k.Pxscene = true
 is_due d.Picture k.Picture = true
@@ -154,7 +154,7 @@ is_due d.Plane k.Show = true
 is_due d.End k.End = true
 is_due w v = false
 
--- what the words behind a first word say, whatever is due
+-- what the words after a first word say, whatever is expected
 abbrev pub form_of : Version → Keyword → Words → Result Form Cause
 form_of version k.Pxscene ws = header_form ws
 form_of version k.Picture ws = picture_form ws
@@ -173,7 +173,7 @@ not_due d.Header = c.NotHeader
 not_due d.Nothing = c.AfterEnd
 not_due due = c.Unexpected
 
--- what a line says, by what is due, its first word and those behind
+-- what a line says, by what is expected, its first word and those after
 abbrev pub line_form : Version → Due → Keyword → Words → Result Form Cause
 line_form version due keyword ws = if is_due due keyword then form_of version keyword ws else Err (not_due due)
 

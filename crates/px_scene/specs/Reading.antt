@@ -21,7 +21,7 @@ fault_behind before line = fault_in (draft_of before) line
 abbrev pub scene_of : List Words → SceneView
 scene_of lines = drawn (draft_of lines)
 
--- whether nothing more is due, as behind the end
+-- whether nothing more is expected, as after the end
 abbrev pub is_nothing : Due → Bool
 is_nothing d.Nothing = true
 is_nothing due = false

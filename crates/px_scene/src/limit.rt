@@ -65,7 +65,7 @@ fn depth_past(bits: i64, fraction: Option<i64>) -> Option<LineFault<LimitKind>>
     }
 }
 
-/// Fraction bits are judged beside good bits of a depth.
+/// Fraction bits are judged with good bits of a depth.
 fn fraction_past(bits: i64, fraction: i64) -> Option<LineFault<LimitKind>>
     requires { past Kind.Depth (pos 1) (pos MAX_DEPTH_BITS) bits ≡ None }
     ensures { result ≡ fraction_past bits fraction }

@@ -1,4 +1,4 @@
-//! The lines of a scene text: what begins them, and which are due (docs/SCENES.md).
+//! The lines of a scene text: what begins them, and which are expected (docs/SCENES.md).
 ghost use Rattle.std.specs.Prelude.{◌≡◌};
 ghost use Rattle.px_scene.specs.Lines.{keyword_of};
 
@@ -19,7 +19,7 @@ pub(crate) enum Keyword {
     Other,
 }
 
-/// What is due on a line, by the line before it.
+/// What is expected on a line, by the line before it.
 #[derive(Clone, Copy)]
 pub enum Due {
     Header,

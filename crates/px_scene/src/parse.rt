@@ -1,18 +1,16 @@
-//! One line of a scene text, parsed: what its words say, where it is due and its form is good
+//! One line of a scene text, parsed: what its words say, where it is expected and its form is good
 //! (docs/SCENES.md, "Lines that are due").
 ghost use Rattle.std.specs.Prelude.{◌≡◌, ◌≤◌, IfOk, length, true};
 ghost use Rattle.px_text.specs.LentWords.{now_of};
-ghost use Rattle.px_scene.specs.Lines.{depth_form, due_after, end_form, form_of, header_form, is_due, linear_in, paint_in, picture_form, plane_in, plane_form, line_form, side_form, solid_form};
-ghost use Rattle.px_scene.specs.Lines.{back, front, keyword_of};
+ghost use Rattle.px_scene.specs.Lines.{depth_form, due_after, end_form, form_of, header_form, is_due, keyword_of, linear_in, paint_in, picture_form, plane_in, line_form, side_form, solid_form};
 ghost use Rattle.px_scene.specs.Parsed.{as_form, keyword_in, name_in, stated};
-ghost use Rattle.px_scene.specs.declared.line.Keyword.TheVariants as Kind;
 
 use crate::line::{Due, Keyword, Paint, Plane, keyword_of};
 use px_num::Linear;
 use px_show::{Cause, Version};
 use px_text::{is_name, number_of};
 
-/// What a line says that is due and of good form, with its numbers; what stands before it is not
+/// What a line says that is expected and of good form, with its numbers; what stands before it is not
 /// asked yet.
 #[derive(Clone, Copy)]
 pub(crate) enum Statement<'t> {
@@ -28,7 +26,7 @@ pub(crate) enum Statement<'t> {
 }
 
 impl<'t> Statement<'t> {
-    /// What a first word and the words after it say, by the version and by what is due.
+    /// What a first word and the words after it say, by the version and by what is expected.
     pub(crate) fn parse(
         version: Version,
         due: Due,
@@ -46,8 +44,8 @@ impl<'t> Statement<'t> {
             (Due::Depth, Keyword::Depth) => depth(version, words),
             (Due::Solid, Keyword::Solid) => solid(words),
             (Due::Solid, Keyword::Show) => Ok(Statement::Show(words)),
-            (Due::Plane, Keyword::Front) => front(words),
-            (Due::Plane, Keyword::Back) => back(words),
+            (Due::Plane, Keyword::Front) => Ok(Statement::Front(face(words)?)),
+            (Due::Plane, Keyword::Back) => Ok(Statement::Back(face(words)?)),
             (Due::Plane, Keyword::Side) => side(words),
             (Due::Plane, Keyword::Solid) => solid(words),
             (Due::Plane, Keyword::Show) => Ok(Statement::Show(words)),
@@ -57,7 +55,7 @@ impl<'t> Statement<'t> {
         }
     }
 
-    /// What is due on the line after its own.
+    /// What is expected on the line after its own.
     pub(crate) fn due_after(self) -> Due
         ensures { result ≡ due_after (stated self.entry) }
     {
@@ -133,28 +131,6 @@ fn solid<'t>(words: &'t [&'t [u8]]) -> Result<Statement<'t>, Cause>
             }
         }
         _ => Err(Cause::WordCount),
-    }
-}
-
-fn front<'t>(words: &'t [&'t [u8]]) -> Result<Statement<'t>, Cause>
-    ensures says { as_form result ≡ plane_form front (plane_in (now_of words.now)) }
-    ensures begins { IfOk result (λ s. keyword_in s ≡ Kind.Front) }
-    ensures named { IfOk result (λ s. length (name_in s) ≤ 32) }
-{
-    match face(words) {
-        Ok(face) => Ok(Statement::Front(face)),
-        Err(cause) => Err(cause),
-    }
-}
-
-fn back<'t>(words: &'t [&'t [u8]]) -> Result<Statement<'t>, Cause>
-    ensures says { as_form result ≡ plane_form back (plane_in (now_of words.now)) }
-    ensures begins { IfOk result (λ s. keyword_in s ≡ Kind.Back) }
-    ensures named { IfOk result (λ s. length (name_in s) ≤ 32) }
-{
-    match face(words) {
-        Ok(face) => Ok(Statement::Back(face)),
-        Err(cause) => Err(cause),
     }
 }
 

@@ -64,6 +64,7 @@ fn put_solid(text: &mut Vec<u8>, solid: &Solid) -> Result<(), Memory>
 }
 
 /// The fronts and backs in the order of their numbers.
+#[tactic(auto, using(crate::proofs::WriteLaws::next_number))]
 fn put_faces(text: &mut Vec<u8>, solid: &Solid) -> Result<(), Memory>
     ensures { OnOk result (text.new.items ≡ text.old.items ++ face_lines solid.now) }
 {

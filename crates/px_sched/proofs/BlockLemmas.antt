@@ -165,9 +165,7 @@ module _ (covering : CoveringLaw) (parity : ValueParityLaw) (scene : SceneView) 
   cell_test : (solid : ℕ) (plain : Bool) → let s = solid_of scene solid in is_covered s plain far l.x l.y ≡ true
       → ((d.fraction_bits == 0) || test covering scene l room solid plain (value_of d (cell_found s plain d l.x l.y)))
       ≡ has_cell s plain d l.x l.y (cell_found s plain d l.x l.y)
-  cell_test solid true met =
-      plain_test covering scene l room solid (cell_found (solid_of scene solid) true d l.x l.y) refl met
-  cell_test solid false both = grind (arith, barred_test, and_left)
+  cell_test solid plain met = grind (arith, plain_test, barred_test, and_left)
 
   -- the candidate of a literal that stays alive
   record IsKept (s : SolidView) (plain : Bool) (k new : Keys) : Type 0 where
@@ -181,10 +179,8 @@ module _ (covering : CoveringLaw) (parity : ValueParityLaw) (scene : SceneView) 
       → IsConfirmed covering scene l room solid plain start new → IsKept s plain k new
   kept solid plain k start new dead is c = let s = solid_of scene solid in
       elim (cases_Bool (is_covered s plain far l.x l.y)) [
-        | inl yea ↦
-            grind (arith, loaded_deep, test, cell_test)
-        | inr nay ↦
-            grind (arith, test, never)
+        | inl yea ↦ grind (arith, loaded_deep, cell_test)
+        | inr nay ↦ grind (arith, never)
       ]
 
   -- what the other literals leave

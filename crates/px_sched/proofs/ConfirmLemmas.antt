@@ -18,11 +18,7 @@ use Rattle.px_sched.proofs.FoldLemmas.{fold_single, where_test}
 -- a test that adds something where the place is the one
 where_here : (met here passed known : Bool) → (met ≡ true → here ≡ true → passed ≡ known) → ((met && here) && passed)
     ≡ ((met && known) && here)
-where_here false here passed known h = refl
-where_here true false passed true h = refl
-where_here true false passed false h = refl
-where_here true true passed true h = h refl refl
-where_here true true passed false h = h refl refl
+where_here met here passed known h = grind arith
 
 abbrev drop_step : (ℕ → ℕ → Bool) → Keys → ℕ → Keys
 drop_step t k i = if k.alive && t k.deep i then dropped k else k
@@ -36,10 +32,7 @@ drops t k [] = refl
 drops t k (i ∷ is) = grind (arith, drops t (record k { alive = (if t k.deep i then false else k.alive) }) is)
 
 and_not : (g a : Bool) → (if g then false else a) ≡ (a && not g)
-and_not true true = refl
-and_not true false = refl
-and_not false true = refl
-and_not false false = refl
+and_not g a = grind arith
 
 lt_next : (z : ℕ) → nat_lt z (suc z) ≡ true
 lt_next z = grind (arith, nat_tests)
@@ -181,9 +174,7 @@ module _ (covering : CoveringLaw) (scene : SceneView) (l : KeyedPixel) (room : H
 
   by_kind : (plain : Bool) (k : Keys) → (d.fraction_bits == 0) ≡ false
       → IsConfirmed plain k (after_steps scene l k (confirming plain))
-  by_kind true k some = rw (confirm_plain k) (record { best = refl; deep = refl; number = refl; alive = rw some refl })
-  by_kind false k some =
-      rw (confirm_barred k) (record { best = refl; deep = refl; number = refl; alive = rw some refl })
+  by_kind plain k some = grind (arith, confirm_plain, confirm_barred)
 
   pub confirmed : (plain : Bool) (k : Keys)
       → IsConfirmed plain k (after_steps scene l k (where_fraction d (confirming plain)))

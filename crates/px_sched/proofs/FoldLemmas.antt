@@ -24,8 +24,7 @@ pub fold_single : {S : Type 0} (t : ℕ → Bool) (f : S → ℕ → S) (s : S) 
     → fold (where_test t f) s (range_with_len a n) ≡ (if g then f s k else s)
 fold_single t f s a zero k g one low high = absurd (omega arith)
 fold_single t f s a (suc n) k g one low high = elim (cases_eq a k) [
-  | inl e ↦
-      grind (arith, eqb_itself, and_true, fold_none, eqb_other, and_false)
+  | inl e ↦ grind (arith, eqb_itself, and_true, fold_none, eqb_other, and_false)
   | inr ne ↦
       let here : t a ≡ false = one a (omega arith) (omega arith) ∙ rw (eqb_other a k ne) (and_false g) in
       ap (λ v. fold (where_test t f) v (range_with_len (a + 1) n)) (cond-false (t a) (f s a) s here)

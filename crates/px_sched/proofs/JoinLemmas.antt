@@ -1,15 +1,15 @@
 -- The least key found is that of the first depth at which the products show something, with the least number there.
-use Rattle.px_num.proofs.Basics.{common_steps, ◌≡◌, ◌<◌, ◌≤◌, ◌+◌, ◌*◌, ◌^◌, ◌&&◌, ℕ, nat_le, Bool, true, false, not}
+use Rattle.px_num.proofs.Basics.{◌≡◌, ◌<◌, ◌≤◌, ◌+◌, ◌*◌, ◌^◌, ◌&&◌, ℕ, nat_le, Bool, true, false, not}
 use Rattle.px_num.proofs.Basics.{nat_lt, List, length, min, refl, ap, ◌∙◌, arith, inl, inr, ◌⊎◌, eqb, All, fold}
 use Rattle.px_num.proofs.Basics.{flat_map, list_all, cases_Bool}
-use Rattle.px_sched.proofs.Words.{and_false, and_left, and_right, AreNumberedFrom, cell_of, CellsLaw, covering_back}
+use Rattle.px_sched.proofs.Words.{and_false, and_left, and_right, AreNumberedFrom, cell_of, CellsLaw}
 use Rattle.px_sched.proofs.Words.{CoveringLaw, Depths, depths_of, end_of, enters_at, eqb_holds, faces_in, faces_of}
-use Rattle.px_sched.proofs.Words.{far_of, first_of_three, holds, is_inside, is_inside_before, is_met, IsLawfulSolid}
+use Rattle.px_sched.proofs.Words.{far_of, first_of_three, holds, is_inside, is_met, IsLawfulSolid}
 use Rattle.px_sched.proofs.Words.{IsNumberedFrom, key, KeyedPixel, leaf_cell, leaves_at, Literal, literals, lt_false}
 use Rattle.px_sched.proofs.Words.{lt_holds, lt_true, no_solid, others, Product, same_true, SceneView, shows, solid_of}
 use Rattle.px_sched.proofs.Words.{SolidView, some_shows, third_of_three, value_of}
 use Rattle.px_sched.proofs.RunLemmas.{suits}
-use Rattle.px_sched.proofs.BlockLemmas.{all_found, cell_found, is_covered, is_found, keys_found, number_found, suited}
+use Rattle.px_sched.proofs.BlockLemmas.{all_found, cell_found, is_found, keys_found, number_found, suited}
 use Rattle.px_sched.proofs.MemberLaws.{In, all_kept, all_of, any_in, any_out, in_filter, in_flat, in_where, min_below}
 use Rattle.px_sched.proofs.MemberLaws.{min_reached, min_start, one_of, out_flat}
 use Rattle.px_sched.proofs.LiteralLemmas.{backs_below, barred_seen, fronts_below, plain_seen, plain_shows}
@@ -33,18 +33,8 @@ module _ (covering : CoveringLaw) (cells : CellsLaw) (d : Depths) (s : SolidView
       last_of true first last c h = grind (arith, lt_false, and_false)
 
   is_candidate : (plain : Bool) → is_found s plain d x y ≡ true → IsCandidate plain
-  is_candidate true found = grind (arith, common_steps, and_left, suited, plain_shows, lt_holds, third_of_three)
-  is_candidate false found =
-      let c = cell_of d (leaves_at s (end_of d) x y) in
-      let both = and_left (is_covered s false (end_of d) x y) (is_inside_before s d x y c) found in
-      let numbered = nat_lt (covering_back s (end_of d) x y) (length s.fronts + 1 + length s.backs) in
-      let met = and_left (is_met s (end_of d) x y) numbered both in
-      let there = lt_holds _ _ (and_right (is_met s (end_of d) x y) numbered both) in
-      record {
-        within = (cells s d x y).within met;
-        suited = rw (not_behind c refl) refl;
-        shown = grind (arith, same_true, barred_shows);
-      }
+  is_candidate plain found =
+      grind (arith, and_left, plain_shows, lt_holds, third_of_three, and_right, not_behind, same_true, barred_shows)
 
   record IsSeen (plain : Bool) (z n : ℕ) : Type 0 where
     found : is_found s plain d x y ≡ true

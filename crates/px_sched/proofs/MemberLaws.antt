@@ -1,5 +1,5 @@
 -- Members of lists, by their places too, and the least of them.
-use Rattle.px_num.proofs.Basics.{◌≡◌, ◌≤◌, ◌+◌, ℕ, zero, suc, get_or, length, Bool, true, false, List, [], ◌∷◌, ◌++◌}
+use Rattle.px_num.proofs.Basics.{◌≡◌, ◌≤◌, ◌+◌, ℕ, zero, suc, get_or, length, Bool, true, List, [], ◌∷◌, ◌++◌}
 use Rattle.px_num.proofs.Basics.{map, min, refl, ap, sym, ◌∙◌, subst, arith, inl, inr, ◌⊎◌, if◌then◌else◌, ◌==◌, All}
 use Rattle.px_num.proofs.Basics.{filter, flat_map, fold, list_all, list_any, range_with_len, cases_Bool, nat_tests}
 use Rattle.px_sched.proofs.Words.{and_left, and_right, has_face, or_true}
@@ -93,9 +93,7 @@ all_in P (y ∷ ys) x all (inl e) = subst P e (all 0 y (omega arith))
 all_in P (y ∷ ys) x all (inr h) = all_in P ys x (λ k any lt. all (suc k) any (omega arith)) h
 
 pub in_where : {X : Type 0} (b : Bool) (x y : X) → In x (if b then y ∷ [] else []) → (b ≡ true) × (y ≡ x)
-in_where true x y (inl e) = (refl, e)
-in_where true x y (inr h) = absurd h
-in_where false x y h = absurd h
+in_where b x y h = grind arith
 
 -- the elements of a list, by their places
 shift : {X : Type 0} (f g : ℕ → X) → ((i : ℕ) → f (i + 1) ≡ g i) → (a n : ℕ)

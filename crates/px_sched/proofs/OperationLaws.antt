@@ -43,8 +43,7 @@ module _ (scene : SceneView) where
       let n = length s.fronts + 1 in
       let turns = map (Front q.solid) (range_with_len 0 n) in
       elim (cases_Bool q.plain) [
-        | inl plain ↦
-            rw plain (faces_there (Drop q.solid) q.solid (λ face there. there) n (length s.backs + 1) (omega arith))
+        | inl plain ↦ grind (arith, faces_there)
         | inr barred ↦ rw barred (All-push There (Clear ∷ turns) Confirm (All-cons There Clear turns tt
             (faces_there (Front q.solid) q.solid (λ face there. there) 0 n (omega arith))) tt)
       ]
@@ -144,8 +143,7 @@ module _ (scene : SceneView) (l : LayoutView) (P : Macro → Type 0) (h : HoldsO
   each_operation (Drop solid face) there = search (rules, passed, h.faces.at_most, h.alive)
   each_operation Clear there = All-from_recursion P (operations scene l Clear) (h.all, (h.par, tt))
   each_operation (Front solid face) there = passed solid face _ _ there (h.faces.behind solid face there) h.turned
-  each_operation Confirm there =
-      All-from_recursion P (operations scene l Confirm) (h.all, (h.where_par false, (h.alive false, tt)))
+  each_operation Confirm there = grind arith
   each_operation (Begin other) there = All-from_recursion P (operations scene l (Begin other)) (h.all, (h.par, tt))
   each_operation (Turn other solid face) there = passed solid face _ _ there (h.faces.at_most solid face there) h.turned
   each_operation x there = grind (arith, All-from_recursion)

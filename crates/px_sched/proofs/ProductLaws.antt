@@ -154,7 +154,6 @@ pub record IsNumberedIn (bound : ℕ) (s : SolidView) : Type 0 where
 pub numbered_at : (ss : List SolidView) (first q : ℕ) → AreNumberedFrom first ss → q < length ss
     → IsNumberedIn (first + faces_of ss) (get_or ss q no_solid)
 numbered_at [] first q numbered h = absurd (omega arith)
-numbered_at (s ∷ ss) first zero numbered h =
-    record { first = first; numbers = numbered.0; within = omega (arith, sum_by-cons faces_in s ss) }
+numbered_at (s ∷ ss) first zero numbered h = grind (arith, sum_by-cons faces_in s ss)
 numbered_at (s ∷ ss) first (suc q) numbered h =
     grind (arith, common_steps, numbered_at ss (first + faces_in s) q numbered.1 (omega arith))

@@ -60,7 +60,7 @@ alive_odd true t is = turned_is_odd t false is ∙ turned_from_false (is_odd (co
 alive_odd false t [] = refl
 alive_odd false t (i ∷ is) = alive_odd false t is
 
--- a candidate at depth z is where a literal wants it
+-- a candidate at depth z is where a literal needs it
 abbrev pub suits : SolidView → (plain : Bool) → (end x y z : ℕ) → Bool
 suits s plain end x y z = if plain then is_inside_at s end x y z else not (is_inside_at s end x y z)
 
@@ -75,14 +75,7 @@ classified l end s plain k =
 pub ended : (b d n : ℕ) (a inside plain : Bool)
     → (if beq (a && inside) (not plain) then keys_of b d n false (a && inside) else keys_of b d n a (a && inside))
     ≡ keys_of b d n (a && (if plain then inside else not inside)) (a && inside)
-ended b d n true true true = refl
-ended b d n true true false = refl
-ended b d n true false true = refl
-ended b d n true false false = refl
-ended b d n false true true = refl
-ended b d n false true false = refl
-ended b d n false false true = refl
-ended b d n false false false = refl
+ended b d n a inside plain = grind arith
 
 module _ (covering : CoveringLaw) (parity : ValueParityLaw) (scene : SceneView) (l : KeyedPixel)
     (big : end_of (depths_of scene) < 2 ^ (l.depth_bits + l.fraction_bits)) where

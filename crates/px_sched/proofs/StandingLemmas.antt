@@ -3,7 +3,7 @@ use Rattle.px_num.proofs.Basics.{nat_tests, common_steps, ◌≡◌, ℕ, ◌+�
 use Rattle.px_num.proofs.Basics.{drop, filter, get_or, IfSome, length, slice_get, take, Some, None, ap, sym, ◌∙◌, arith}
 use Rattle.px_num.proofs.Basics.{cond, length-append, unwrap_or, flat_map, drop_more, count_by-le-length, length-filter}
 use Rattle.px_num.proofs.Basics.{slice_get-get_or, slice_get_past, drop_all, get_or_append_left, subst}
-use Rattle.px_sched.proofs.Words.{behind_stage, from_stage, IsStage, IsStep, layout_of, length-drop, length-take, Macro}
+use Rattle.px_sched.proofs.Words.{behind_stage, from_stage, IsStage, layout_of, length-drop, length-take, Macro}
 use Rattle.px_sched.proofs.Words.{operations, passes, plan_of, Product, SceneView, Stage, Step, step_of}
 use Rattle.std.proofs.Math.Seq.{drop-append_seam}
 use Rattle.std.proofs.lemmas.List.Filters.{length-filter_more}
@@ -47,9 +47,6 @@ module _ (scene : SceneView) (products : List Product) where
 
   end_from : (st : Stage) → None ≡ step_of st → from_stage scene products st ≡ []
   end_from x here = grind arith
-
-  pub step_known : (st : Stage) (s : Step) → Some s ≡ step_of st → IsStage scene products st → IsStep scene s
-  step_known x s here is = grind (arith, unwrap_or)
 
   pub others_here : (st : Stage) (s : Step) → Some s ≡ step_of st → IsStage scene products st → HasFewOthers s
   others_here x s here is = grind (arith, unwrap_or, few_others)

@@ -1,4 +1,4 @@
--- What comes behind a step, of a literal or of a group, begins with the next one.
+-- What comes after a step, of a literal or of a group, begins with the next one.
 use Rattle.px_num.proofs.Basics.{◌≡◌, ◌+◌, ◌-◌, ◌^◌, ◌<◌, ◌≤◌, ◌==◌, ◌++◌, ◌∙◌, ℕ, true, not, List, [], ◌∷◌, All, drop}
 use Rattle.px_num.proofs.Basics.{get_or, length, map, flat_map, refl, ap, sym, subst, arith, nat_tests, common_steps}
 use Rattle.px_num.proofs.Basics.{append_assoc, length-append, length-map, drop_more, get_or-map, get_or-append_right}

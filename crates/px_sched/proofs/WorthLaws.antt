@@ -40,8 +40,7 @@ module _ (v : Step → ℕ) (scene : SceneView) where
   alike : (step : ℕ → Step) → ((face : ℕ) → first_face_step (step face) ≡ first_face_step (step 0)) → (faces : List ℕ)
       → sum_by u (map step faces) ≡ length faces * u (step 0)
   alike step same [] = omega arith
-  alike step same (face ∷ faces) =
-      omega (arith, sum_by-cons u (step face) (map step faces), ap v (same face), alike step same faces)
+  alike step same (face ∷ faces) = grind (arith, sum_by-cons u (step face) (map step faces), alike step same faces)
 
   in_range : (step : ℕ → Step) → ((face : ℕ) → first_face_step (step face) ≡ first_face_step (step 0))
       → (from count : ℕ) → sum_by u (map step (range_with_len from count)) ≡ count * u (step 0)

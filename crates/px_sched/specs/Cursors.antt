@@ -1,4 +1,4 @@
--- Where a cursor stands in the passes of a scene. Clauses of public calls stand on it.
+-- Where a cursor is in the passes of a scene. Clauses of public calls stand on it.
 use Rattle.std.specs.Prelude.{◌≡◌, ◌^◌, ◌<◌, ◌≤◌, drop, length, IfSome}
 use Rattle.std.specs.List.{flat_map}
 use Rattle.px_prune.specs.Kept.{plan_of}
@@ -8,7 +8,7 @@ use Rattle.px_sched.specs.Layouts.{layout_of}
 use Rattle.px_sched.specs.Groups.{IsStage, from_stage, step_of}
 use Rattle.px_sched.specs.Passes.{operations, passes}
 
--- a cursor stands in the passes of a scene where it has given as many of them as it counts: those that were not given
+-- a cursor is in the passes of a scene where it has given as many of them as it counts: those that were not given
 -- are the operations of the steps from its stage on, without as many as its place
 pub record Stands (scene : SceneView) (cursor : Cursor) : Type 0 where
   pub stage : IsStage scene (plan_of scene) cursor.stage

@@ -1,4 +1,4 @@
--- What is left of the steps from one of them on; products whose passes can be made.
+-- The rest of the steps from one of them on; products whose passes can be made.
 -- Only proofs and private functions stand on it.
 use Rattle.std.specs.Prelude.{◌≡◌, ◌<◌, ℕ, All, List, [], ◌∷◌, ◌++◌, length, Option, Some, None}
 use Rattle.px_macro.specs.declared.operation.Macro.{Macro}

@@ -1,4 +1,4 @@
--- Where a cursor stands in the steps of a scene. Clauses of public calls stand on it.
+-- Where a cursor is in the steps of a scene. Clauses of public calls stand on it.
 use Rattle.std.specs.Prelude.{◌≡◌, ℕ, ◌^◌, ◌<◌, ⊤, Bool, true, false, List, drop, filter, length, take}
 use Rattle.px_model.specs.Scenes.{SceneView}
 use Rattle.px_prune.specs.Kept.{plan_of}
@@ -25,7 +25,7 @@ HasFewOthers (Turn other solid face) = other < 512
 HasFewOthers (Close other plain) = other < 512
 HasFewOthers other = ⊤
 
--- a cursor stands in the steps of a scene where it has given as many of them as it counts: those that were not given
+-- a cursor is in the steps of a scene where it has given as many of them as it counts: those that were not given
 -- are the steps from its stage on
 pub record StandsAtStep (scene : SceneView) (cursor : StepCursor) : Type 0 where
   pub stage : IsStage scene (plan_of scene) cursor.stage

@@ -54,7 +54,7 @@ turns_from scene rs other face =
     from_face (Turn other r.solid) face (face_count (solid_of scene r.solid))
     ++ Close other r.plain ∷ judged_from scene rs (other + 1)
 
--- what comes behind a step of literal q, where rs are the other literals
+-- what comes after a step of literal q, where rs are the other literals
 abbrev pub behind_step : SceneView → (q : Literal) → (rs : List Literal) → Step → List Step
 behind_step scene q rs Start = []
 behind_step scene q rs Open = candidates_from scene q rs (first_candidate (solid_of scene q.solid) q.plain)

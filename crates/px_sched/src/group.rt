@@ -53,7 +53,7 @@ impl Stage {
         }
     }
 
-    /// What comes behind the step here.
+    /// What comes after the step here.
     pub(crate) fn next(self, scene: &Scene, products: &[Product]) -> Stage
         requires drawn { All (HasKnownLiterals scene.now) products.now }
         requires stage { IsStage scene.now products.now self }
@@ -84,6 +84,7 @@ impl Group {
     }
 
     /// The step behind this one, of the same literal.
+    #[tactic(auto, using(crate::proofs::StepLemmas::others_known))]
     fn next_step(self, scene: &Scene, products: &[Product]) -> Option<Step>
         requires drawn { All (HasKnownLiterals scene.now) products.now }
         requires group { IsGroup scene.now products.now self }
@@ -110,6 +111,7 @@ impl Group {
 }
 
 /// The literals of a product from one on, and the products behind it.
+#[tactic(auto, using(crate::proofs::StepLemmas::literal_opens))]
 fn literal_from(scene: &Scene, products: &[Product], product: usize, literal: usize) -> Stage
     requires drawn { All (HasKnownLiterals scene.now) products.now }
     requires product { product < length products.now }

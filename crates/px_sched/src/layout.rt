@@ -82,6 +82,7 @@ pub struct NeedBits {
 
 impl Layout {
     /// The layout of a scene's passes in pixels of so many memory bits.
+    #[tactic(auto, using(crate::proofs::LayoutLaws::scene_layout))]
     pub fn of(scene: &Scene, bits: u32) -> Result<Layout, NeedBits>
         ensures layout { IfOk result (λ layout. layout ≡ layout_of scene.now) }
         ensures need { IfErr result (λ fault. fault.need ≡ need_of (layout_of scene.now)) }

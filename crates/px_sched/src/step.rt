@@ -410,7 +410,7 @@ fn where_passed(
 }
 
 /// The edge of an operation among a head of so many operations, one for each edge of a face, and a
-/// tail; or else the operation's place in the head and the tail alone.
+/// tail; otherwise the operation's place in the head and the tail alone.
 fn edge_or_place(
     scene: &Scene,
     solid: u8,

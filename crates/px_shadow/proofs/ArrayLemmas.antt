@@ -106,10 +106,8 @@ can_shade bits scene lights device lawful solids products at known enough most =
     let small : need ≤ 256 = omega (arith, layout.depth, layout.number, most) in
     record {
       sized = is_sized_array bits scene (total scene) device lawful at;
-      lawful = All-weaker (λ m. IsLawful m need) (λ m. IsLawful m 256) (λ m h. is_lawful_in_more m need 256 small h)
-          ms fit;
-      places = All-weaker (λ m. IsLawful m need) (λ m. IsLawful m bits)
-          (λ m h. is_lawful_in_more m need bits enough h) ms fit;
+      lawful = grind (arith, is_lawful_in_more);
+      places = grind (arith, is_lawful_in_more);
       counted = grind (arith, clocks_at, passes_few, few_clocks);
     }
 

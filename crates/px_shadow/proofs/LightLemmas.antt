@@ -94,8 +94,7 @@ module _ (scene : SceneView) (l : LayoutView) (ready : IsReady l (end_of (depths
       let now = (after_macros (flat_map (λ q. solid_passes l end light (solid_of scene q)) qs) x y p).memory in
       Keeps l.par (light_bit l light) p.memory now
       × (bit_at now (light_bit l light) ≡ (bit_at p.memory (light_bit l light) && outside (deep p.memory) qs))
-  solids_go_out light some [] p room =
-      (keeps_all l.par (light_bit l light) p.memory, sym (and_true (bit_at p.memory (light_bit l light))))
+  solids_go_out light some [] p room = grind (arith, keeps_all, and_true)
   solids_go_out light some (q ∷ qs) p room =
       let bit = light_bit l light in
       let s = solid_of scene q in
@@ -135,7 +134,7 @@ module _ (scene : SceneView) (l : LayoutView) (ready : IsReady l (end_of (depths
     pub lights : (place : ℕ) → place < length sets → bit_at now (light_bit l light + place)
         ≡ lit (light_at sets place) before
 
-  -- a light is told by the stored key alone
+  -- a light is found from the stored key alone
   lit_same : (set : SolidSet) (light : ℕ) (before now : List Bool) → Keeps l.par (light_bit l light) before now
       → lit set now ≡ lit set before
   lit_same set light before now keeps =
@@ -150,8 +149,7 @@ module _ (scene : SceneView) (l : LayoutView) (ready : IsReady l (end_of (depths
       → bit_at now (light_bit l light + place) ≡ lit (light_at (set ∷ sets) place) before
   lights_of light some set sets before mid now keeps here others zero below = grind arith
   lights_of light some set sets before mid now keeps here others (suc place) below =
-      let e : light_bit l light + suc place ≡ light_bit l (light + 1) + place = omega arith in
-      rw e (others.lights place (omega arith) ∙ lit_same (light_at sets place) light before mid keeps)
+      grind (arith, lit_same (light_at sets place) light before mid keeps)
 
   pub are_lit : (light : ℕ) → 0 < light → (sets : List SolidSet) (p : PixelBits) → light_bit l light + length sets
       ≤ length p.memory →

@@ -1,5 +1,5 @@
 -- What is found of the shadows of a text that was read is found of the input, and what stops it.
-use Rattle.px_num.proofs.Basics.{ℕ, ◌≡◌, ◌<◌, ◌≤◌, List, length, take, drop, unwrap_or, None, Result}
+use Rattle.px_num.proofs.Basics.{ℕ, ◌≡◌, ◌<◌, ◌≤◌, List, length, take, drop, unwrap_or, None, Result, arith}
 use Rattle.px_num.proofs.Basics.{Err, refl, ap, sym, subst, ◌∙◌, Consumes}
 use Rattle.px_shadow.proofs.Words.{ConsumesAtMost, done, IsFrontOf, LayoutView}
 use Rattle.px_shadow.proofs.Words.{lights_in, lights_refusal}
@@ -94,9 +94,7 @@ parts_serve result text part behind n bits a b short count front rest serves =
 -- an array that can find the shadows does
 pub lit_is : (bits : ℕ) (scene : SceneView) (lights : List SolidSet) (n : ℕ) → n ≡ length lights
     → ((o : Outcome) → lit_drawable bits scene n o ≡ o) → lit bits scene lights ≡ done (mask_image scene lights)
-lit_is bits scene lights n same fits =
-    ap (λ k. lit_drawable bits scene k (done (mask_image scene lights))) (sym same)
-    ∙ fits (done (mask_image scene lights))
+lit_is bits scene lights n same fits = grind (arith, done)
 
 -- and the image of what it stores is that of the lights
 pub masks_are : (scene : SceneView) (l : LayoutView) (lights : List SolidSet) (n : ℕ) (state : State)

@@ -22,7 +22,7 @@ tests_are f xs tail = ap (λ ms. ms ++ tail) (sym (flat_map_single f xs))
 pub number_at : (n t : ℕ) → t < n → get_or (range_with_len 0 n) t 0 ≡ t
 number_at n t low = get_or-range_with_len 0 n t 0 low ∙ omega arith
 
--- each solid of a set that has none but these is one of them
+-- each solid of a set that has only these is one of them
 pub all_known : (count : ℕ) (set : SolidSet) → IsBelow count set → All (λ q. q < count) (solids set)
 all_known count set known =
     All-weaker (λ q. nat_lt q count ≡ true) (λ q. q < count) (λ q e. lt_holds q count e) (solids set)

@@ -16,7 +16,7 @@ abbrev pub are_some : Words → Bool
 are_some [] = false
 are_some (w ∷ ws) = true
 
--- the words behind `light`
+-- the words after `light`
 abbrev pub said_behind : List SolidView → Words → Said
 said_behind ss ws = s.Light (are_some ws) (list_all is_name ws) (list_all (is_solid_name ss) ws)
     (set_of (filter_map (solid_named ss) ws))

@@ -1,4 +1,4 @@
--- What `shadow` answers and leaves: by which lights each pixel is lit, where the lines behind the scene part
+-- What `shadow` answers and leaves: by which lights each pixel is lit, where the lines after the scene part
 -- name the lights.
 -- Clauses of public calls stand on it.
 use Rattle.std.specs.Prelude.{ℕ, ◌+◌, ◌==◌, pos, List, length, nat_lt, count_by, if◌then◌else◌, Option, Some}
@@ -37,7 +37,7 @@ abbrev pub light_refused : Option LightFault → Option Refusal
 light_refused None = None
 light_refused (Some found) = Some (light_refusal found)
 
--- why lines behind the scene part, of which the first has this number, are refused
+-- why lines after the scene part, of which the first has this number, are refused
 abbrev pub lights_refusal : SceneView → (first : ℕ) → (behind : List ℕ) → Option Refusal
 lights_refusal scene first behind = light_refused (lights_fault scene.solids first (worded behind))
 
@@ -68,17 +68,17 @@ abbrev pub lit_by_lines : (bits : ℕ) → SceneView → (first : ℕ) → (behi
 lit_by_lines bits scene first behind =
     unless_refused (lights_refusal scene first behind) (lit bits scene (lights_in scene behind))
 
--- the refusal of the scene part, or else what comes of its scene and the lines behind it
+-- the refusal of the scene part, otherwise what comes of its scene and the lines after it
 abbrev pub parts_lit : (bits : ℕ) → (part behind : List ℕ) → Outcome
 parts_lit bits part behind =
     unless_refused (text_refusal part) (lit_by_lines bits (scene_of (worded part)) (line_behind part) behind)
 
--- a text past its limit is refused before all else
+-- a text past its limit is refused before everything else
 unfoldable pub shadowed : (bytes : List ℕ) → (bits : ℕ) → Outcome
 shadowed bytes bits =
     if is_long bytes then refused too_long else parts_lit bits (scene_part bytes) (behind_part bytes)
 
--- what is left of the array where the shadow passes are made on the drawn scene
+-- what remains of the array where the shadow passes are made on the drawn scene
 abbrev pub ShadesBy : Status → (bits : ℕ) → SceneView → List SolidSet → (before now : ArrayView) → Type 0
 ShadesBy found bits scene lights before now = LeavesMade (IsShaded bits scene lights) found before now
 
@@ -89,7 +89,7 @@ ShadesParts found bits part behind before now =
 abbrev pub Shades : Status → (bits : ℕ) → (bytes : List ℕ) → (before now : ArrayView) → Type 0
 Shades found bits bytes before now = ShadesParts found bits (scene_part bytes) (behind_part bytes) before now
 
--- what is written, and what is left of the array
+-- what is written, and what remains of the array
 abbrev pub LeavesShadows : Result (Unit {0}) Stop → (bits : ℕ) → (bytes : List ℕ) → (before after : Ends) → Type 0
 LeavesShadows result bits bytes before after =
     WritesAndLeaves result (shadowed bytes bits) (λ old new. Shades (status_in result) bits bytes old new) before after

@@ -34,7 +34,7 @@ use px_sched::{Layout, solid_at};
 /// A scene is lit by at most so many lights.
 pub const MAX_LIGHTS: usize = 8;
 
-/// A face has at most 97 edges, and three operations beside those of its edges.
+/// A face has at most 97 edges, and three operations besides those of its edges.
 const TURN_OPERATIONS: usize = 100;
 
 /// How many memory bits a pixel needs for the keys of a layout and so many lights, at most

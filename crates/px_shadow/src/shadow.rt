@@ -1,4 +1,4 @@
-//! The command `shadow`: the image of the lights that the lines behind a scene name.
+//! The command `shadow`: the image of the lights that the lines after a scene name.
 ghost use Rattle.std.specs.Prelude.{◌≡◌, ◌≢◌, ◌+◌, ◌<◌, ◌≤◌, ◌==◌, All, IfErr, IfOk, OnErr, OnOk, Err, length, true, unwrap_or};
 ghost use Rattle.std.specs.Io.KnownBytes.{Appends};
 ghost use Rattle.px_io.specs.Counts.{HasCause};
@@ -42,7 +42,7 @@ use px_sched::{Layout, NeedBits};
 use px_text::MAX_TEXT_BYTES;
 use std::alloc::Global;
 
-/// Reads the input to its end, and draws the image of the lights that the lines behind its scene
+/// Reads the input to its end, and draws the image of the lights that the lines after its scene
 /// part name.
 pub fn shadow_input<S: Source, O: Sink, A: Operating>(
     alloc: Global,

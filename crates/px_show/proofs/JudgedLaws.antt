@@ -48,7 +48,7 @@ not_refused (Some bad) ended count e = cc
 not_refused None true count e = (refl, refl)
 not_refused None false count e = cc
 
--- no text is refused for want of memory
+-- no text is refused because memory runs out
 pub not_memory : {K : Type 0} (bad : Option (ℕ × LineFault K)) (ended : Bool) (count : ℕ)
     → refused bad ended count ≢ Some (text.Memory want)
 not_memory (Some (line, f.Malformed cause)) ended count e = cc

@@ -1,4 +1,4 @@
--- The signs of operators: the only lemmas that go by the operators.
+-- The signs of operators: the only lemmas that depend on the operators.
 use Rattle.px_num.proofs.Basics.{arith, ◌≡◌, ℕ, ◌+◌, true, false, refl, list_any, list_any-append}
 use Rattle.px_show.proofs.Words.{is_name_byte, mark, nodes_behind, Op, sign, size, Tree, Version}
 use Rattle.px_expr.specs.Tree.{leaf, join}

@@ -36,11 +36,11 @@ abbrev pub sign_in : Version → Option Op → Token
 sign_in version None = other
 sign_in version (Some op) = if is_sign version op then sign op else other
 
--- the token of a byte that stands in no name: `(`, `)`, a sign of the version, or another one
+-- the token of a byte that is in no name: `(`, `)`, a sign of the version, or another one
 abbrev pub mark : Version → ℕ → Token
 mark version b = if b == 40 then opens else if b == 41 then closes else sign_in version (op_of b)
 
--- a byte of a name goes to the name that follows it, or else begins one
+-- a byte of a name goes to the name that follows it, otherwise begins one
 abbrev pub with_name_byte : ℕ → List Token → List Token
 with_name_byte b [] = name (b ∷ []) ∷ []
 with_name_byte b (name bs ∷ ts) = name (b ∷ bs) ∷ ts
@@ -82,12 +82,12 @@ abbrev pub leaves : Named → ℕ
 leaves (leaf n) = 1
 leaves (join op left right) = leaves left + leaves right
 
--- how many signs stand above the deepest leaf
+-- how many signs are above the deepest leaf
 abbrev pub named_nesting : Named → ℕ
 named_nesting (leaf n) = 0
 named_nesting (join op left right) = max (named_nesting left) (named_nesting right) + 1
 
--- what tokens are read to: sides, which are whole expressions, and tokens that stand in no side yet
+-- what tokens are read to: sides, which are whole expressions, and tokens that are in no side yet
 pub data Part : Type 0 where
   side : Named → Part
   token : Token → Part

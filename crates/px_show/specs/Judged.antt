@@ -16,7 +16,7 @@ use Rattle.px_show.specs.declared.fault.TextFault.TheVariants as fault
 abbrev pub SceneFault : Type 0
 SceneFault = TextFault LimitKind
 
--- a cause, or else a limit that is passed
+-- a cause, otherwise a limit that is passed
 abbrev pub judged : {K : Type 0} → Option Cause → Option (LineFault K) → Option (LineFault K)
 judged (Some cause) limit = Some (f.Malformed cause)
 judged None limit = limit
@@ -29,7 +29,7 @@ past kind low high found = if le_z low found && le_z found high then None else S
 abbrev pub size_past : {K : Type 0} → K → ℕ → ℤ → Option (LineFault K)
 size_past kind n z = past kind (pos 0 -ℤ pos n) (pos n) z
 
--- the fault of this line, or else a later one
+-- the fault of this line, otherwise a later one
 abbrev pub at_line : {F : Type 0} → ℕ → Option F → Option (ℕ × F) → Option (ℕ × F)
 at_line number (Some fault) later = Some (number, fault)
 at_line number None later = later
@@ -44,7 +44,7 @@ abbrev pub fault_at : {K : Type 0} → ℕ → LineFault K → TextFault K
 fault_at line (f.Malformed cause) = fault.Malformed line cause
 fault_at line (f.Limit kind found) = fault.Limit line kind found
 
--- the first bad line, or else the missing end, at the last line
+-- the first bad line, otherwise the missing end, at the last line
 abbrev pub refused : {K : Type 0} → Option (ℕ × LineFault K) → Bool → ℕ → Option (TextFault K)
 refused (Some bad) ended count = Some (fault_at bad.0 bad.1)
 refused None true count = None

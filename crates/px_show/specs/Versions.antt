@@ -62,7 +62,7 @@ is_differ o.Differ = true
 abbrev pub is_sign : Version → Op → Bool
 is_sign version op = not (is_differ op) || has_differ version
 
--- whether a `^` stands in an expression
+-- whether a `^` is in an expression
 abbrev pub has_difference : Tree → Bool
 has_difference (tree.leaf solid) = false
 has_difference (tree.join op left right) = is_differ op || has_difference left || has_difference right

@@ -42,7 +42,7 @@ pub enum LimitKind {
     Products,
 }
 
-/// A line's form is bad, or else one of its numbers or counts passes a limit.
+/// A line's form is bad, otherwise one of its numbers or counts passes a limit.
 #[derive(Clone, Copy)]
 pub enum LineFault<K> {
     Malformed(Cause),

@@ -51,7 +51,7 @@ pub trait Drafting: Drop {
 }
 
 /// Reads a text from the draft that stands before its first line: what it says, or its first bad line,
-/// or else the missing end, at the last line.
+/// otherwise the missing end, at the last line.
 pub fn read_text<D: Drafting>(
     alloc: Global,
     text: &[u8],

@@ -52,7 +52,7 @@ fn is_differ(op: Op) -> bool
     }
 }
 
-/// Whether a `^` stands in an expression, which texts have from version 2 on.
+/// Whether a `^` is in an expression, which texts have from version 2 on.
 #[tactic(auto, using(crate::proofs::SignLaws::difference_among))]
 pub fn has_difference(expr: &Expr) -> bool
     ensures { result ≡ has_difference expr.now }

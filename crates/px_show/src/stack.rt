@@ -125,7 +125,7 @@ impl Stack {
         Ok(())
     }
 
-    /// Why the tokens are no expression over so many solids, or else the limit that it passes.
+    /// Why the tokens are no expression over so many solids, otherwise the limit that it passes.
     pub(crate) fn fault(&self, solids: usize) -> Option<LineFault<LimitKind>>
         ensures { (names : Words) (read : List AnyPart) → length names ≡ solids →
             IsStackOf names self.now read →

@@ -54,7 +54,7 @@ fn add_tokens<'t>(
     Ok(())
 }
 
-/// The first token of what is left of a word, and what stands after it.
+/// The first token of the rest of a word, and what stands after it.
 fn first_token(version: Version, rest: &[u8]) -> Option<(Token, &[u8])>
     ensures some { IfSome result (λ r.
         tokens_in version rest.now ≡ token_of r.0 ∷ tokens_in version r.1.now) }
@@ -81,7 +81,7 @@ fn name_length(rest: &[u8]) -> usize
     rest.iter().take_while(|b| is_name_byte(**b)).count()
 }
 
-/// The token of a byte that stands in no name.
+/// The token of a byte that is in no name.
 fn mark(version: Version, b: u8) -> Token<'static>
     ensures { token_of result ≡ mark version b }
 {

@@ -1,4 +1,4 @@
--- What an act leaves of a pixel whose bits stand in words.
+-- What an act leaves of a pixel whose bits are in words.
 use Rattle.px_num.proofs.Basics.{◌≡◌, ◌≢◌, ℕ, ◌+◌, ◌*◌, ◌^◌, ◌<◌, Bool, true, false, if◌then◌else◌, List}
 use Rattle.px_num.proofs.Basics.{length, get_or, slice_set, refl, sym, ap, subst, ◌∙◌, arith, inl, inr}
 use Rattle.px_num.proofs.Basics.{cases_lt, length-replicate, pow-add}
@@ -6,7 +6,6 @@ use Rattle.px_num.proofs.ListLaws.{get_or-tabulate}
 use Rattle.px_num.proofs.TruthLaws.{lt_false, lt_true}
 use Rattle.px_num.specs.Bits.{bit_at, nat_bit}
 use Rattle.std.proofs.lemmas.List.{get_or-set_other}
-use Rattle.px_array.proofs.ClockLaws.{length-after_act}
 use Rattle.px_array.specs.Arrays.{HasGrid, State, no_pixel, pixel_at, pixel_of}
 use Rattle.px_array.specs.Clocks.{acted}
 use Rattle.px_array.specs.Acts.{after_act}
@@ -36,12 +35,6 @@ other_bits inside (act.StoreConst at v) t p b other = stored_other p.enable _ p.
 other_bits inside (act.Toggle at) t p b other = stored_other p.enable _ p.memory at b other
 other_bits inside (act.AddTree at) t p b other = stored_other p.enable _ p.memory at b other
 other_bits inside a t p b other = refl
-
-pub length-acted : (inside : Bool) (a : Act) (t : Bool) (p : PixelState) → length (acted_at inside a t p).memory
-    ≡ length p.memory
-length-acted inside act.EnableAll t p = refl
-length-acted inside (act.SetCarry v) t p = refl
-length-acted inside a t p = length-after_act a t p
 
 -- a pixel stays where its words do
 pub same_pixel : (bits plane k i : ℕ) (old new : List ℕ) (p : PixelState)

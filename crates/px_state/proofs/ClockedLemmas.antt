@@ -1,4 +1,4 @@
--- A state by the parts that stand in its words, and its clocks one after another.
+-- A state by the parts that are in its words, and its clocks one after another.
 use Rattle.px_num.proofs.Basics.{◌≡◌, ℕ, ◌+◌, ◌-◌, ◌*◌, ◌<◌, ◌≤◌, nat_lt, Bool, true, false, cond, not, List, [], ◌∷◌}
 use Rattle.px_num.proofs.Basics.{length, drop, take, map, get_or, None, Some, refl, sym, ap, ◌∙◌, arith, map-append}
 use Rattle.px_num.proofs.Basics.{take_more}

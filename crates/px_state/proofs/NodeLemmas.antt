@@ -1,4 +1,4 @@
--- The nodes of a tree whose latches stand in words.
+-- The nodes of a tree whose latches are in words.
 use Rattle.px_num.proofs.Basics.{◌≡◌, ℕ, ◌+◌, ◌*◌, ◌/◌, ◌%◌, ◌^◌, ◌<◌, ◌≤◌, ◌==◌, ◌&&◌, eqb, nat_lt, nat_le, Bool}
 use Rattle.px_num.proofs.Basics.{true, false, cond, List, get_or, refl, sym, ap, ◌∙◌, arith, inl, inr, cases_eq}
 use Rattle.px_num.proofs.Basics.{cases_lt, get_or-replicate, pow-add}

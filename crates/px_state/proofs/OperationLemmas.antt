@@ -107,7 +107,7 @@ module _ (scene : SceneView) (pass : ℕ) (step : Step) (here : slice_get (steps
       ∙ (length-append (flat_map each front) (flat_map each (step ∷ []))
       ∙ ap (λ n. length (flat_map each front) + n) single))
 
-  -- an operation of the step is told as one of it
+  -- an operation of the step is reported as one of it
   pub is_passed : (i k clock : ℕ) (op : Macro) (purpose : Operation) → i < length own
       → k ≡ operations_before scene pass + i
       → op ≡ get_or own i m.All → clock ≡ start_in_listing (passes_listing scene) k → purpose.pass ≡ pass

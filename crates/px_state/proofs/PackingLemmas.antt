@@ -1,4 +1,4 @@
--- The fields of a packed micro tell it.
+-- The fields of a packed micro identify it.
 use Rattle.px_num.proofs.Basics.{◌≡◌, ℕ, ◌+◌, ◌*◌, ◌/◌, ◌%◌, ◌^◌, ◌<◌, ◌≤◌, ◌==◌, Bool, true, false, refl, arith}
 use Rattle.px_num.proofs.Basics.{nat_tests}
 use Rattle.px_num.proofs.TruthLaws.{and_left, and_right, itself_true, lt_holds, lt_true}
@@ -28,7 +28,7 @@ tree_back (tree.Feed true false true) = refl
 tree_back (tree.Feed true true false) = refl
 tree_back (tree.Feed true true true) = refl
 
--- the number of a bit tells the bit
+-- the number of a bit identifies the bit
 pub bit_back : (v : Bool) → (packed_bit v == 1) ≡ v
 bit_back true = refl
 bit_back false = refl

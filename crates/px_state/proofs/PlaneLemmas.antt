@@ -10,7 +10,7 @@ use Rattle.px_rows.specs.Rows.{row_bit}
 use Rattle.px_state.proofs.ShapeLemmas.{apart}
 use Rattle.px_state.specs.Words.{row_words}
 
--- the bits of a column from a row on that is a multiple of 64 stand in one word
+-- the bits of a column from a row on that is a multiple of 64 are in one word
 pub in_one_word : (ny x w j : ℕ) → 64 * w + j < 2 ^ ny → j < 64 → (x * 2 ^ ny + 64 * w) % 64 + j < 64
 in_one_word zero x w j within low = omega arith
 in_one_word (suc zero) x w j within low = omega arith

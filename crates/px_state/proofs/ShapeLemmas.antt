@@ -20,7 +20,7 @@ full_law nx c i low within = elim (cases_lt 64 (2 ^ nx)) [
 pub few_words : (nx ny : ℕ) → ny ≤ 9 → row_words nx ≤ 8 → plane_words nx ny ≤ 2 ^ 12
 few_words nx ny small few = omega (arith, few, mul-le-mul_right (row_words nx) (power_grows ny 9 small))
 
--- what stands in one of n rows, each of so many words, stands before the next row, and apart from what stands elsewhere
+-- what is in one of n rows, each of so many words, is before the next row, and apart from what is elsewhere
 pub plane_end : (b n plane : ℕ) → b < n → b * plane + plane ≤ n * plane
 plane_end b n plane below =
     let more : (b + 1) * plane ≤ n * plane = mul-le-mul_right plane (omega arith) in omega (arith, more)

@@ -1,4 +1,4 @@
--- The parts of a state whose bits stand in words. Only proofs and private functions stand on it.
+-- The parts of a state whose bits are in words. Only proofs and private functions stand on it.
 use Rattle.std.specs.Prelude.{◌≡◌, ℕ, ◌+◌, ◌*◌, ◌^◌, ◌<◌, ◌≤◌, ◌&&◌, Bool, List, get_or, length, nat_lt, slice_index_or}
 use Rattle.std.specs.Prelude.{if◌then◌else◌}
 use Rattle.px_num.specs.Bits.{bit_at, nat_bit}

@@ -121,7 +121,7 @@ IsOfListing l k operation = IsOperation l k no_operation operation
 abbrev pub operations_before : SceneView → (pass : ℕ) → ℕ
 operations_before scene pass = length (flat_map (operations scene (layout_of scene)) (take pass (steps scene)))
 
--- operation k of a scene's passes is one of the step that its pass is, and tells it
+-- operation k of a scene's passes is one of the step that its pass is, and reports it
 pub record IsPassed (scene : SceneView) (k : ℕ) (operation : Operation) : Type 0 where
   pub step : Step
   pub is : slice_get (steps scene) operation.pass ≡ Some step

@@ -27,7 +27,7 @@ act_number (act.CarryTree at) = 12
 act_number (act.CarryLatch at) = 13
 act_number (act.AddTree at) = 14
 
--- the value that an act names, and else 0
+-- the value that an act names, and otherwise 0
 abbrev pub packed_value : Act → Bool
 packed_value (act.EnableCarry v) = v
 packed_value (act.EnableTree v) = v
@@ -36,7 +36,7 @@ packed_value (act.SetCarry v) = v
 packed_value (act.StoreConst at v) = v
 packed_value a = false
 
--- the place of memory that an act names, and else 0
+-- the place of memory that an act names, and otherwise 0
 abbrev pub memory_place : Act → ℕ
 memory_place (act.EnableBit at v) = at
 memory_place (act.Fetch at) = at
@@ -99,7 +99,7 @@ tree_with number lines =
     if number == 1 then tree.Clear else
     if number == 2 then tree.Feed (lines % 2 == 1) (lines / 2 % 2 == 1) (lines / 4 % 2 == 1) else tree.Hold
 
--- the micro whose fields stand in a word, if it is that of a micro
+-- the micro whose fields are in a word, if it is that of a micro
 unfoldable pub micro_in : (word : ℕ) → Micro
 micro_in word = record {
   tree = tree_with (word / 2 ^ 48 % 256) (word / 2 ^ 56);

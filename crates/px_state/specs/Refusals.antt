@@ -27,7 +27,7 @@ use Rattle.px_state.specs.Words.{room_of}
 use Rattle.px_state.specs.declared.fault.StateFault.{StateFault}
 use Rattle.px_state.specs.declared.fault.StateFault.TheVariants as f
 
--- the faults of the parts; the want of memory is one for all
+-- the faults of the parts; that memory ran out is one for all
 abbrev pub fault_of_scene : SceneFault → StateFault
 fault_of_scene (text_fault.Malformed line cause) = f.Scene (text_fault.Malformed line cause)
 fault_of_scene (text_fault.Limit line kind found) = f.Scene (text_fault.Limit line kind found)
@@ -84,7 +84,7 @@ course_of text = if is_listing text then listing_of (worded text) else passes_li
 abbrev pub clock_refusal : ListingView → (clock : ℕ) → Option StateFault
 clock_refusal l clock = refused_where (nat_lt (total_of_listing l) clock) (f.NoClock (total_of_listing l))
 
--- and then there must be as many words as are due
+-- and then there must be as many words as are needed
 abbrev pub refused_by : (clock clocks words due : ℕ) → Option StateFault
 refused_by clock clocks words due =
     option_or (refused_where (nat_lt clocks clock) (f.NoClock clocks)) (refused_where (nat_lt words due) (f.NoRoom due))
@@ -110,6 +110,6 @@ abbrev pub operations_refusal : (bits : ℕ) → List ℕ → (first count : ℕ
 operations_refusal bits text first count =
     option_or (input_refusal bits text) (operation_refusal (course_of text) (first + count))
 
--- a fault is the want of memory, or else exactly the refusal
+-- a fault is that memory ran out, or exactly the refusal
 abbrev pub IsRefusedBy : StateFault → Option StateFault → Type 0
 IsRefusedBy fault refusal = (fault ≡ f.Memory want) ⊎ (refusal ≡ Some fault)

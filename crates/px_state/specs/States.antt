@@ -29,7 +29,7 @@ pub record IsRunTo (bits : ℕ) (l : ListingView) (clock : ℕ) (now : ArrayView
   pub device : now.device ≡ device_after bits l clock
   pub once : IsRunOnce now
 
--- what an error leaves of the array, of its slots and its work too: a refusal of the text as it was; want of memory
+-- what an error leaves of the array, of its slots and its work too: a refusal of the text as it was; out of memory
 -- as it was, or none open; and where only clock or room are refused, it was opened. No operations are asked for.
 abbrev pub FaultLeaves : StateFault → (bits : ℕ) → ListingView → (before now : ArrayView) → Type 0
 FaultLeaves (f.Scene fault) bits l before now = now ≡ before

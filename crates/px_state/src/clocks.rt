@@ -14,7 +14,7 @@ use crate::packing::{is_micro, micro_in};
 use crate::shape::Shape;
 use px_array::Micro;
 
-/// Makes a clock of each micro on the state of `2^nx` by `2^ny` pixels of so many memory bits that stands
+/// Makes a clock of each micro on the state of `2^nx` by `2^ny` pixels of so many memory bits that is
 /// in the words.
 ///
 /// Each micro is packed into a word. The first that is none, or that names a place past the memory, is

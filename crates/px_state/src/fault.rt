@@ -34,7 +34,7 @@ pub enum StateFault {
     /// The list of words is too short.
     #[error("{room} words are due")]
     NoRoom {
-        /// How many words are due.
+        /// How many words are needed.
         room: u64,
     },
     /// Memory was wanted and not given.

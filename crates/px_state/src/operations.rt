@@ -89,7 +89,7 @@ fn put_passes(scene: &Scene, plan: &Plan, layout: &Layout, first: u64, list: &mu
 /// Writes those operations of a step which lie in a list of them from one on.
 ///
 /// The first of the step stands at a place among all operations and begins at a clock, and what is
-/// answered is where those behind the step begin.
+/// answered is where those after the step begin.
 fn put_step(
     scene: &Scene,
     layout: &Layout,

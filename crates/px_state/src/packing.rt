@@ -118,7 +118,7 @@ fn bit_number(v: bool) -> u64
     u64::from(v)
 }
 
-/// The micro whose fields stand in a word, if it is that of a micro.
+/// The micro whose fields are in a word, if it is that of a micro.
 #[tactic(auto, unfolding(crate::specs::Packing::micro_in))]
 pub(crate) fn micro_in(word: u64) -> Micro
     ensures { result ≡ micro_in word }

@@ -7,7 +7,7 @@ ghost use Rattle.px_state.specs.States.{IsRunTo, FaultLeaves};
 
 use crate::fault::StateFault;
 
-/// Whether a clock is not past the last, and so many words are as many as are due.
+/// Whether a clock is not past the last, and so many words are as many as are needed.
 pub(crate) fn judge(clock: u64, clocks: u64, words: usize, due: usize) -> Result<(), StateFault>
     ensures ok { OnOk result (refused_by clock clocks words due ≡ None) }
     ensures clock { OnOk result (clock ≤ clocks) }
@@ -25,7 +25,7 @@ pub(crate) fn judge(clock: u64, clocks: u64, words: usize, due: usize) -> Result
     Ok(())
 }
 
-/// Whether so many from one on end where all do, or before; else the fault is answered.
+/// Whether so many from one on end where all do, or before; otherwise the fault is answered.
 pub(crate) fn judge_stretch(
     first: u64,
     count: usize,

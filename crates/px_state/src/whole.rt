@@ -24,7 +24,7 @@ use std::alloc::Global;
 ///
 /// A text whose first word is `pxlist` is a listing, and every other one a scene. `NoClock` comes
 /// where the clock lies past the last, and `NoRoom` where the list has fewer words than `room_of`
-/// says. After an error the list is as it was; after `Ok` so is what lies behind the words of the
+/// says. After an error the list is as it was; after `Ok` so is what comes after the words of the
 /// state. The array is then the one after these clocks, and a refusal of the text leaves it as it was.
 pub fn write_state<const N: usize>(
     alloc: Global,

@@ -1,4 +1,4 @@
--- Words as they are written, with spaces between them and a line feed behind each line.
+-- Words as they are written, with spaces between them and a line feed after each line.
 -- Clauses of public calls stand on it.
 use Rattle.std.specs.Prelude.{ℕ, ◌==◌, List, [], ◌∷◌, ◌++◌, Bool, not, ◌||◌, ◌&&◌}
 use Rattle.std.specs.List.{flat_map, list_all}

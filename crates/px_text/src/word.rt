@@ -88,7 +88,7 @@ fn is_letter(b: u8) -> bool
     (b'a' <= b && b <= b'z') || (b'A' <= b && b <= b'Z') || b == b'_'
 }
 
-/// Whether a byte may stand in a name: a letter, a digit or `_`.
+/// Whether a byte may be in a name: a letter, a digit or `_`.
 pub fn is_name_byte(b: u8) -> bool
     ensures { result ≡ is_name_byte b }
 {

@@ -143,7 +143,7 @@ tile_fits scene width height bits tile none low =
 pub rows_inside : (width height last : ℕ) → last ≤ height → last * width ≤ width * height
 rows_inside width height last within = grind (arith, mul-le-mul_right)
 
--- numbers that stand in place of all of others
+-- numbers in place of all of others
 pub put_back : (count : ℕ) (new old : List ℕ) → length new ≡ length old → count ≡ length old
     → take count (new ++ drop (length new) old) ≡ new
 put_back count new old same all = grind (arith, drop_all, append-nil, take_all)

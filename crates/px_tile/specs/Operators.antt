@@ -1,4 +1,4 @@
--- Which operators stand in an expression. Only proofs and private functions stand on it.
+-- Which operators are in an expression. Only proofs and private functions stand on it.
 use Rattle.std.specs.Prelude.{Bool, true, false}
 use Rattle.px_expr.specs.declared.node.Node.{Node}
 use Rattle.px_expr.specs.declared.node.Node.TheVariants as n

@@ -24,7 +24,7 @@ abbrev pub IsSomeDrawn : (bits : ℕ) → SceneView → (width height : ℕ) →
 IsSomeDrawn bits scene width height now =
     (tile : ℕ) × (tile < tile_count scene width height) × IsTileDrawn bits scene width height tile now
 
--- what a refusal leaves of the array: only for want of memory may it be another one, and then none is open or a
+-- what a refusal leaves of the array: only if memory runs out may it be another one, and then none is open or a
 -- tile is drawn
 abbrev pub LeavesOnWideRefusal : WideFault → (bits : ℕ) → SceneView → (width height : ℕ) → (before now : ArrayView)
     → Type 0

@@ -34,7 +34,7 @@ column_of scene width tile = tile % tiles_across scene.width width * scene.width
 abbrev pub row_of : SceneView → (width tile : ℕ) → ℕ
 row_of scene width tile = tile / tiles_across scene.width width * scene.height
 
--- a tile's scene; the last ones of a row and of a column are cut to what is left
+-- a tile's scene; the last ones of a row and of a column are cut to the rest
 abbrev pub scene_of_tile : SceneView → (width height tile : ℕ) → SceneView
 scene_of_tile scene width height tile =
     tile_scene scene (column_of scene width tile) (row_of scene width tile)

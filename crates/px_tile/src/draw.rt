@@ -37,7 +37,7 @@ pub const MAX_TILES: u32 = 1024;
 /// on an array with pixels of so many memory bits, each tile of the size of the scene's picture, or
 /// why not (docs/PICTURE.md, "Tiles").
 ///
-/// Only the products of the tiles take memory: every other refusal comes where it is due.
+/// Only the products of the tiles take memory: every other refusal comes when it must.
 pub fn check_tiles(
     alloc: Global,
     scene: &Scene,
@@ -153,7 +153,7 @@ fn scene_of_tile(
 /// Draws a picture of `width` by `height` pixels, each from 1 to `MAX_WIDE_PICTURE_SIZE`, tile by tile on one array,
 /// each tile of the size of the scene's picture (docs/PICTURE.md, "Tiles").
 ///
-/// Ok has a number for each pixel, row by row: `depth * 2^32 + face`. Every refusal but the want of
+/// Ok has a number for each pixel, row by row: `depth * 2^32 + face`. Every refusal but out of
 /// memory is found before the array is opened. The numbers take at most 128 MB.
 pub fn render_tiles<A: Operating>(
     alloc: Global,
@@ -202,6 +202,7 @@ fn draw_tiles<A: Operating>(
 }
 
 /// Draws a tile that is not refused, and puts its picture into the numbers.
+#[tactic(auto, using(crate::proofs::DrawLemmas::rows_inside))]
 fn draw_tile<A: Operating>(
     alloc: Global,
     scene: &Scene,

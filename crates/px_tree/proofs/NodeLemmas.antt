@@ -19,7 +19,7 @@ use Rattle.px_tree.proofs.PlaceLaws.{place_below}
 in_nodes : (nx ny k index : ℕ) → suc k ≤ nx + ny → index < 2 ^ suc k → 2 ^ suc k + index < 2 ^ (nx + ny + 1)
 in_nodes nx ny k index in_tree in_level = place_below (nx + ny) (suc k) index in_tree in_level
 
--- only the nodes of level 1 stand below place 4
+-- only the nodes of level 1 are below place 4
 root_test : (k index : ℕ) → index < 2 ^ suc k → nat_lt (2 ^ suc k + index) 4 ≡ (k == 0)
 root_test zero index below = lt_true _ _ (omega arith)
 root_test (suc k) index below =

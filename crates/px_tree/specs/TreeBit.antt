@@ -13,7 +13,7 @@ use Rattle.px_tree.specs.Sums.{HoldsSums, partial_sum}
 abbrev pub tree_bit : Linear → (x y t : ℕ) → Bool
 tree_bit form x y t = nat_bit (modulo (value_at form x y) 40) t
 
--- A feed takes every node by the node table. The parent is node `index / 2` of the level above, where line c stands
+-- A feed takes every node by the node table. The parent is node `index / 2` of the level above, where line c is
 -- above level 1; line a comes to levels 1 to nx, and line b to those below.
 abbrev pub IsFedByTable : Type 0
 IsFedByTable = (tree : TreeState) (a b c : Bool) (k index : ℕ) → suc k ≤ tree.nx + tree.ny → index < 2 ^ suc k →

@@ -3,7 +3,7 @@ use Rattle.px_text.specs.Text.{words_of}
 use Rattle.px_c.specs.FaceAnswers.{face_line, face_lines}
 use Rattle.px_c.proofs.face.face_line.Given as goal
 
--- what is left is to be found among the lines that are left
+-- the rest is to be found among the lines that remain
 abbrev pub invariant-loop-i : goal.invariant-loop-i
 invariant-loop-i l =
     get_or (face_lines (map (λ l. words_of l.now) (drop l.i l.lines)) (l.i + 1)) (l.left - 1) 0

@@ -14,7 +14,7 @@ finish-requires c = grind (arith, take_all, build_tree)
 pub returns-clause-tree : goal.returns-clause-tree
 returns-clause-tree c tree is = grind (arith, take_all, build_tree)
 
--- what a `?` hands on
+-- what a `?` passes on
 handed_on : {T E : Type 0} (result : Result T E) (fault wanted : E) → IsErrAnd result (λ e. e ≡ fault) → fault ≡ wanted
     → IfErr result (λ e. e ≡ wanted)
 handed_on x fault wanted was is = grind arith
