@@ -286,7 +286,7 @@ def wrong_commands():
              (WRAPPER, re.search(r"for command in (.*); do", content(WRAPPER)).group(1).split()))
     for what, has in found:
         yield from difference(what, has, due)
-    words = re.findall(r"(?m)^  (--[\w-]+)", content(WRAPPER)) + ["--sum", "--built-of"]
+    words = re.findall(r"(?m)^  (--[\w-]+)", content(WRAPPER))
     yield from difference(MAN + ", options", ["-" + each for each in re.findall(r"Fl (-[\w-]+)", content(MAN))], words)
 
 

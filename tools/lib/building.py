@@ -33,6 +33,8 @@ STORE = os.path.join(ends.TOP, "built")
 KEPT = os.path.join(STORE, MODULE)
 # How a folder begins in which what is built for one processor is kept for another.
 KEEPS = "px-build-"
+# What says of which sources the libraries in crates/*/out are. The next `rt ci` removes it, since it may put back older ones.
+PROVED_OF = os.path.join(ends.TOP, "crates", PROGRAM, "out", "proved-of")
 # The module is compiled for some seconds.
 LOOKED_AFTER = 0.2
 RUNNING = set()
@@ -113,6 +115,25 @@ def kept_of(leaf):
         return None, None
     of, line, summed = ends.content(path + ".of").decode("utf-8").splitlines()
     return (of, line) if summed == hashlib.sha256(ends.content(path)).hexdigest() else (None, None)
+
+
+def touched(top):
+    """The crates of a folder whose statements `rt check` has touched."""
+    return [name for name in lines_of(top) if os.path.exists(os.path.join(top, "crates", name, "out", "rlib", "stamp"))]
+
+
+def note_proved(sum_of):
+    """Notes that `rt ci` made the libraries in crates/*/out of crates with this checksum, where none was before it."""
+    if sum_of != gate.sum_crates():
+        raise Trouble("the crates have another checksum than those that were proved")
+    with open(PROVED_OF, "w", encoding="ascii") as file:
+        file.write(sum_of)
+
+
+def need_proved():
+    """Refuses libraries in crates/*/out of which nobody knows that they are of these sources."""
+    if not os.path.isfile(PROVED_OF) or ends.content(PROVED_OF).decode("ascii") != gate.sum_crates() or touched(ends.TOP):
+        raise Trouble("the libraries in crates/*/out may be of other sources; .ci/run proves them")
 
 
 def is_kept():
@@ -313,6 +334,8 @@ class Proved:
         if found == of != None and all(kept_of(each)[0] == of for each in beside):
             shutil.copy(os.path.join(STORE, leaf), made)
             return made, line, True
+        if of is not None:
+            need_proved()
         with tempfile.TemporaryDirectory(prefix=KEEPS) as place:
             whole, line = make(place)
             if of is not None and of == of_crates():

@@ -20,7 +20,6 @@ from dataclasses import dataclass
 import building
 from building import LIBRARY, PROGRAM
 import builds
-import gate
 from pxplanes import ends, program
 from pxplanes.errors import Trouble
 
@@ -366,13 +365,11 @@ def made_unproved() -> None:
             take(UNPROVED, place, sum_of)
 
 
-def is_built_of(sum_of: str) -> bool:
-    """Says that what `rt ci` left here was made of crates with this checksum, if they still have it, and keeps their
-    statements."""
-    if not os.access(program.DEFAULT, os.X_OK) or gate.sum_crates() != sum_of:
-        return False
-    if not THE_PROGRAM.stamp(summed(PROGRAM)):
-        return False
+def take_built() -> None:
+    """Takes what `rt ci` left here and tools/dev/build built as the program of these sources, and keeps their statements."""
+    building.need_proved()
+    if not os.access(program.DEFAULT, os.X_OK) or not THE_PROGRAM.stamp(summed(PROGRAM)):
+        raise Trouble("there is no program at %s, or the crates have just changed" % program.DEFAULT)
     names = sorted(building.lines_of(ends.TOP))
     with room() as place:
         lay_out(os.path.join(place, "proved"), names)
@@ -381,7 +378,6 @@ def is_built_of(sum_of: str) -> bool:
             if os.path.isdir(here):
                 shutil.copytree(here, os.path.join(place, "proved", made_of), copy_function=linked)
         keep_state(os.path.join(place, "proved"))
-    return True
 
 
 def linked(path: str, to: str) -> None:
