@@ -409,6 +409,7 @@ async function start() {
     given = await offered();
   } catch (error) {
     at("needs").append(` ${error.message}.`);
+    at("needs").style.animation = "none";
     return;
   }
   at("needs").hidden = true;

@@ -347,3 +347,16 @@ def test_the_time_line_shows_fewer_clocks_about_the_one_that_is_shown(page: Brow
         page.press("C")
     page.point(left, top, click=True)
     page.until("document.body.dataset.shown < 5")
+
+
+def test_a_newer_browser_is_asked_for_only_after_some_seconds(page: Browser) -> None:
+    heights = page.run("""(() => {
+      const needs = document.getElementById('needs');
+      needs.hidden = false;
+      const [late] = needs.getAnimations();
+      late.pause();
+      const found = [0, 4900, 5100].map(time => { late.currentTime = time; return needs.getBoundingClientRect().height; });
+      needs.hidden = true;
+      return found;
+    })()""")
+    assert heights[:2] == [0, 0] and heights[2] > 20
