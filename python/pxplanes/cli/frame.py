@@ -32,6 +32,8 @@ BINARY_WORDS = ("render", "colour", "shadow", "tile", "refine")
 NO_ROOM = (errno.ENOSPC, errno.EDQUOT, errno.EFBIG)
 # The words whose work is on pixels, which NumPy does.
 OF_PIXELS = ("compare", "suite")
+# Maps of more bytes than these are shown by NumPy if there is one, in a tenth of the time.
+LARGE_MAPS = 1 << 23
 DEBIAN_PYTHON = "/usr/bin/python3"
 SUCCESS, DIFFERS, TROUBLE, INTERRUPTED = 0, 1, 2, 130
 DESCRIPTION = """Draws scenes of convex solids on Pixel-Planes 4, the graphics machine whose frame buffer computes.
@@ -152,14 +154,20 @@ def run_program(words: list[str]) -> int:
         return refusal.status
 
 
-def need_numpy(words: Sequence[str], command: Sequence[str] = ("-m", "pxplanes")) -> None:
-    """Goes on in Debian's Python if that one has NumPy, and this one does not."""
+def has_numpy(words: Sequence[str], command: Sequence[str] = ("-m", "pxplanes")) -> bool:
+    """Whether this Python has NumPy. If only Debian's Python has it, the command goes on in that one."""
     if importlib.util.find_spec("numpy") is not None:
-        return
+        return True
     if os.path.realpath(sys.executable) != os.path.realpath(DEBIAN_PYTHON) and shutil.which(DEBIAN_PYTHON) and subprocess.run(
             [DEBIAN_PYTHON, "-c", "import numpy"], capture_output=True).returncode == 0:
         os.execv(DEBIAN_PYTHON, [DEBIAN_PYTHON, *command, *words])
-    raise Trouble("%s needs NumPy: install Debian's python3-numpy, or `pip install numpy`" % words[0])
+    return False
+
+
+def need_numpy(words: Sequence[str], command: Sequence[str] = ("-m", "pxplanes")) -> None:
+    """Goes on in a Python that has NumPy, and raises `Trouble` if there is none."""
+    if not has_numpy(words, command):
+        raise Trouble("%s needs NumPy: install Debian's python3-numpy, or `pip install numpy`" % words[0])
 
 
 def complete(parser: argparse.ArgumentParser) -> None:
@@ -199,6 +207,8 @@ def answered(words: list[str]) -> int:
         raise Trouble("%s is no word; `pxplanes --help` lists them" % words[0])
     if words[0] in OF_PIXELS and "-h" not in words and "--help" not in words:
         need_numpy(words)
+    if words[0] == "view" and any(os.path.isfile(each) and os.path.getsize(each) > LARGE_MAPS for each in words):
+        has_numpy(words)
     status = word(words[0]).run(parsed(parser_of(words[0]), glued(words[1:])))
     sys.stdout.flush()
     return status
