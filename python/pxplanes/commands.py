@@ -95,7 +95,7 @@ def refine(text: Text, factor: int, clocks: Optional[int] = None, progress: Opti
         if clocks is not None:
             within(check(texts.text_of(texts.finer(scene_of(text), operator.index(factor)))).clocks, clocks)
     image, = netpbm.images(run(text, "refine %d" % factor, progress))
-    return shaped(memoryview(image.samples), "B", (image.height, image.width, 3))
+    return shaped(memoryview(bytearray(image.samples)), "B", (image.height, image.width, 3))
 
 
 def shadow(text: Text, clocks: Optional[int] = None, progress: Optional[Progress] = None) -> Any:

@@ -8,7 +8,7 @@ import struct
 import sys
 import zlib
 from dataclasses import dataclass
-from typing import Iterable, Sequence
+from typing import Iterable, Sequence, Union
 
 from pxplanes.errors import Trouble
 
@@ -21,6 +21,7 @@ MORE = re.compile(rb"%s*[^\s#]" % GAP)
 WORD = re.compile(rb"%s|[^\s#]+" % COMMENT)
 LARGEST_SIDE = 65536
 PNG_HEAD = b"\x89PNG\r\n\x1a\n"
+Samples = Union["array.array[int]", memoryview]
 
 
 @dataclass(frozen=True)
@@ -31,7 +32,7 @@ class Image:
     height: int
     channels: int
     largest: int
-    samples: array.array[int]
+    samples: Samples
 
     def numbers(self) -> list[int]:
         """One number a pixel: a grey sample, or three bytes, highest byte first."""
@@ -79,15 +80,16 @@ def plain_samples(data: bytes, at: int, count: int, largest: int) -> tuple[array
     return samples, at
 
 
-def raw_samples(data: bytes, at: int, count: int, largest: int) -> tuple[array.array[int], int]:
-    """So many samples of one byte or two from a byte on, and the byte after them."""
-    samples = room_for(largest)
-    size = count * samples.itemsize
+def raw_samples(data: bytes, at: int, count: int, largest: int) -> tuple[Samples, int]:
+    """So many samples of one byte or two from a byte on, and the byte after them. Bytes are not copied."""
+    size = count * room_for(largest).itemsize
     if at + size > len(data):
         raise Trouble("the image ends early: %d bytes of %d" % (max(len(data) - at, 0), size))
-    samples.frombytes(data[at:at + size])
-    if sys.byteorder == "little":
-        samples.byteswap()
+    samples: Samples = memoryview(data)[at:at + size]
+    if largest > 255:
+        samples = array.array("H", samples.tobytes())
+        if sys.byteorder == "little":
+            samples.byteswap()
     if largest not in (255, 65535) and max(samples) > largest:
         raise Trouble("a sample is greater than %d" % largest)
     return samples, at + size
