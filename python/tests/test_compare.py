@@ -66,6 +66,28 @@ def test_what_differs_is_counted_by_ways_and_listed(tmp_path):
     assert np.array_equal(maps.read(path("difference.png"))[0].numbers[::170, ::170], shown)
 
 
+def test_large_files_are_compared_in_bands(tmp_path, monkeypatch):
+    """Three pixels differ, in the first, a middle and the last band of rows: worked out by hand."""
+    monkeypatch.setattr(maps, "LARGE_FILE", 0)
+    monkeypatch.setattr(maps, "BAND", 30)
+    files = [np.full((2, 20, 10, 3), (1, 0, 1), np.uint8) for _ in range(2)]
+    for row, column, more in ((0, 3, 2), (11, 9, 5), (19, 0, 1)):
+        files[1][0, row, column, 2] += more
+    files[1][1, 11, 9] = 0
+    for leaf, both in zip("ab", files):
+        (tmp_path / leaf).write_bytes(b"".join(b"P6\n10 20\n255\n" + each.tobytes() for each in both))
+    assert isinstance(maps.large(str(tmp_path / "a"))[1].numbers, maps.Rows)
+    assert call("compare", tmp_path / "a", tmp_path / "b") == (1, [
+        "3 of 200 pixels differ",
+        "greatest difference of depths: 5, at 9 11",
+        "  2 pixels: ours face 65537, theirs face 65537, theirs farther",
+        "  1 pixel: ours face 65537, theirs background, theirs farther",
+        "  at 3 0: depths 65537 and 65539, faces 65537 and 65537",
+        "  at 9 11: depths 65537 and 65542, faces 65537 and 0 (background)",
+        "  at 0 19: depths 65537 and 65538, faces 65537 and 65537"])
+    assert call("compare", tmp_path / "a", tmp_path / "a") == (0, ["0 of 200 pixels differ"])
+
+
 def test_a_tolerance_in_cells_and_the_first_of_many():
     status, lines = call("compare", "--depth-tolerance", "3", "--first", "1", path("ours.ppm"), path("theirs.ppm"))
     assert (status, lines[0].split(":")[0], lines[1:]) == (1, "2 of 6 pixels differ", [

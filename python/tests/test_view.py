@@ -5,7 +5,7 @@ import numpy as np
 import pytest
 
 from pxplanes.cli import frame, view
-from pxplanes.image import netpbm, shades, show
+from pxplanes.image import maps, netpbm, shades, show
 
 
 @pytest.mark.parametrize("seed", range(5))
@@ -15,11 +15,30 @@ def test_numpy_makes_the_same(seed):
     faces = [draw.choice((0, draw.randrange(4096))) for _ in range(7 * 5)]
     shape = lambda numbers: np.array(numbers, np.uint32).reshape(5, 7)
     pixels = lambda colours: np.array(colours, np.uint8).reshape(5, 7, 3)
-    shown = [face != 0 for face in faces]
-    assert (shades.greys_of_depths(shape(depths), shape(faces) != 0) == pixels(show.greys_of_depths(depths, shown))).all()
-    assert (shades.by_table(shape(faces), show.colours_of_faces) == pixels(show.colours_of_faces(faces))).all()
-    masks = [face & 255 for face in faces]
-    assert (shades.by_table(shape(masks), show.colours_of_lights) == pixels(show.colours_of_lights(masks))).all()
+    both = [maps.Map(shape(numbers), "bytes") for numbers in (depths, faces)]
+    pairs = {"depths": show.greys_of_depths(depths, [face != 0 for face in faces]), "faces": show.colours_of_faces(faces)}
+    for what, colours in pairs.items():
+        assert (shades.of_maps(both, what)(slice(None)) == pixels(colours)).all()
+    singles = {"depths": show.greys_of_depths(depths, [depth != max(depths) for depth in depths]), "lights": show.colours_of_lights(depths)}
+    for what, colours in singles.items():
+        assert (shades.of_maps(both[:1], what)(slice(None)) == pixels(colours)).all()
+
+
+@pytest.mark.parametrize("what", ["depths", "faces", None])
+def test_a_large_file_is_read_in_bands_into_the_same_picture(what, tmp_path, monkeypatch):
+    draw, wide, high = random.Random(7), 13, 29
+    head = b"P6\n%d %d\n255\n" % (wide, high)
+    path = tmp_path / "maps.ppm"
+    path.write_bytes(b"".join(head + draw.randbytes(3 * wide * high) for _ in range(2)))
+    words = ["view", str(path), "-o", str(tmp_path / "whole.png")] + (["--show", what] if what else [])
+    monkeypatch.setattr(shades, "enlarged", lambda pixels: pixels)
+    assert frame.answered(words) == 0
+    monkeypatch.setattr(maps, "LARGE_FILE", 0)
+    monkeypatch.setattr(maps, "BAND", 4 * wide)
+    assert frame.answered([word.replace("whole", "banded") for word in words]) == 0
+    made = sorted(tmp_path.glob("banded*.png"))
+    assert len(made) == (1 if what else 2)
+    assert [each.read_bytes() for each in made] == [each.read_bytes() for each in sorted(tmp_path.glob("whole*.png"))]
 
 
 def test_a_small_map_by_hand():

@@ -19,7 +19,6 @@ from pxplanes.errors import Trouble
 
 if TYPE_CHECKING:
     from pxplanes.compare.comparing import Comparison
-    from pxplanes.compare.report import Maps
     from pxplanes.compare.verdict import Allowed
 
 HELP = "compare two renderers' maps, and find the cause of what differs"
@@ -113,13 +112,16 @@ class Pair:
         if options.scene is not None:
             self.scene, named = picture.of_text(ends.content(options.scene), options.scene)
             self.names, self.words, self.colours = names_of(named)
-        our_maps = maps.read(options.ours)
-        self.their_maps = maps.read(options.theirs, (our_maps[0].width, our_maps[0].height), options.channel)
+        # (without a scene and a picture to write, bands of rows are enough)
+        is_in_bands = options.scene is None and not options.out and options.times == 1
+        our_maps = is_in_bands and maps.large(options.ours) or maps.read(options.ours)
+        self.their_maps = is_in_bands and maps.large(options.theirs) or maps.read(
+            options.theirs, (our_maps[0].width, our_maps[0].height), options.channel)
         self.ours = report.maps_of(our_maps, options.only, 1)
         their_maps = self.their_maps
         if their_maps[0].is_grey_picture and options.only != "faces":
             self.notes.append("theirs has three like bytes at each pixel: it is taken for greys, and not for three bytes a number")
-            their_maps = [maps.Map(their_maps[0].numbers & 255, "grey")]
+            their_maps = [maps.Map(their_maps[0].numbers[:] & 255, "grey")]
         self.theirs = report.maps_of(their_maps, options.only, options.times)
         if self.theirs.depths is not None and self.scene is not None:
             self.theirs = report.Maps(self.depths_of(self.theirs.depths, options), self.theirs.faces)
@@ -170,7 +172,7 @@ def run(options: argparse.Namespace) -> int:
     if pair.scene is None and not found.is_whole:
         lines.append("without --scene a depth with parts is only known to lie in its cell or not")
     if found.differ:
-        lines += greatest(ours, theirs, found)
+        lines += report.greatest(ours, theirs, found)
         far = None if pair.scene is None else pair.scene.far
         if ours.faces is not None or theirs.faces is not None or far is not None:
             lines += report.listed(report.ways(ours, theirs, found, pair.words, far), options.first, "way")
@@ -181,13 +183,3 @@ def run(options: argparse.Namespace) -> int:
         with open(options.out, "wb") as file:
             file.write(maps.png(report.differences(ours, theirs, found)))
     return 1 if found.differ else 0
-
-
-def greatest(ours: Maps, theirs: Maps, found: Comparison) -> list[str]:
-    """The greatest difference of depths where pixels differ, and the first pixel that has it."""
-    if ours.depths is None or theirs.depths is None:
-        return []
-    rows, columns = (found.state == 0).nonzero()
-    gaps = abs(theirs.depths[rows, columns].astype(float) - ours.depths[rows, columns])
-    at = int(gaps.argmax())
-    return ["greatest difference of depths: %.9g, at %d %d" % (gaps[at], columns[at], rows[at])] if gaps[at] else []

@@ -14,7 +14,7 @@ import signal
 import sys
 import tempfile
 import webbrowser
-from typing import Any, NamedTuple, Optional, Sequence
+from typing import TYPE_CHECKING, Any, NamedTuple, Optional, Sequence
 
 from pxplanes import ends, program
 from pxplanes.cli import frame
@@ -24,6 +24,9 @@ from pxplanes.machine import listings, sessions
 from pxplanes.mesh import cameras, modelling
 from pxplanes.page import film, studio, studio_server
 from pxplanes.scene import scenes
+
+if TYPE_CHECKING:
+    from pxplanes.image.maps import Map
 
 HELP = "show a scene, a model or maps: as a PNG picture, in the terminal, in the browser, as a page"
 WHATS = ("colours", "depths", "faces", "lights", "distances")
@@ -38,8 +41,8 @@ REDIRECT = """<!DOCTYPE html>
 
 
 class Picture(NamedTuple):
-    """A picture: its size, its colours by rows from the top (a list, or an array of shape (height, width, 3)), what it shows, and, of
-    distances, the numbers."""
+    """A picture: its size, its colours by rows from the top (a list, an array of shape (height, width, 3), or, of a large one, bands of
+    such an array), what it shows, and, of distances, the numbers."""
 
     width: int
     height: int
@@ -70,6 +73,8 @@ def run(options: argparse.Namespace) -> int:
         raise Trouble("a file is needed; only --serve goes without one")
     if not options.page and modelling.is_model(options.file):
         return shown([of_model(options)], options)
+    if found := large(options):
+        return shown(of_arrays(found, options.show), options)
     data = ends.content(options.file)
     if options.page:
         name = "standard input" if options.file == "-" else os.path.splitext(os.path.basename(options.file))[0]
@@ -92,6 +97,14 @@ def shown(pictures: list[Picture], options: argparse.Namespace) -> int:
     return frame.SUCCESS
 
 
+def large(options: argparse.Namespace) -> list[Map]:
+    """The maps of a file that is too large to be read whole, if it goes into a PNG file."""
+    if not options.out or options.page or options.show == "distances" or not importlib.util.find_spec("numpy"):
+        return []
+    from pxplanes.image import maps
+    return maps.large(options.file)
+
+
 def is_maps(data: bytes) -> bool:
     """Whether a file begins as Netpbm's maps do."""
     return data[:2] in netpbm.CHANNELS
@@ -100,7 +113,8 @@ def is_maps(data: bytes) -> bool:
 def of_maps(data: bytes, what: Optional[str], scene: Optional[str] = None) -> list[Picture]:
     """The pictures of one or two maps: of what is asked, or of all that they have. NumPy makes them, if it is there."""
     if what != "distances" and importlib.util.find_spec("numpy"):
-        return of_arrays(data, what)
+        from pxplanes.image import maps
+        return of_arrays(maps.maps_of(data), what)
     found = netpbm.images(data)
     first = found[0]
     size = first.width, first.height
@@ -123,19 +137,17 @@ def of_maps(data: bytes, what: Optional[str], scene: Optional[str] = None) -> li
     return [Picture(*size, (show.colours_of_faces if what == "faces" else show.colours_of_lights)(numbers), what)]
 
 
-def of_arrays(data: bytes, what: Optional[str]) -> list[Picture]:
-    """The pictures of one or two maps, made by NumPy."""
+def of_arrays(found: Sequence[Map], what: Optional[str]) -> list[Picture]:
+    """The pictures of one or two maps, made by NumPy; of a large file in bands of rows."""
     from pxplanes.image import maps, shades
-    found = [each.numbers for each in maps.maps_of(data)]
-    first, last = found[0], found[-1]
-    size = first.shape[1], first.shape[0]
-    makers = {"colours": lambda: shades.colours_of_numbers(first), "faces": lambda: shades.by_table(last, show.colours_of_faces),
-              "lights": lambda: shades.by_table(first, show.colours_of_lights),
-              "depths": lambda: shades.greys_of_depths(first, last != 0 if len(found) == 2 else first != first.max())}
+    high, wide = found[0].numbers.shape
     whats = [what] if what else ["depths", "faces"] if len(found) == 2 else ["colours"]
     if len(found) == 2 and not {"depths", "faces"}.issuperset(whats):
         raise Trouble("two maps have no %s: they are depths and faces" % what)
-    return [Picture(*size, makers[each](), each) for each in whats]
+    made = [(each, shades.of_maps(found, each)) for each in whats]
+    if isinstance(found[0].numbers, maps.Rows):
+        return [Picture(wide, high, map(make, maps.bands((high, wide))), each) for each, make in made]
+    return [Picture(wide, high, make(slice(None)), each) for each, make in made]
 
 
 def of_scene(data: bytes, options: argparse.Namespace) -> Picture:
@@ -226,6 +238,8 @@ def png(picture: Picture) -> bytes:
     if isinstance(picture.colours, list):
         return netpbm.png(picture.width, picture.height, picture.colours)
     from pxplanes.image import maps, shades
+    if isinstance(picture.colours, map):
+        return netpbm.png_file(picture.width, picture.height, 8, 2, (b"\0" + row.tobytes() for band in picture.colours for row in band))
     return maps.png(shades.enlarged(picture.colours))
 
 

@@ -2,8 +2,10 @@
 picture."""
 from __future__ import annotations
 
+import itertools
+from collections import Counter
 from dataclasses import dataclass
-from typing import Any, Optional, Sequence
+from typing import Any, Iterator, Optional, Sequence
 
 import numpy as np
 from numpy.typing import NDArray
@@ -12,6 +14,7 @@ from pxplanes.compare import causes
 from pxplanes.compare.comparing import Comparison
 from pxplanes.compare.picture import RIGHT, Scene, grid, picture
 from pxplanes.compare.verdict import WRONG, Allowed, Sample, filled
+from pxplanes.image import maps
 from pxplanes.image.maps import Map
 
 Numbers = NDArray[Any]
@@ -33,6 +36,9 @@ class Maps:
         found = self.depths if self.depths is not None else self.faces
         assert found is not None
         return int(found.shape[0]), int(found.shape[1])
+
+    def band(self, rows: slice) -> Maps:
+        return Maps(*(None if each is None else each[rows] for each in (self.depths, self.faces)))
 
 
 def maps_of(found: Sequence[Map], only: Optional[str], times: float) -> Maps:
@@ -113,34 +119,56 @@ def side(whose: str, face: int, words: Sequence[str]) -> str:
     return "%s %s" % (whose, words[face] if face < len(words) else "face %d" % face)
 
 
+def bands(found: Comparison) -> Iterator[tuple[slice, NDArray[np.bool_]]]:
+    """The bands of rows in which pixels are wrong, each with which of them are."""
+    for rows in maps.bands(found.state.shape):
+        wrong = found.state[rows] == WRONG
+        if wrong.any():
+            yield rows, wrong
+
+
 def ways(ours: Maps, theirs: Maps, found: Comparison, words: Sequence[str], far: Optional[int]) -> list[str]:
     """A line for each way to differ, the most frequent first: which faces, or, without faces, which is the background at
     depth `far`; nearer or farther. `words` has the solid and the kind of each face."""
-    at = found.state == WRONG
-    names: dict[str, int] = {}
-    keys, titles = [], []
-    for whose, maps in (("ours", ours), ("theirs", theirs)):
-        shown = maps.faces
-        if shown is None and maps.depths is not None and far is not None:
-            shown = np.where(maps.depths == far, 0, -1)
+    counts: Counter[str] = Counter()
+    for rows, wrong in bands(found):
+        counts.update(ways_in(ours.band(rows), theirs.band(rows), wrong, words, far))
+    return ["  %d pixel%s: %s" % (count, "s"[count == 1:], said)
+            for said, count in sorted(counts.items(), key=lambda each: (-each[1], each[0]))]
+
+
+def ways_in(ours: Maps, theirs: Maps, wrong: NDArray[np.bool_], words: Sequence[str], far: Optional[int]) -> Counter[str]:
+    """How many of the wrong pixels differ in each way."""
+    parts: list[tuple[Sequence[str], Numbers]] = []
+    for whose, own in (("ours", ours), ("theirs", theirs)):
+        shown = own.faces
+        if shown is None and own.depths is not None and far is not None:
+            shown = np.where(own.depths == far, 0, -1)
         if shown is not None:
-            numbers, back = np.unique(shown[at], return_inverse=True)
-            ids = np.array([names.setdefault(side(whose, int(n), words) if n >= 0 else "", len(names)) for n in numbers])
-            keys.append(ids[back])
-            titles.append(whose)
-    signs = ["theirs nearer", "same depth", "theirs farther"]
+            numbers, back = np.unique(shown[wrong], return_inverse=True)
+            parts.append(([side(whose, int(n), words) if n >= 0 else "" for n in numbers], back))
     if ours.depths is not None and theirs.depths is not None:
-        gaps = theirs.depths[at].astype(np.float64) - ours.depths[at].astype(np.float64)
-        keys.append(np.sign(gaps).astype(np.int64) + 1)
-        titles.append("")
-    if not keys:
-        return []
-    rows, counts = np.unique(np.stack(keys), axis=1, return_counts=True)
-    sides = list(names)
-    lines = [(int(count), ", ".join(filter(None, (sides[n] if title else signs[n] for title, n in zip(titles, row)))))
-             for row, count in zip(rows.T.tolist(), counts)]
-    lines.sort(key=lambda row: (-row[0], row[1]))
-    return ["  %d pixel%s: %s" % (count, "s"[count == 1:], said) for count, said in lines]
+        gaps = theirs.depths[wrong].astype(np.float64) - ours.depths[wrong].astype(np.float64)
+        parts.append((("theirs nearer", "same depth", "theirs farther"), np.sign(gaps).astype(np.int64) + 1))
+    counts: Counter[str] = Counter()
+    if parts:
+        found, how_often = np.unique(np.stack([at for _, at in parts]), axis=1, return_counts=True)
+        for row, count in zip(found.T.tolist(), how_often.tolist()):
+            counts[", ".join(filter(None, (said[n] for (said, _), n in zip(parts, row))))] += count
+    return counts
+
+
+def greatest(ours: Maps, theirs: Maps, found: Comparison) -> list[str]:
+    """The greatest difference of depths where pixels differ, and the first pixel that has it."""
+    most, place = 0.0, (0, 0)
+    for rows, wrong in bands(found) if ours.depths is not None and theirs.depths is not None else ():
+        one, other = ours.band(rows).depths, theirs.band(rows).depths
+        assert one is not None and other is not None
+        gaps = np.abs(other[wrong].astype(np.float64) - one[wrong])
+        at = int(gaps.argmax())
+        if gaps[at] > most:
+            most, place = float(gaps[at]), (int(wrong.nonzero()[1][at]), rows.start + int(wrong.nonzero()[0][at]))
+    return ["greatest difference of depths: %.9g, at %d %d" % (most, *place)] if most else []
 
 
 def listed(lines: list[str], most: int, what: str) -> list[str]:
@@ -150,9 +178,8 @@ def listed(lines: list[str], most: int, what: str) -> list[str]:
 
 def first(ours: Maps, theirs: Maps, found: Comparison, names: Sequence[str], most: int) -> list[str]:
     """A line for each of the first pixels that differ. `names` has the name of each face."""
-    rows, columns = (found.state == WRONG).nonzero()
-    places = zip(columns[:most].tolist(), rows[:most].tolist())
-    return ["  at %d %d: %s" % (x, y, pixel(ours, theirs, x, y, names)) for x, y in places]
+    places = ((int(x), rows.start + int(y)) for rows, wrong in bands(found) for y, x in zip(*wrong.nonzero()))
+    return ["  at %d %d: %s" % (x, y, pixel(ours, theirs, x, y, names)) for x, y in itertools.islice(places, most)]
 
 
 def pixel(ours: Maps, theirs: Maps, x: int, y: int, names: Sequence[str]) -> str:

@@ -6,11 +6,12 @@ from __future__ import annotations
 
 import fnmatch
 import io
+import mmap
 import os
 import re
 import tempfile
 from dataclasses import dataclass
-from typing import Any, Optional, Sequence
+from typing import Any, Iterator, Optional, Sequence, cast
 
 import numpy as np
 from numpy.typing import NDArray
@@ -23,6 +24,8 @@ from pxplanes.image.libraries import needed
 
 Numbers = NDArray[Any]
 Size = tuple[int, int]
+# Raw maps in a file of more bytes are read in bands of rows, each of at most so many pixels.
+LARGE_FILE, BAND = 1 << 28, 1 << 22
 PFM = re.compile(rb"P[fF]\s+(\d{1,9})\s+(\d{1,9})\s+[-+.0-9eE]+\s")
 PAM = re.compile(rb"P7\n(.*?)ENDHDR\n", re.S)
 TEXT = re.compile(rb"\s*(#(?!\?)|[-+.]?[0-9]|[-+]?(inf|nan)\b)", re.I)
@@ -32,6 +35,33 @@ DEPTHS = ("z", "*.z", "depth", "depth.*", "*.depth*")
 PLAIN = {"Y", "I", "A", "R", "G", "B"}
 OTHERS = {b"\x1f\x8b": "a gzip file", b"PK\3\4": "a ZIP archive", b"%PDF": "a PDF document", b"\x7fELF": "a program", b"<": "a text in XML or HTML",
           b"{": "a text in JSON"}
+
+
+class Rows:
+    """The numbers of a raw map in a large file, made where they are asked for: a slice of rows, or one pixel."""
+
+    dtype = np.dtype(np.uint32)
+
+    def __init__(self, samples: Numbers, mapped: mmap.mmap):
+        self.samples, self.mapped, self.shape = samples, mapped, samples.shape[:2]
+
+    def __getitem__(self, at: Any) -> Any:
+        if isinstance(at, tuple):
+            return self[at[0]:at[0] + 1][0, at[1]]
+        numbers = of_samples(self.samples[at], 255).numbers
+        # (what was read stays with the system, and is no memory of this process)
+        self.mapped.madvise(mmap.MADV_DONTNEED)
+        return numbers
+
+    def __array__(self, dtype: Any = None) -> Numbers:
+        numbers: Numbers = self[:]
+        return numbers if dtype is None else numbers.astype(dtype)
+
+
+def bands(shape: Sequence[int]) -> Iterator[slice]:
+    """The rows of a map of this shape, from the top, in slices."""
+    step = max(1, BAND // shape[1])
+    return (slice(top, top + step) for top in range(0, shape[0], step))
 
 
 @dataclass(frozen=True)
@@ -59,11 +89,14 @@ class Map:
         numbers."""
         if self.kind != "bytes":
             return False
-        for numbers in (self.numbers[:1], self.numbers):
+        has_greys = False
+        for rows in (slice(0, 1), *bands(self.numbers.shape)):
+            numbers = self.numbers[rows]
             low = numbers & 255
             if not (numbers == low * 0x10101).all():
                 return False
-        return bool(((low > 0) & (low < 255)).any())
+            has_greys |= bool(((low > 0) & (low < 255)).any())
+        return has_greys
 
 
 def read(name: str, size: Optional[Size] = None, channel: Optional[str] = None) -> list[Map]:
@@ -76,6 +109,21 @@ def read(name: str, size: Optional[Size] = None, channel: Optional[str] = None) 
         return maps_of(ends.content(name), name, size, channel)
     except Trouble as trouble:
         raise Trouble("%s: %s" % (name, trouble)) from None
+
+
+def large(name: str) -> list[Map]:
+    """The maps of a large file of raw maps with samples to 255, whose numbers are `Rows`; none of another file."""
+    if not os.path.isfile(name) or os.path.getsize(name) <= LARGE_FILE:
+        return []
+    with open(name, "rb") as file:
+        mapped = mmap.mmap(file.fileno(), 0, access=mmap.ACCESS_READ)
+    if not re.match(rb"P[56]\s", mapped):
+        return []
+    found = netpbm.images(cast(bytes, mapped))
+    if any(each.largest != 255 for each in found):
+        return []
+    samples = [np.asarray(each.samples).reshape(each.height, each.width, each.channels) for each in found]
+    return [Map(cast(Numbers, Rows(each, mapped)), "grey" if each.shape[2] == 1 else "bytes") for each in samples]
 
 
 def maps_of(data: bytes, name: str = "-", size: Optional[Size] = None, channel: Optional[str] = None) -> list[Map]:

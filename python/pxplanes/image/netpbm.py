@@ -142,8 +142,10 @@ def png_file(width: int, height: int, bits: int, kind: int, lines: Iterable[byte
     def chunk(name: bytes, body: bytes) -> bytes:
         return struct.pack(">I", len(body)) + name + body + struct.pack(">I", zlib.crc32(name + body))
 
+    packing = zlib.compressobj(9)
+    packed = b"".join(map(packing.compress, lines)) + packing.flush()
     return (PNG_HEAD + chunk(b"IHDR", struct.pack(">IIBBBBB", width, height, bits, kind, 0, 0, 0))
-            + chunk(b"IDAT", zlib.compress(b"".join(lines), 9)) + chunk(b"IEND", b""))
+            + chunk(b"IDAT", packed) + chunk(b"IEND", b""))
 
 
 def png_content(data: bytes) -> tuple[bytes, bytes]:

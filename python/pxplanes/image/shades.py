@@ -1,12 +1,12 @@
 """The pictures of show.py in NumPy, for maps of any size."""
 from __future__ import annotations
 
-from typing import Any, Callable
+from typing import Any, Callable, Iterable, Sequence
 
 import numpy as np
 import numpy.typing as npt
 
-from pxplanes.image import show
+from pxplanes.image import maps, show
 
 Numbers = npt.NDArray[Any]
 Pixels = npt.NDArray[np.uint8]
@@ -18,10 +18,34 @@ def colours_of_numbers(numbers: Numbers) -> Pixels:
     return pixels
 
 
-def greys_of_depths(depths: Numbers, is_shown: npt.NDArray[np.bool_]) -> Pixels:
-    """Greys of what is seen, light for the nearest and dark for the farthest; dark blue for the background."""
-    seen = depths[is_shown]
-    near, far = (int(seen.min()), int(seen.max())) if seen.size else (0, 0)
+Band = Callable[[slice], Pixels]
+
+
+def of_maps(found: Sequence[maps.Map], what: str) -> Band:
+    """How a band of rows is made of a picture of one or two maps: their depths, faces, colours or lights."""
+    first, last, rows_of = found[0].numbers, found[-1].numbers, list(maps.bands(found[0].numbers.shape))
+    if what == "colours":
+        return lambda rows: colours_of_numbers(first[rows])
+    if what != "depths":
+        return lambda rows: by_table(last[rows], show.colours_of_faces if what == "faces" else show.colours_of_lights)
+    far = extent(first[rows] for rows in rows_of)[1]
+
+    def is_shown(rows: slice) -> npt.NDArray[np.bool_]:
+        shown: npt.NDArray[np.bool_] = last[rows] != (0 if len(found) == 2 else far)
+        return shown
+
+    ends = extent(first[rows][is_shown(rows)] for rows in rows_of)
+    return lambda rows: greys_of_depths(first[rows], is_shown(rows), *ends)
+
+
+def extent(parts: Iterable[Numbers]) -> tuple[int, int]:
+    """The least and the greatest of numbers in parts; 0 and 0 if there are none."""
+    ends = [(int(each.min()), int(each.max())) for each in parts if each.size]
+    return min((least for least, _ in ends), default=0), max((most for _, most in ends), default=0)
+
+
+def greys_of_depths(depths: Numbers, is_shown: npt.NDArray[np.bool_], near: int, far: int) -> Pixels:
+    """Greys of what is seen, light for the nearest depth and dark for the farthest; dark blue for the background."""
     levels = show.LIGHTEST - show.RANGE * np.arange(far - near + 1) // max(far - near, 1)
     table = np.vstack([np.repeat(levels[:, None], 3, axis=1), show.BACKGROUND]).astype(np.uint8)
     pixels: Pixels = table[np.where(is_shown, depths - near, far - near + 1)]
