@@ -126,6 +126,26 @@ def explained(path, *words):
                           env=dict(os.environ, PYTHONPATH=os.path.join(support.TOP, "python"), PYTHONDONTWRITEBYTECODE="1"))
 
 
+# Of a scene of 8 by 8 pixels with ^ the planes of two solids, by hand, and whether some cell is in both: one beside the other; behind it;
+# from the very depth where the other ends; a cell before that; on both sides of a diagonal, where their boxes are one; and one pixel of it
+# more; a solid without cells, of which something else is said.
+MET = {"beside": (("side -1 0 2",), ("side 1 0 -5",), False), "behind": (("back 0 0 4",), ("front 0 0 9",), False),
+       "touching": (("back 0 0 5",), ("front 0 0 5",), False), "a cell": (("back 0 0 6",), ("front 0 0 5",), True),
+       "a diagonal": (("side 1 -1 -1",), ("side -1 1 0",), False), "on it": (("side 1 -1 0",), ("side -1 1 0",), True),
+       "nowhere": (("side 1 0 -99",), ("side 1 0 -5",), True)}
+
+
+@pytest.mark.parametrize("name", MET)
+def test_exclusive_or_that_is_a_union(name):
+    """^ whose sides have no common cell is worth a look, and no other one."""
+    one, other, meet = MET[name]
+    text = "\n".join(["pxscene 2", "picture 8 8", "depth 4", "solid a 1 2 3", *one, "solid b 1 2 3", *other, "show (b ^ a)", "end", ""])
+    said = "worth a look: no cell of the picture is on both sides of ^ in (b ^ a): + has the same cells"
+    lines = explaining.answer_about(explaining.Judge(), text.encode()).lines
+    assert (said not in lines) == meet
+    assert not any("both sides" in line for line in explaining.answer_about(explaining.Judge(), text.replace("^", "+").encode()).lines)
+
+
 def test_bytes_stay():
     """All but the mended line stays byte for byte: line ends, comments, bytes that are no text, a last line without its end."""
     text = b"pxscene 1\r\npicture 8 8 # \xff\xe4\r\ndpeth 4\t# d\r\nsolid a 1 2 3\r\nshow a\r\nend"
