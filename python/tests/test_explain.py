@@ -126,10 +126,10 @@ def explained(path, *words):
                           env=dict(os.environ, PYTHONPATH=os.path.join(support.TOP, "python"), PYTHONDONTWRITEBYTECODE="1"))
 
 
-# Of a scene of 8 by 8 pixels with ^ the planes of two solids, by hand, and whether some cell is in both: one beside the other; behind it;
+# Of a scene of 8 by 8 pixels with ^ the planes of two solids, by hand, and whether some cell is in both: one next to the other; farther than it;
 # from the very depth where the other ends; a cell before that; on both sides of a diagonal, where their boxes are one; and one pixel of it
 # more; a solid without cells, of which something else is said.
-MET = {"beside": (("side -1 0 2",), ("side 1 0 -5",), False), "behind": (("back 0 0 4",), ("front 0 0 9",), False),
+MET = {"next to it": (("side -1 0 2",), ("side 1 0 -5",), False), "farther": (("back 0 0 4",), ("front 0 0 9",), False),
        "touching": (("back 0 0 5",), ("front 0 0 5",), False), "a cell": (("back 0 0 6",), ("front 0 0 5",), True),
        "a diagonal": (("side 1 -1 -1",), ("side -1 1 0",), False), "on it": (("side 1 -1 0",), ("side -1 1 0",), True),
        "nowhere": (("side 1 0 -99",), ("side 1 0 -5",), True)}
