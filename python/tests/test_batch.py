@@ -42,6 +42,27 @@ def test_words_with_numbers(built, batch, tmp_path):
     assert "is none of" in batch("draw", FIRST, "-o", tmp_path).stderr
 
 
+@pytest.mark.parametrize("word, wanted", [("view", ["view"]), ("view --show depths", ["view", "--show", "depths"])])
+def test_view(built, batch, tmp_path, word, wanted):
+    """PNG pictures, which are those of `pxplanes view`; of a refused scene none."""
+    bad = tmp_path / "bad.scene"
+    bad.write_text("pxscene 1\n")
+    done = batch(word, FIRST, bad, "-o", tmp_path / "out", "--jobs", 2)
+    assert done.returncode == 1 and "bad.scene: refused: malformed line 1: missing-end" in done.stdout
+    subprocess.run([sys.executable, "-m", "pxplanes", *wanted, FIRST, "-o", tmp_path / "wanted.png"], check=True, capture_output=True, env=dict(
+        os.environ, PYTHONPATH=os.path.join(support.TOP, "python"), PXPLANES_PROGRAM=built))
+    assert content(tmp_path / "out" / "first.png") == content(tmp_path / "wanted.png")
+    assert sorted(os.listdir(tmp_path / "out")) == ["first.png", "many.tsv"]
+
+
+@pytest.mark.parametrize("word, said", [("refine 3", "2 or 4 is expected, and not 3"), ("tile 640", "required: H"), ("tile 0 5", "1 to 4096"),
+                                        ("view --show distances", "view has --show and one of"), ("colour 3", "numbers alone"), ("colour -o x", "numbers alone"), ("sample 3", "none of")])
+def test_wrong_words(batch, tmp_path, word, said):
+    """Wrong numbers are named before anything is drawn."""
+    done = batch(word, FIRST, "-o", tmp_path / "out")
+    assert done.returncode == 2 and said in done.stderr and not (tmp_path / "out").exists()
+
+
 def test_no_reference(batch, tmp_path):
     """A folder to compare with that is not there is an error at once: nothing is drawn."""
     done = batch("compare", FIRST, "-o", tmp_path / "out", "--against", tmp_path / "none")

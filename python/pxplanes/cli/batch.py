@@ -1,9 +1,10 @@
 """Draws many scenes, or a picture of any size, on all processors, and goes on where it was broken off.
 
-WORD is a word of the program, as render or "tile 640 480", or compare, which renders and compares each picture with the one of the same
-name in the folder --against; SCENES are files, folders (all files NAME.scene in them), or - (a name a line on standard input). DIR gets
-NAME.ppm, or NAME.txt of a word that writes text. WORD poster enlarges one scene to W by H pixels, also over 4096, and writes its depths
-and faces into the file -o, as `pxplanes tile` does. Status: 0 if all were drawn and none differs, otherwise 1; 2 for trouble."""
+WORD is a word of the program, as render or "tile 640 480"; view, or "view --show depths", for PNG pictures; or compare, which renders and
+compares each picture with the one of the same name in the folder --against. SCENES are files, folders (all files NAME.scene in them), or -
+(a name a line on standard input). DIR gets NAME.ppm, NAME.png of view, or NAME.txt of a word that writes text. WORD poster enlarges one
+scene to W by H pixels, also over 4096, and writes its depths and faces into the file -o, as `pxplanes tile` does. Status: 0 if all were
+drawn and none differs, otherwise 1; 2 for trouble."""
 from __future__ import annotations
 
 import argparse
@@ -11,7 +12,7 @@ import os
 
 from pxplanes import ends, program
 from pxplanes.batch import groups, poster, scenes_drawn
-from pxplanes.cli import frame
+from pxplanes.cli import frame, program_words
 from pxplanes.errors import Trouble
 
 HELP = "draw many scenes into a folder, or a picture of any size"
@@ -19,8 +20,7 @@ LARGEST_SIDE = 10 ** 6
 
 
 def add_options(parser: argparse.ArgumentParser) -> None:
-    parser.add_argument("word", metavar="WORD", type=word_of_program, help="what to do with each scene, with its numbers, as 'tile 640 480', or "
-                        "poster")
+    parser.add_argument("word", metavar="WORD", type=word_of_program, help="what to do with each scene, with its numbers, as 'tile 640 480', or poster")
     parser.add_argument("scenes", metavar="SCENES", nargs="+", help="files, folders or -; of a poster SCENE W H")
     parser.add_argument("-o", "--out", metavar="DIR", required=True, help="the folder of the pictures, or the file of a poster")
     parser.add_argument("--against", metavar="DIR", help="with compare: the folder of the pictures to compare with")
@@ -38,6 +38,15 @@ def word_of_program(text: str) -> str:
     known = (*scenes_drawn.ENDINGS, "poster")
     if not words or words[0] not in known:
         raise argparse.ArgumentTypeError("%s is none of %s" % (text, ", ".join(known)))
+    if words[0] == "view" and words[1:] and (words[1:-1] != ["--show"] or words[-1] not in scenes_drawn.VIEWED):
+        raise argparse.ArgumentTypeError("view has --show and one of %s" % ", ".join(scenes_drawn.VIEWED))
+    if words[0] in program_words.OWN:
+        try:
+            said = frame.parser_of(words[0]).parse_args(words[1:])
+            if said.file or said.o:
+                raise Trouble("%s takes numbers alone here" % words[0])
+        except Trouble as trouble:
+            raise argparse.ArgumentTypeError(str(trouble).partition(";")[0]) from None
     return " ".join(words)
 
 
