@@ -15,7 +15,7 @@ from typing import Any, Optional
 from pxplanes import ends, errors, program
 from pxplanes.cli import frame
 from pxplanes.errors import Trouble
-from pxplanes.explain import explaining, kinds, list_cures, looks, readings
+from pxplanes.explain import after_end, explaining, kinds, list_cures, looks
 from pxplanes.image import netpbm
 from pxplanes.machine import listings, passes, sessions, states
 from pxplanes.scene import scenes
@@ -110,6 +110,15 @@ class Program(explaining.Judge):
             raise Trouble("the program does not draw it: %s" % note)
         return netpbm.images(output)[1].numbers(), ""
 
+    def faults(self, tail: after_end.Tail, text: bytes) -> Optional[list[str]]:
+        scene = scenes.read(tail.scene)
+        if not self.draw and not program.is_quick(self.clocks * len(tail.lines), scene.width, scene.height, PATIENCE_SECONDS):
+            return None
+        if tail.word == "shadow":
+            return [note for note in [program.answer(self.built, ["shadow"], text)[2]] if note]
+        answers = sessions.held(self.built, tail.scene, [line.partition(b"#")[0] for line in tail.lines])
+        return [line.decode() for lines in answers for line in lines if line.startswith(b"? line ")]
+
     def say(self, line: str) -> None:
         ends.say("pxplanes explain", line)
 
@@ -163,7 +172,7 @@ def fix(path: str, text: bytes, options: argparse.Namespace) -> int:
     other = kinds.cure(text)
     if other:
         raise Trouble(other)
-    mending = readings.mended(text)
+    mending = after_end.mended(text)
     name = name_of(path)
     if not mending.is_whole:
         print_unsure(text, name)

@@ -50,7 +50,7 @@ OWN = {
     "sample": Own("four numbers of a scene of N blocks: pixels, depths, products, clocks", "nothing", "%d blocks" % limits.MAX_BLOCKS,
                   (Number("N", range(1, limits.MAX_BLOCKS + 1)),)),
     "shadow": Own("one image: bit l - 1 of a pixel says whether light l reaches it", "a scene, and light lines after its `end`: light NAME ..",
-                  "8 lights, 80 memory bits a pixel, and what `render` takes otherwise"),
+                  "%d lights, 80 memory bits a pixel, and what `render` takes otherwise" % limits.MAX_LIGHTS),
     "tile": Own("the depths and the faces of a picture of W by H pixels, in tiles of the scene's own size", SCENE,
                 "%d tiles" % limits.MAX_TILES, (Number("W", SIDES), Number("H", SIDES))),
     "refine": Own("the picture in colours, each pixel the mean over K by K finer ones", SCENE,

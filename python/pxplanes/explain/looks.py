@@ -22,6 +22,7 @@ WIDEST = 60
 LIKELY, LOOK = "likely wrong", "worth a look"
 # True of every hole that goes through: `explain` leaves it out.
 NO_BACK = "is never shown: no back of it is where it is taken away"
+NOT_SHOWN = "solid %s is not in the shown expression"
 # The ways out of a picture: columns or rows, which end of them, and the direction.
 WAYS_OUT = (("to the left", "columns", 0, (-1, 0)), ("to the right", "columns", 1, (1, 0)),
             ("above", "rows", 0, (0, -1)), ("below", "rows", 1, (0, 1)))
@@ -354,7 +355,7 @@ def from_picture(scene: Scene, faces: Any, looks: list[Look]) -> list[Hint]:
         numbers = [solid.near] + [face.number for face in solid.fronts + solid.backs]
         taken_away = (index, False) in used and (index, True) not in used
         if (index, True) not in used and not taken_away:
-            out.append("solid %s is not in the shown expression" % solid.name)
+            out.append(NOT_SHOWN % solid.name)
         elif not looked.why and not seen.intersection(numbers):
             if not taken_away:
                 out.append("solid %s is never shown: others are in front of it, or take it away" % solid.name)
