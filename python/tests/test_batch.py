@@ -128,3 +128,26 @@ def test_enlarged_by_a_third(batch, tmp_path):
     assert numbers(content(tmp_path / "flat.ppm")) == [[[5, 15, 15, 15, 15, 15]], [[2, 0, 0, 0, 0, 0]]]
     done = batch("poster", tmp_path / "steep.scene", 6, 1, "-o", tmp_path / "steep.ppm")
     assert done.returncode == 1 and "line 5 has no exact enlargement to 6 by 1" in done.stderr and not (tmp_path / "steep.ppm").exists()
+
+
+def test_poster_as_tiff(built, batch, tmp_path):
+    """Another reader of TIFF has the colours, the depths and the faces that the program draws, also after a run that was broken off."""
+    oiio = pytest.importorskip("OpenImageIO")
+    counting = tmp_path / "counting"
+    counting.write_text("#!/bin/sh\n[ \"$1\" = tile ] && echo >> %s/count && [ $(wc -l < %s/count) = 4 ] && exit 9\nexec %s \"$@\"\n" % (
+        tmp_path, tmp_path, built))
+    counting.chmod(0o755)
+    run = ["poster", FIRST, 96, 64, "--tile", 48, "--jobs", 1, "-o", tmp_path / "p.tif"]
+    assert batch(*run, PXPLANES_PROGRAM=str(counting)).returncode == 2 and not (tmp_path / "p.tif").exists()
+    assert batch(*run, PXPLANES_PROGRAM=str(counting)).returncode == 0 and content(tmp_path / "count").count(b"\n") == 5
+    assert sorted(path.name for path in tmp_path.iterdir() if path.name != "count") == ["counting", "p-depth.tif", "p-faces.tif", "p.tif"]
+    depths, faces = numbers(subprocess.run([built, "render"], stdin=open(FIRST, "rb"), capture_output=True).stdout)
+    colours = subprocess.run([built, "colour"], stdin=open(FIRST, "rb"), capture_output=True).stdout
+    def read(name):
+        file = oiio.ImageInput.open(str(tmp_path / name))
+        return file.read_image(file.spec().format)[::2, ::2]
+
+    assert read("p-depth.tif")[:, :, 0].tolist() == depths and read("p-faces.tif")[:, :, 0].tolist() == faces
+    assert read("p.tif").tobytes() == colours[-3 * 48 * 32:]
+    assert "multiples of 16" in batch("poster", FIRST, 96, 64, "--tile", 50, "-o", tmp_path / "q.tif").stderr
+    assert not list(tmp_path.glob("q*"))

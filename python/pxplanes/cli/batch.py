@@ -3,12 +3,14 @@
 WORD is a word of the program, as render or "tile 640 480"; view, or "view --show depths", for PNG pictures; or compare, which renders and
 compares each picture with the one of the same name in the folder --against. SCENES are files, folders (all files NAME.scene in them), or -
 (a name a line on standard input). DIR gets NAME.ppm, NAME.png of view, or NAME.txt of a word that writes text. WORD poster enlarges one
-scene to W by H pixels, also over 4096, and writes its depths and faces into the file -o, as `pxplanes tile` does. Status: 0 if all were
-drawn and none differs, otherwise 1; 2 for trouble."""
+scene to W by H pixels, also over 4096, and writes its depths and faces into the file -o, as `pxplanes tile` does; or, if that is
+NAME.tif, its colours there, and its depths and faces into NAME-depth.tif and NAME-faces.tif. Status: 0 if all were drawn and none differs,
+otherwise 1; 2 for trouble."""
 from __future__ import annotations
 
 import argparse
 import os
+import sys
 
 from pxplanes import ends, program
 from pxplanes.batch import groups, poster, scenes_drawn
@@ -64,6 +66,8 @@ def draw_poster(options: argparse.Namespace, built: str) -> int:
     """Draws one scene as a picture of any size."""
     if len(options.scenes) != 3:
         raise Trouble("a poster needs SCENE W H")
+    if poster.is_tiff(options.out):
+        frame.need_numpy(sys.argv[1:])
     scene, wide, high = options.scenes
     if not all(side.isdigit() and 1 <= int(side) <= LARGEST_SIDE for side in (wide, high)):
         raise Trouble("W and H are numbers from 1 to %d, and not %s %s" % (LARGEST_SIDE, wide, high))
