@@ -2,6 +2,7 @@
 import glob
 import json
 import os
+import pty
 import subprocess
 import sys
 
@@ -124,6 +125,30 @@ def test_sarif(tmp_path):
         "startLine": 5, "startColumn": 6, "endColumn": 7}
 
 
+def test_choice(tmp_path):
+    """At a terminal a person chooses what is meant, mistake by mistake: in the scene, and in a light line. Nothing else is no choice."""
+    path, text = tmp_path / "a.scene", WALLS.replace("(wall2 - a)", "(wallx - a)") + "light roof\nlight b\n"
+    for answers, status in ((b"9\n", 1), (b"\n", 1), (b"2\n\n", 1), (b"2\n1\n", 0)):
+        path.write_text(text)
+        ours, theirs = pty.openpty()
+        os.write(ours, answers)
+        done = subprocess.run([sys.executable, "-m", "pxplanes", "explain", "--fix", str(path)], stdin=theirs, stdout=subprocess.PIPE, stderr=theirs,
+                              env=dict(os.environ, PYTHONPATH=os.path.join(support.TOP, "python")), text=True)
+        os.close(theirs)
+        os.close(ours)
+        assert done.returncode == status and done.stdout == (text.replace("wallx", "wall2").replace("light b", "light a") if status == 0 else "")
+
+
+def test_no_room_in_place(tmp_path):
+    """If there is no room, the scene and its folder stay as they are. A limit of a file's size stands for a full disk."""
+    path = tmp_path / "a.scene"
+    path.write_text(WALLS.replace("side", "sdie"))
+    done = subprocess.run(["bash", "-c", "ulimit -f 0; exec \"$@\"", "-", sys.executable, "-B", "-m", "pxplanes", "explain", "--fix", "--in-place", str(path)],
+                          capture_output=True, text=True, env=dict(os.environ, PYTHONPATH=os.path.join(support.TOP, "python")))
+    assert done.returncode == 2 and "File too large" in done.stderr
+    assert path.read_text() == WALLS.replace("side", "sdie") and [each.name for each in tmp_path.iterdir()] == ["a.scene"]
+
+
 def explained(path, *words):
     return subprocess.run([sys.executable, "-m", "pxplanes", "explain", *words, str(path)], capture_output=True, text=True,
                           env=dict(os.environ, PYTHONPATH=os.path.join(support.TOP, "python"), PYTHONDONTWRITEBYTECODE="1"))
@@ -226,6 +251,14 @@ def test_answer_about_command_lines(tmp_path):
     result = json.loads(explained(path, "--sarif").stdout)["runs"][0]["results"][1]
     assert result["ruleId"] == "? line 4" and result["locations"][0]["physicalLocation"]["region"]["startLine"] == 17
     assert explained(path, "--fix").returncode == 1
+
+
+def test_mark_before_a_scene_with_lights():
+    """A byte-order mark, and a mistake in a light line, are two mistakes in their places."""
+    text = b"\xef\xbb\xbf" + WALLS.encode() + b"ligth roof"
+    places = explaining.answer_about(explaining.Judge(), text).places
+    assert [(place.line, place.cause) for place in places] == [(1, "not-header"), (14, "unexpected")]
+    assert after_end.mended(text).text == WALLS.encode() + b"light roof"
 
 
 # Texts whose lines after `end` are none of a command: they are a scene's with a mistake.

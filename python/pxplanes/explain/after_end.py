@@ -118,10 +118,11 @@ def mended(text: bytes) -> readings.Mending:
     if tail is None:
         return readings.mended(text)
     found = readings.mended(tail.scene)
+    mistakes = [each._replace(text=each.text + readings.joined(tail.lines)) for each in found.mistakes]
     if not found.is_whole:
-        return found
+        return found._replace(mistakes=mistakes)
     scene, first = scenes.read(found.text), tail.scene.count(b"\n")
-    lines, changes, mistakes = list(tail.lines), list(found.changes), list(found.mistakes)
+    lines, changes = list(tail.lines), list(found.changes)
     for at, refusal in refusals(tail, scene):
         sure, candidates = readings_of(tail, at, refusal, scene)
         mistakes.append(readings.Mistake(first + at + 1, refusal, sure, candidates, text))
@@ -151,7 +152,8 @@ def readings_of(tail: Tail, at: int, refusal: scenes.Refusal, scene: scenes.Scen
             if meaning is not None and (meaning not in found or keeps(text) and not keeps(found[meaning])):
                 found[meaning] = text
         if found:
-            changes = [readings.Change(at, at + 1, (readings.bytes_of(text + comment),), readings.printable("write " + " ".join(text.split())),
+            place = tail.scene.count(b"\n") + at
+            changes = [readings.Change(place, place + 1, (readings.bytes_of(text + comment),), readings.printable("write " + " ".join(text.split())),
                                        keeps(text)) for text in found.values()]
             return changes[0] if len(changes) == 1 and changes[0].is_safe and is_whole else None, changes
     return None, []

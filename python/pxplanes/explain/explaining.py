@@ -196,10 +196,10 @@ def about_tail(judge: Judge, text: bytes, tail: after_end.Tail, found: Answer, n
     need = after_end.memory(tail) if [place.cause for place in found.places] == ["pixel-memory"] else None
     if need:
         return Answer(["accepted by `pxplanes shadow` alone, whose pixels have %d memory bits: it needs %d" % (after_end.SHADOW_BITS, need)], True, [])
-    mistakes = after_end.mended(text).mistakes
+    mistakes = [each for each in after_end.mended(text).mistakes if each.number > tail.scene.count(b"\n")]
     if not found.is_accepted and not (found.places and all(place.cure for place in found.places)):
         return found
-    after = [place_of(text, str(each.refusal.note), each.refusal, each.number, each, "") for each in mistakes if each.text == text]
+    after = [place_of(text, str(each.refusal.note), each.refusal, each.number, each, "") for each in mistakes]
     said = judge.faults(tail, text) if found.is_accepted else None
     if said is not None and said != [place.shown[0] for place in after][:len(said) if tail.word == "shadow" and said else None]:
         judge.say("the program reads the lines after `end` in another way")
