@@ -2,7 +2,7 @@
 import random
 import string
 
-from pxplanes.explain import kinds, readings
+from pxplanes.explain import after_end, kinds, readings
 from pxplanes.scene import scenes
 
 KEYS = string.ascii_letters + string.digits + "-+*^(),;._#= "
@@ -84,3 +84,24 @@ def counted(texts, count, most, seed, plain=False):
             counts["otherwise"] += 1
             wrong.append((whats, mending.changes, new))
     return counts, wrong, left
+
+
+def of_tail(text, word):
+    """What the lines after a scene mean, and what the scene draws; None if one of them is not taken by this command."""
+    tail = after_end.cut(text)
+    if tail is None or tail.word != word or drawn(tail.scene) is None or list(after_end.refusals(tail, scenes.read(tail.scene))):
+        return None
+    lines = [line.decode().partition("#" if word == "shadow" else "\n")[0].split() for line in tail.lines]
+    return drawn(tail.scene), [frozenset(words) if word == "shadow" else [each if each.isalpha() else int(each) for each in words]
+                               for words in lines if words]
+
+
+def in_tails(text, first, word, count, seed):
+    """Texts with one slip in a line from the place `first` on, which are not taken, and still seem to be for this command."""
+    chance, lines = random.Random(seed), text.split("\n")[:-1]
+    while count:
+        new = "\n".join(one(lines, chance.randrange(first, len(lines)), chance)[0]).encode() + b"\n"
+        tail = after_end.cut(new)
+        if tail and tail.word == word and of_tail(new, word) is None:
+            count -= 1
+            yield new

@@ -42,6 +42,27 @@ def test_words_with_numbers(built, batch, tmp_path):
     assert "is none of" in batch("draw", FIRST, "-o", tmp_path).stderr
 
 
+@pytest.mark.parametrize("word, wanted", [("view", ["view"]), ("view --show depths", ["view", "--show", "depths"])])
+def test_view(built, batch, tmp_path, word, wanted):
+    """PNG pictures, which are those of `pxplanes view`; of a refused scene none."""
+    bad = tmp_path / "bad.scene"
+    bad.write_text("pxscene 1\n")
+    done = batch(word, FIRST, bad, "-o", tmp_path / "out", "--jobs", 2)
+    assert done.returncode == 1 and "bad.scene: refused: malformed line 1: missing-end" in done.stdout
+    subprocess.run([sys.executable, "-m", "pxplanes", *wanted, FIRST, "-o", tmp_path / "wanted.png"], check=True, capture_output=True, env=dict(
+        os.environ, PYTHONPATH=os.path.join(support.TOP, "python"), PXPLANES_PROGRAM=built))
+    assert content(tmp_path / "out" / "first.png") == content(tmp_path / "wanted.png")
+    assert sorted(os.listdir(tmp_path / "out")) == ["first.png", "many.tsv"]
+
+
+@pytest.mark.parametrize("word, said", [("refine 3", "2 or 4 is expected, and not 3"), ("tile 640", "required: H"), ("tile 0 5", "1 to 4096"),
+                                        ("view --show distances", "view has --show and one of"), ("colour 3", "numbers alone"), ("colour -o x", "numbers alone"), ("sample 3", "none of")])
+def test_wrong_words(batch, tmp_path, word, said):
+    """Wrong numbers are named before anything is drawn."""
+    done = batch(word, FIRST, "-o", tmp_path / "out")
+    assert done.returncode == 2 and said in done.stderr and not (tmp_path / "out").exists()
+
+
 def test_no_reference(batch, tmp_path):
     """A folder to compare with that is not there is an error at once: nothing is drawn."""
     done = batch("compare", FIRST, "-o", tmp_path / "out", "--against", tmp_path / "none")
@@ -107,3 +128,26 @@ def test_enlarged_by_a_third(batch, tmp_path):
     assert numbers(content(tmp_path / "flat.ppm")) == [[[5, 15, 15, 15, 15, 15]], [[2, 0, 0, 0, 0, 0]]]
     done = batch("poster", tmp_path / "steep.scene", 6, 1, "-o", tmp_path / "steep.ppm")
     assert done.returncode == 1 and "line 5 has no exact enlargement to 6 by 1" in done.stderr and not (tmp_path / "steep.ppm").exists()
+
+
+def test_poster_as_tiff(built, batch, tmp_path):
+    """Another reader of TIFF has the colours, the depths and the faces that the program draws, also after a run that was broken off."""
+    oiio = pytest.importorskip("OpenImageIO")
+    counting = tmp_path / "counting"
+    counting.write_text("#!/bin/sh\n[ \"$1\" = tile ] && echo >> %s/count && [ $(wc -l < %s/count) = 4 ] && exit 9\nexec %s \"$@\"\n" % (
+        tmp_path, tmp_path, built))
+    counting.chmod(0o755)
+    run = ["poster", FIRST, 96, 64, "--tile", 48, "--jobs", 1, "-o", tmp_path / "p.tif"]
+    assert batch(*run, PXPLANES_PROGRAM=str(counting)).returncode == 2 and not (tmp_path / "p.tif").exists()
+    assert batch(*run, PXPLANES_PROGRAM=str(counting)).returncode == 0 and content(tmp_path / "count").count(b"\n") == 5
+    assert sorted(path.name for path in tmp_path.iterdir() if path.name != "count") == ["counting", "p-depth.tif", "p-faces.tif", "p.tif"]
+    depths, faces = numbers(subprocess.run([built, "render"], stdin=open(FIRST, "rb"), capture_output=True).stdout)
+    colours = subprocess.run([built, "colour"], stdin=open(FIRST, "rb"), capture_output=True).stdout
+    def read(name):
+        file = oiio.ImageInput.open(str(tmp_path / name))
+        return file.read_image(file.spec().format)[::2, ::2]
+
+    assert read("p-depth.tif")[:, :, 0].tolist() == depths and read("p-faces.tif")[:, :, 0].tolist() == faces
+    assert read("p.tif").tobytes() == colours[-3 * 48 * 32:]
+    assert "multiples of 16" in batch("poster", FIRST, 96, 64, "--tile", 50, "-o", tmp_path / "q.tif").stderr
+    assert not list(tmp_path.glob("q*"))

@@ -2,13 +2,17 @@
 import glob
 import json
 import os
+import pty
 import subprocess
 import sys
 
 import pytest
 import slips
 import support
-from pxplanes.explain import explaining, kinds, readings
+from pxplanes import program
+from pxplanes.explain import after_end, explaining, kinds, readings
+from pxplanes.machine import sessions
+from pxplanes.scene import scenes
 
 SEED = 1
 TEXTS = sorted((text for text in (open(path).read() for folder in ("docs/scenes", "gallery") for path in sorted(glob.glob(
@@ -121,9 +125,149 @@ def test_sarif(tmp_path):
         "startLine": 5, "startColumn": 6, "endColumn": 7}
 
 
+def test_choice(tmp_path):
+    """At a terminal a person chooses what is meant, mistake by mistake: in the scene, and in a light line. Nothing else is no choice."""
+    path, text = tmp_path / "a.scene", WALLS.replace("(wall2 - a)", "(wallx - a)") + "light roof\nlight b\n"
+    for answers, status in ((b"9\n", 1), (b"\n", 1), (b"2\n\n", 1), (b"2\n1\n", 0)):
+        path.write_text(text)
+        ours, theirs = pty.openpty()
+        os.write(ours, answers)
+        done = subprocess.run([sys.executable, "-m", "pxplanes", "explain", "--fix", str(path)], stdin=theirs, stdout=subprocess.PIPE, stderr=theirs,
+                              env=dict(os.environ, PYTHONPATH=os.path.join(support.TOP, "python")), text=True)
+        os.close(theirs)
+        os.close(ours)
+        assert done.returncode == status and done.stdout == (text.replace("wallx", "wall2").replace("light b", "light a") if status == 0 else "")
+
+
+def test_no_room_in_place(tmp_path):
+    """If there is no room, the scene and its folder stay as they are. A limit of a file's size stands for a full disk."""
+    path = tmp_path / "a.scene"
+    path.write_text(WALLS.replace("side", "sdie"))
+    done = subprocess.run(["bash", "-c", "ulimit -f 0; exec \"$@\"", "-", sys.executable, "-B", "-m", "pxplanes", "explain", "--fix", "--in-place", str(path)],
+                          capture_output=True, text=True, env=dict(os.environ, PYTHONPATH=os.path.join(support.TOP, "python")))
+    assert done.returncode == 2 and "File too large" in done.stderr
+    assert path.read_text() == WALLS.replace("side", "sdie") and [each.name for each in tmp_path.iterdir()] == ["a.scene"]
+
+
 def explained(path, *words):
     return subprocess.run([sys.executable, "-m", "pxplanes", "explain", *words, str(path)], capture_output=True, text=True,
                           env=dict(os.environ, PYTHONPATH=os.path.join(support.TOP, "python"), PYTHONDONTWRITEBYTECODE="1"))
+
+
+# Of a scene of 8 by 8 pixels with ^ the planes of two solids, by hand, and whether some cell is in both: one next to the other; farther than it;
+# from the very depth where the other ends; a cell before that; on both sides of a diagonal, where their boxes are one; and one pixel of it
+# more; a solid without cells, of which something else is said.
+MET = {"next to it": (("side -1 0 2",), ("side 1 0 -5",), False), "farther": (("back 0 0 4",), ("front 0 0 9",), False),
+       "touching": (("back 0 0 5",), ("front 0 0 5",), False), "a cell": (("back 0 0 6",), ("front 0 0 5",), True),
+       "a diagonal": (("side 1 -1 -1",), ("side -1 1 0",), False), "on it": (("side 1 -1 0",), ("side -1 1 0",), True),
+       "nowhere": (("side 1 0 -99",), ("side 1 0 -5",), True)}
+
+
+@pytest.mark.parametrize("name", MET)
+def test_exclusive_or_that_is_a_union(name):
+    """^ whose sides have no common cell is worth a look, and no other one."""
+    one, other, meet = MET[name]
+    text = "\n".join(["pxscene 2", "picture 8 8", "depth 4", "solid a 1 2 3", *one, "solid b 1 2 3", *other, "show (b ^ a)", "end", ""])
+    said = "worth a look: no cell of the picture is on both sides of ^ in (b ^ a): + has the same cells"
+    lines = explaining.answer_about(explaining.Judge(), text.encode()).lines
+    assert (said not in lines) == meet
+    assert not any("both sides" in line for line in explaining.answer_about(explaining.Judge(), text.replace("^", "+").encode()).lines)
+
+
+WALLS = ("pxscene 1\npicture 16 8\ndepth 5\nsolid wall 1 2 3\nfront 0 0 9\nsolid wall2 1 2 3\nside 1 0 -3\nsolid roof 4 5 6\nfront 1 0 3\n"
+         "solid a 7 8 9\nback 0 0 4\nshow ((wall + roof) + (wall2 - a))\nend\n")
+TAILS = {"shadow": "light wall\nlight roof wall2   # the second\nlight a roof\nlight wall2 wall roof\n",
+         "debug": "step 3\nmacro 12\nat\npixel 10 7\nfield 2 1\ntree 2 3\ntrace\nuntil 140\nback 25\nrun\nat\nquit\n"}
+
+
+def said_by(built, word, tail, text):
+    """What the program says of the lines after a scene, as far as it does."""
+    if word == "shadow":
+        return [program.answer(built, ["shadow"], text)[2]]
+    bare = [line.partition(b"#")[0] for line in tail.lines]
+    return [line.decode() for lines in sessions.held(built, tail.scene, bare) for line in lines if line.startswith(b"?")]
+
+
+@pytest.mark.parametrize("word", TAILS)
+def test_slips_after_the_end(built, word):
+    """Of 200 slips in light lines and in command lines, `end` too, none is mended otherwise than meant, 70 in 100 are, and the program says of
+    each line what `explain` does."""
+    text, counts = WALLS + TAILS[word], {"as meant": 0, "left": 0}
+    for new in slips.in_tails(text, WALLS.count("\n") - 1, word, 200, SEED):
+        tail, mending = after_end.cut(new), after_end.mended(new)
+        counts["as meant" if mending.is_whole else "left"] += 1
+        assert not mending.is_whole or slips.of_tail(mending.text, word) == slips.of_tail(text.encode(), word), new
+        if slips.drawn(tail.scene):
+            own = [str(refusal.note) for _, refusal in after_end.refusals(tail, scenes.read(tail.scene))]
+            said = said_by(built, word, tail, new)
+            assert own and said == own[:len(said)], new
+    assert counts["as meant"] >= 140, counts
+
+
+# Lines after a scene with a mistake of another kind, and what `--fix` writes of it; None if it writes nothing. Two names are one key away; a
+# name would come twice; a number or a sign would change; the place of a number is open; a capital; a tab; a wide digit; a dash; a comma; a unit.
+AFTER = {"light wal": "light wall", "light wall3": None, "light wall wal": None, "light wall wall wall2": "", "light": None, "light wal roof wall": None, "LIGHT wall": "light wall",
+         "light,wall roof": "light wall roof", "lights roof": "light roof", "light\troff": "light\troof", "light b": None, "light roof;": "light roof",
+         "light 1 roof": None, "lamp roof": None, "Step 3": "step 3", "AT": "at", "At 3": None, "step\t\uff13": "step\t3", "step -3": None, "step \u20133": None,
+         "pixel 3": None, "pixel 3,4": "pixel 3 4", "pixel 34": None, "step 3k": None, "step 1,000": None, "step 0x10": None, "step three": None, "tree": None,
+         "tree 0 1": None, "stpe 3": "step 3", "back": None, "run 5": None, "field 1 2 3": None, "step 3 # three": "", "stpe 3 # three": None, "stop 3": "step 3",
+         "watch 1 1": None, "until 5\r": "", "Until 5\r": "until 5\r", "pixel(3,4)": None, "quit now": None, "step +3": None, "step3": "step 3"}
+
+
+@pytest.mark.parametrize("line", AFTER)
+def test_after_the_end(line):
+    """A line has one reading, which is what it is mended to, or stays as it is."""
+    before = "light roof\nlight wall\n" if line[:2].lower() in ("li", "la") else "step 1\nback 1\n"
+    mending = after_end.mended((WALLS + before + line + "\n").encode())
+    assert mending.is_whole == (AFTER[line] is not None)
+    if mending.is_whole:
+        assert mending.text.decode() == WALLS + before + (AFTER[line] or line) + "\n"
+
+
+def test_answer_about_lights(tmp_path):
+    """Mistakes of the scene and of its lights, with file, line, column, cause and cure; and what is usual for lights is not worth a look."""
+    path = tmp_path / "room.scene"
+    path.write_text(WALLS.replace("side", "sdie").replace("- a)", "- roof)") + "light a\nlight wall2 roff\n")
+    done = explained(path)
+    heads = [line for line in done.stdout.splitlines() if line.startswith(str(path))]
+    assert heads == [str(path) + ":7:1: 'sdie' is not expected here (did you mean 'side'?) [unexpected]",
+                     str(path) + ":15:13: unknown name 'roff' (did you mean 'roof'?) [unknown-name]"]
+    assert done.returncode == 1 and "cure: write light wall2 roof" in done.stdout and "; --fix writes the mended text" in done.stdout
+    assert [each["line"] for each in json.loads(explained(path, "--json").stdout)["mistakes"]] == [7, 15]
+    fixed = explained(path, "--fix")
+    assert fixed.returncode == 0 and fixed.stdout == path.read_text().replace("sdie", "side").replace("roff", "roof")
+    path.write_text(fixed.stdout)
+    done = explained(path)
+    assert done.returncode == 0 and "`pxplanes shadow` takes the 2 lines after the scene" in done.stdout and "not in the shown" not in done.stdout
+
+
+def test_answer_about_command_lines(tmp_path):
+    """The cause in brackets is the program's answer."""
+    path = tmp_path / "a.session"
+    path.write_text(WALLS + "step 3\ntree 9 0\n\nstpe 4\n")
+    done = explained(path)
+    assert [line for line in done.stdout.splitlines() if line.startswith(str(path))] == [
+        str(path) + ":15:6: there is no level 9 [? line 2]", str(path) + ":17:1: 'stpe' is no command (did you mean 'step'?) [? line 4]"]
+    result = json.loads(explained(path, "--sarif").stdout)["runs"][0]["results"][1]
+    assert result["ruleId"] == "? line 4" and result["locations"][0]["physicalLocation"]["region"]["startLine"] == 17
+    assert explained(path, "--fix").returncode == 1
+
+
+def test_mark_before_a_scene_with_lights():
+    """A byte-order mark, and a mistake in a light line, are two mistakes in their places."""
+    text = b"\xef\xbb\xbf" + WALLS.encode() + b"ligth roof"
+    places = explaining.answer_about(explaining.Judge(), text).places
+    assert [(place.line, place.cause) for place in places] == [(1, "not-header"), (14, "unexpected")]
+    assert after_end.mended(text).text == WALLS.encode() + b"light roof"
+
+
+# Texts whose lines after `end` are none of a command: they are a scene's with a mistake.
+NO_TAILS = ("back 0 0 9\n", "light wall\nfront 0 0 9\n", "show wall\nend\n", "hello\nlight wall\nthere\nhow are you\n", "# light wall\n")
+
+
+@pytest.mark.parametrize("lines", NO_TAILS)
+def test_no_lines_of_a_command(lines):
+    assert after_end.cut((WALLS + lines).encode()) is None
 
 
 def test_bytes_stay():

@@ -35,6 +35,30 @@ def test_help_of_a_word(word):
     assert (done.returncode, done.stderr) == (0, "") and done.stdout.startswith("usage: pxplanes " + word)
 
 
+@pytest.mark.parametrize("word", frame.PROGRAM_WORDS)
+def test_help_of_a_word_of_the_program(word):
+    """It is the help of that word, with the numbers that docs/SCENES.md admits, also after --unproved, and the same without a checkout."""
+    admitted = {"tile": "W H", "refine": "2 or 4", "sample": "1 to 200"}.get(word, "[FILE]")
+    for words in ([word, "--help"], ["--unproved", word, "-h"], [word, "3", "--help"]):
+        done = run(*words)
+        assert (done.returncode, done.stderr) == (0, "") and done.stdout.startswith("usage: pxplanes %s [-h]" % word) and admitted in done.stdout
+    module = subprocess.run([sys.executable, "-m", "pxplanes", word, "--help"], capture_output=True, text=True, cwd="/",
+                            env=dict(os.environ, PYTHONPATH=os.path.join(TOP, "python")))
+    assert module.stdout == done.stdout
+
+
+def test_numbers_that_are_admitted(built):
+    """At a terminal the numbers of a word are named, if a wrong one is given."""
+    for words, said in ((["refine", "3"], b"2 or 4"), (["sample", "999"], b"1 to 200"), (["tile", "3", "0"], b"1 to 4096")):
+        ours, theirs = pty.openpty()
+        done = subprocess.run([sys.executable, "-m", "pxplanes", *words, SCENE], stdout=subprocess.DEVNULL, stderr=theirs,
+                              env=dict(os.environ, PXPLANES_PROGRAM=built, PYTHONPATH=os.path.join(TOP, "python")))
+        os.close(theirs)
+        found = os.read(ours, 9999)
+        os.close(ours)
+        assert done.returncode == 2 and found.startswith(b"usage: pxplanes [render|") and said in found.replace(b"\r\n", b" ")
+
+
 def test_an_option_that_is_nearly_one():
     done = run("explain", "--fixx", SCENE)
     assert done.returncode == 2 and "did you mean --fix?" in done.stderr and done.stderr.count("\n") == 1

@@ -1,11 +1,13 @@
 """The debugger of `pxplanes trace`: its answers from a pipe and on a terminal, against what `pxplanes debug` answers clock by clock."""
 import os
 import pty
+import random
 import subprocess
 import sys
 
 import pytest
 import support
+from pxplanes import program
 from pxplanes.machine import debugger, sessions
 from pxplanes.scene import scenes
 
@@ -96,11 +98,35 @@ def test_plane(session):
 
 
 @pytest.mark.parametrize("line, said", (
-    ("hello", "is no command"), ("step x", "is no number"), ("pixel 99 0", "array"), ("until depth", "unless a pixel"), ("watch 1", "takes"),
-    ("until bit 99 0 0", "bits 0 to"), ("tree 0 0", "no such place"), ("until colour 1 1", "until takes"), ("run 3", "takes")))
+    ("hello", "is no command"), ("stpe 3", "did you mean step?"), ("step x", "is no number"), ("pixel 99 0", "there is no x 99; expected: x from 0 to 15"), ("until depth", "unless a pixel"), ("watch 1", "takes"),
+    ("until bit 99 0 0", "bits 0 to"), ("tree 0 0", "level from 1 to 8"), ("until colour 1 1", "until takes"), ("run 3", "takes")))
 def test_mistakes(session, line, said):
     """A line that asks for nothing that there is moves nothing, and its answer says why."""
     assert said in session.obey(line)[0] and session.now == 0
+
+
+BLANKS, WORDS = (" ", "  ", "\t", " \r"), (*(word for word in sessions.FORMS if word != "quit"), "Step", "hello", "", "step#", "#", "quit 1")
+NUMBERS = ("0", "1", "2", "5", "6", "15", "16", "31", "32", "63", "64", "-1", "+1", "x", "1" * 18, "1" * 19, "0" * 18, "007", "\uff13")
+
+
+@pytest.mark.parametrize("size", ((16, 16), (48, 32), (1, 1), (3, 100)))
+def test_faults(built, size):
+    """A line has a fault exactly if the program answers it with `? line N`: 600 lines from a seed, some of more than 255 bytes."""
+    chance = random.Random(7)
+    lines = [chance.choice(BLANKS).join([chance.choice(WORDS), *chance.choices(NUMBERS, k=chance.choice((0, 1, 2, 2, 2, 3)))]).encode()
+             + b" " * chance.choice((0, 0, 0, 0, 245, 250, 255)) for _ in range(600)]
+    head = b"pxscene 1\npicture %d %d\ndepth 3\nsolid a 1 2 3\nshow a\nend\n" % size
+    for line, answer in zip(lines, sessions.held(built, head, lines)):
+        assert (answer[:1] != [] and answer[0].startswith(b"? line")) == (sessions.fault(line, *program.grid(*size)) is not None), line
+
+
+def test_faults_of_a_file(built, tmp_path):
+    """`trace FILE` says why a line is answered `? line N`."""
+    path = tmp_path / "a.session"
+    path.write_bytes(content(TRIANGLE) + b"step\ntree 9 0 # a node\n")
+    done = subprocess.run([sys.executable, "-m", "pxplanes", "trace", str(path)], capture_output=True, text=True, env=environment(built))
+    assert done.stdout.splitlines() == ["> step", "? line 1: step has too few words; expected: step n", "> tree 9 0",
+                                        "? line 2: there is no level 9; expected: level from 1 to 8"]
 
 
 def test_pipe(built):

@@ -15,7 +15,7 @@ from math import gcd, lcm
 from typing import Any, Iterator, NamedTuple
 
 from pxplanes import ends
-from pxplanes.batch import engine
+from pxplanes.batch import engine, tiff
 from pxplanes.batch.scenes_drawn import REFUSALS, drop
 from pxplanes.errors import Trouble
 from pxplanes.image import netpbm
@@ -141,6 +141,66 @@ class Picture:
         os.remove(self.list)
 
 
+def is_tiff(path: str) -> bool:
+    return path.lower().endswith((".tif", ".tiff"))
+
+
+def names_of(path: str) -> list[str]:
+    """The files of the colours, the depths and the faces."""
+    stem, end = os.path.splitext(path)
+    return [path, stem + "-depth" + end, stem + "-faces" + end]
+
+
+class Tiled:
+    """The colours, the depths and the faces of a picture as three TIFF files, and, in a file next to them, where the tiles are that are in
+    them, a line each after the sum of what they are made of."""
+
+    def __init__(self, path: str, wide: int, high: int, side: int, total: str, scene: scenes.Scene):
+        import numpy
+        if side % 16:
+            raise Trouble("the tiles of a TIFF file have sides that are multiples of 16, and not %d" % side)
+        self.numpy, self.size, self.side, self.lock = numpy, (wide, high), side, threading.Lock()
+        self.names, self.list = names_of(path), path + ".done"
+        self.kinds: list[tuple[Any, int]] = [(numpy.dtype("u1"), 3), (numpy.dtype("<u4"), 1), (numpy.dtype("<u2"), 1)]
+        self.colours = numpy.array([(0, 0, 0), *(row[4] for row in scene.faces())], "u1")
+        lines = ends.content(self.list).decode().split("\n") if os.path.exists(self.list) else []
+        goes_on = lines[:1] == [total] and all(os.path.exists(name + ".part") for name in self.names)
+        self.done = {line.split()[0]: [int(each) for each in line.split()[1:]] for line in lines[1:-1]} if goes_on else {}
+        self.files = [open(name + ".part", "r+b" if goes_on else "w+b") for name in self.names]
+        if not goes_on:
+            for file in self.files:
+                file.write(b"\0" * 8)
+            with open(self.list, "w") as listed:
+                listed.write(total + "\n")
+
+    def has(self, piece: Piece) -> bool:
+        return "%dx%d" % piece[:2] in self.done
+
+    def put(self, piece: Piece, data: bytes) -> None:
+        """Writes a piece as a tile of each file, with zeros past the picture's edge."""
+        maps = [image.samples for image in netpbm.images(data)]
+        numbers = [self.numpy.frombuffer(each, "u1").reshape(piece.high, piece.wide, SAMPLES) @ self.numpy.array((65536, 256, 1), "u4") for each in maps]
+        tiles, name = [], "%dx%d" % piece[:2]
+        for shown, (kind, samples) in zip((self.colours[numbers[1]], *numbers), self.kinds):
+            tiles.append(self.numpy.zeros((self.side, self.side, samples), kind))
+            tiles[-1][:piece.high, :piece.wide] = shown.reshape(piece.high, piece.wide, samples)
+        packed = list(map(tiff.packed, tiles))
+        with self.lock:
+            self.done[name] = [number for file, tile in zip(self.files, packed) for number in tiff.put(file, tile)]
+            with open(self.list, "a") as listed:
+                listed.write(" ".join(map(str, [name, *self.done[name]])) + "\n")
+
+    def finish(self) -> None:
+        """Gives the pictures their names."""
+        order = ["%dx%d" % piece[:2] for piece in pieces_of(*self.size, self.side)]
+        for at, (name, file, kind) in enumerate(zip(self.names, self.files, self.kinds)):
+            places = [(self.done[piece][2 * at], self.done[piece][2 * at + 1]) for piece in order]
+            tiff.finish(file, *self.size, self.side, *kind, places)
+            file.close()
+            os.replace(name + ".part", name)
+        os.remove(self.list)
+
+
 def drawn(text: bytes, wide: int, high: int, out: str, side: int, built: str, jobs: int, enlarges: bool = True) -> None:
     """Draws a picture of `wide` by `high` pixels in pieces of `side` by `side` into the file `out`: the scene
     enlarged, or as far as its planes go. Raises `Refused`."""
@@ -153,7 +213,7 @@ def drawn(text: bytes, wide: int, high: int, out: str, side: int, built: str, jo
         for piece in pieces:
             moved(text, piece.x0, piece.y0)
         total = hashlib.sha256(repr((text, wide, high, side)).encode() + ends.content(built)).hexdigest()
-        picture = Picture(out, wide, high, total)
+        picture: Picture | Tiled = Tiled(out, wide, high, side, total, scenes.read(text)) if is_tiff(out) else Picture(out, wide, high, total)
 
         def work(piece: Piece) -> None:
             status, data, note = motor.run(["tile", str(piece.wide), str(piece.high)], moved(text, piece.x0, piece.y0))
@@ -168,6 +228,7 @@ def drawn(text: bytes, wide: int, high: int, out: str, side: int, built: str, jo
         picture.finish()
     except (Refused, Trouble, OSError) as error:
         if isinstance(error, Refused) or not os.path.exists(out + ".done") or ends.content(out + ".done").count(b"\n") < 2:
-            drop(out + ".part")
+            for name in names_of(out):
+                drop(name + ".part")
             drop(out + ".done")
         raise

@@ -1,6 +1,6 @@
 """Draws many scenes into a folder, and goes on where it was broken off.
 
-The folder gets NAME.ppm, or NAME.txt of a word that writes text. A picture is there whole or not at all. `many.tsv`
+The folder gets NAME.ppm, NAME.png of view, or NAME.txt of a word that writes text. A picture is there whole or not at all. `many.tsv`
 keeps what came of each scene: one of the same text, command and program that is there already, and compared with the
 same picture or with none, is not drawn again. One run at a time works in the folder."""
 from __future__ import annotations
@@ -16,8 +16,10 @@ from pxplanes import ends
 from pxplanes.batch import engine
 from pxplanes.errors import Trouble
 
-ENDINGS = {"render": ".ppm", "colour": ".ppm", "compare": ".ppm", "shadow": ".ppm", "sample": ".ppm", "tile": ".ppm", "refine": ".ppm",
-           "plan": ".txt", "cost": ".txt", "tidy": ".txt", "list": ".txt", "debug": ".txt"}
+ENDINGS = {"render": ".ppm", "colour": ".ppm", "compare": ".ppm", "shadow": ".ppm", "tile": ".ppm", "refine": ".ppm", "view": ".png",
+           "plan": ".txt", "cost": ".txt", "tidy": ".txt", "list": ".txt", "debug": ".txt", "play": ".txt"}
+# What `view --show` shows, by the word that draws it.
+VIEWED = {"colours": "colour", "depths": "render", "faces": "render", "lights": "shadow"}
 REFUSALS, WRITE_FAULT, LEAST_ROOM = (3, 4), 6, 1 << 16
 NO_SPACE = "No space left on device"
 Came = tuple[str, str]     # what came of a scene: drawn, refused, differs or failed, and a note
@@ -108,7 +110,9 @@ class Batch:
 
     def __init__(self, command: str, folder: str, against: Optional[str], motor: engine.Engine):
         self.command, self.folder, self.against, self.motor = command, folder, against, motor
-        self.words = ["render"] if command == "compare" else command.split()
+        words = command.split()
+        self.what = words[-1] if words[-1] in VIEWED else "colours"
+        self.words = {"compare": ["render"], "view": [VIEWED[self.what]]}.get(words[0], words)
 
     def place(self, scene: Scene) -> str:
         return os.path.join(self.folder, scene.name + ending_of(self.command))
@@ -127,6 +131,8 @@ class Batch:
             if status in REFUSALS:
                 drop(place)
                 return "refused", note
+            if status == 0 and self.command.startswith("view"):
+                status, note = converted(part, self.what)
             if status != 0:
                 return "failed", note or "it ended with status %d" % status
             os.replace(part, place)
@@ -135,6 +141,12 @@ class Batch:
         finally:
             drop(part)
         return compared(place, os.path.join(self.against, os.path.basename(place))) if self.against else ("drawn", "")
+
+
+def converted(part: str, what: str) -> tuple[int, str]:
+    """Makes a PNG picture of the maps in a file, in a process of its own; its status and its note."""
+    done = subprocess.run([sys.executable, "-m", "pxplanes", "view", part, "-o", part, "--show", what], capture_output=True, text=True)
+    return done.returncode, done.stderr.strip().split("\n")[-1]
 
 
 def is_full(folder: str) -> bool:

@@ -9,13 +9,14 @@ from __future__ import annotations
 import argparse
 import difflib
 import json
+import os
 import sys
 from typing import Any, Optional
 
 from pxplanes import ends, errors, program
 from pxplanes.cli import frame
 from pxplanes.errors import Trouble
-from pxplanes.explain import explaining, kinds, list_cures, looks, readings
+from pxplanes.explain import after_end, explaining, kinds, list_cures, looks, readings
 from pxplanes.image import netpbm
 from pxplanes.machine import listings, passes, sessions, states
 from pxplanes.scene import scenes
@@ -33,7 +34,7 @@ def add_options(parser: argparse.ArgumentParser) -> None:
     parser.add_argument("--at", nargs=2, metavar=("X", "Y"), type=frame.whole_number(0, 511), help="the ray of one pixel alone")
     parser.add_argument("--draw", action="store_true", help="draw the picture for the answer, however long that takes")
     parser.add_argument("--fix", action="store_true", help="write the mended text, if it is sure what was meant; otherwise print "
-                        "what it may be, write nothing, and end with 1")
+                        "what it may be, and ask at a terminal, or write nothing and end with 1")
     parser.add_argument("--in-place", action="store_true", help="with --fix: write the text into FILE, keep FILE.orig, and print the changes as a diff")
     parser.add_argument("--diff", action="store_true", help="with --fix: print the changes as a diff, and write nothing")
     parser.add_argument("--cost", action="store_true", help="print the operations and the clocks of a scene or a listing alone")
@@ -110,6 +111,15 @@ class Program(explaining.Judge):
             raise Trouble("the program does not draw it: %s" % note)
         return netpbm.images(output)[1].numbers(), ""
 
+    def faults(self, tail: after_end.Tail, text: bytes) -> Optional[list[str]]:
+        scene = scenes.read(tail.scene)
+        if not self.draw and not program.is_quick(self.clocks * len(tail.lines), scene.width, scene.height, PATIENCE_SECONDS):
+            return None
+        if tail.word == "shadow":
+            return [note for note in [program.answer(self.built, ["shadow"], text)[2]] if note]
+        answers = sessions.held(self.built, tail.scene, [line.partition(b"#")[0] for line in tail.lines])
+        return [line.decode() for lines in answers for line in lines if line.startswith(b"? line ")]
+
     def say(self, line: str) -> None:
         ends.say("pxplanes explain", line)
 
@@ -163,19 +173,21 @@ def fix(path: str, text: bytes, options: argparse.Namespace) -> int:
     other = kinds.cure(text)
     if other:
         raise Trouble(other)
-    mending = readings.mended(text)
     name = name_of(path)
+    mending = after_end.mended(text)
     if not mending.is_whole:
         print_unsure(text, name)
-        return frame.DIFFERS
+        chosen = choice(mending, name) if path != "-" and sys.stdin.isatty() and sys.stderr.isatty() else None
+        if not chosen:
+            print("%s: nothing is written, as it is not sure what was meant" % name, file=sys.stderr)
+            return frame.DIFFERS
+        mending = chosen if text.endswith(b"\n") else chosen._replace(text=chosen.text[:-1])
     for line, said in mending.changes:
         print("%s:%d: %s" % (name, line, said) if line else "%s: %s" % (name, said), file=sys.stderr)
     if options.diff or options.in_place and mending.text != text:
         sys.stdout.write(diff_of(path, text, mending.text))
     if options.in_place and mending.text != text:
-        with open(path + ".orig", "xb") as original:
-            original.write(text)
-        ends.replaced(path, mending.text)
+        replace_and_keep(path, text, mending.text)
     elif not options.diff and not options.in_place:
         sys.stdout.buffer.write(mending.text)
     return frame.SUCCESS
@@ -188,7 +200,34 @@ def print_unsure(text: bytes, name: str) -> None:
         print("%s%s [%s]" % (where, place.message, place.cause), file=sys.stderr)
         for said in [place.cure] if place.cure else place.candidates[:explaining.MOST_CANDIDATES]:
             print(where + ("sure: " if place.cure else "it may be: ") + said, file=sys.stderr)
-    print("%s: nothing is written, as it is not sure what was meant" % name, file=sys.stderr)
+
+
+def choice(mending: readings.Mending, name: str) -> Optional[readings.Mending]:
+    """Asks a person at a terminal what is meant by each mistake that is not sure; None if that is none of the candidates."""
+    while not mending.is_whole:
+        mistake = next(each for each in mending.mistakes if not each.change)
+        found = mistake.candidates[:explaining.MOST_CANDIDATES]
+        for number, each in enumerate(found, 1):
+            print("  %d: %s" % (number, each.sentence), file=sys.stderr)
+        print("%s:%d: which one is meant (1 to %d; nothing for none)? " % (name, mistake.number, len(found)) if found else "", end="",
+              file=sys.stderr, flush=True)
+        said = sys.stdin.readline().strip() if found else ""
+        if said not in map(str, range(1, len(found) + 1)):
+            return None
+        mending = after_end.mended(readings.joined(found[int(said) - 1].applied(scenes.cut_lines(mistake.text))))
+    return mending
+
+
+def replace_and_keep(path: str, old: bytes, new: bytes) -> None:
+    """Writes a file, and keeps its old text as FILE.orig. If one of the two has no room, neither is there."""
+    with open(path + ".orig", "xb") as original:
+        try:
+            original.write(old)
+            original.flush()
+            ends.replaced(path, new)
+        except OSError:
+            os.remove(path + ".orig")
+            raise
 
 
 def name_of(path: str) -> str:

@@ -22,10 +22,11 @@ import traceback
 from typing import IO, Any, NoReturn, Optional, Protocol, Sequence
 
 from pxplanes import ends, errors, program, running
+from pxplanes.cli import program_words
 from pxplanes.errors import Trouble
 
 WORDS = ("view", "explain", "trace", "convert", "compare", "suite", "batch")
-PROGRAM_WORDS = ("render", "colour", "tidy", "plan", "cost", "debug", "sample", "shadow", "tile", "refine", "list", "play")
+PROGRAM_WORDS = tuple(program_words.OWN)
 # Those that write raw pixels, which no terminal shows.
 BINARY_WORDS = ("render", "colour", "shadow", "tile", "refine")
 # What the system answers if no more can be written.
@@ -36,10 +37,7 @@ OF_PIXELS = ("compare", "suite")
 LARGE_MAPS = 1 << 23
 DEBIAN_PYTHON = "/usr/bin/python3"
 SUCCESS, DIFFERS, TROUBLE, INTERRUPTED = 0, 1, 2, 130
-DESCRIPTION = """Draws scenes of convex solids on Pixel-Planes 4, the graphics machine whose frame buffer computes.
-
-The program's own words read a scene and write what docs/SCENES.md says:
-  %s""" % ", ".join(PROGRAM_WORDS)
+DESCRIPTION = "Draws scenes of convex solids on Pixel-Planes 4, the graphics machine whose frame buffer computes."
 
 
 class Word(Protocol):
@@ -86,9 +84,12 @@ def word(name: str) -> Word:
 
 def parser_of(name: str) -> argparse.ArgumentParser:
     """The parser of one word."""
-    module = word(name)
-    parser = Parser(prog="pxplanes " + name, description=module.__doc__, formatter_class=Help, allow_abbrev=False)
-    module.add_options(parser)
+    parser = Parser(prog="pxplanes " + name, formatter_class=Help, allow_abbrev=False)
+    if name in PROGRAM_WORDS:
+        program_words.add_options(parser, name)
+    else:
+        parser.description = word(name).__doc__
+        word(name).add_options(parser)
     return parser
 
 
@@ -101,8 +102,8 @@ def whole_parser() -> argparse.ArgumentParser:
         module = word(name)
         module.add_options(words.add_parser(name, help=module.HELP, description=module.__doc__, formatter_class=Help,
                                             allow_abbrev=False))
-    for name in PROGRAM_WORDS:
-        words.add_parser(name)
+    for name, own in program_words.OWN.items():
+        program_words.add_options(words.add_parser(name, help="writes " + own.writes, formatter_class=Help, allow_abbrev=False), name)
     return parser
 
 
@@ -145,7 +146,10 @@ def run_program(words: list[str]) -> int:
         raise Trouble("no terminal shows raw pixels: send them to a file, or to `pxplanes view -o PNG -`")
     built = program.find(None)
     if built is not None:
-        return subprocess.run([built, *words]).returncode
+        status = subprocess.run([built, *words]).returncode
+        if status == TROUBLE and words and sys.stderr.isatty():
+            parser_of(words[0]).parse_args(words[1:])
+        return status
     try:
         sys.stdout.buffer.write(running.run(sys.stdin.buffer.read(), " ".join(words) or "render"))
         return SUCCESS
@@ -201,6 +205,8 @@ def answered(words: list[str]) -> int:
     if "_ARGCOMPLETE" in os.environ:
         complete(whole_parser())
     if not words or words[0] in PROGRAM_WORDS or os.path.isfile(words[0]):
+        if words and {"-h", "--help"}.intersection(words[1:]):
+            parsed(parser_of(words[0] if words[0] in PROGRAM_WORDS else "render"), ["--help"])
         return run_program(words)
     if words[0] not in WORDS:
         parsed(whole_parser(), words)

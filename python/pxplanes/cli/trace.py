@@ -80,12 +80,15 @@ def complete_lines() -> None:
 
 
 def print_answers(text: bytes, commands: list[bytes]) -> None:
-    """Prints each command line and its answer; the text after `#` is a comment."""
+    """Prints each command line and its answer, and why a line has none; the text after `#` is a comment."""
     bare = [command.partition(b"#")[0] for command in commands]
-    for whole, command, lines in zip(commands, bare, listings.held(None, text, bare)):
+    answers = listings.held(None, text, bare)
+    array = (*listings.grid_of(text), listings.is_listing(text))
+    for whole, command, lines in zip(commands, bare, answers):
         is_comment = command != whole and not command.strip()
         for line in [] if is_comment else [b"> " + command, *lines]:
-            print(line.decode("latin-1").rstrip())
+            fault = sessions.fault(command, *array) if line.startswith(b"? line ") else None
+            print(line.decode("latin-1").rstrip() + (": " + str(fault) if fault else ""))
 
 
 def waveforms(text: bytes, options: argparse.Namespace) -> int:

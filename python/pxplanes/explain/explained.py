@@ -10,7 +10,7 @@ from ..errors import OverBudget, Refused
 from ..pictures import check, render
 from ..running import Progress
 from ..scene import rays, scenes
-from . import explaining, kinds, looks, readings
+from . import after_end, explaining, kinds, looks
 
 
 class Explanation(NamedTuple):
@@ -68,7 +68,7 @@ def explain(text: Text, clocks: Optional[int] = None, progress: Optional[Progres
     lines, places = tuple(found.lines), tuple(found.places)
     if found.is_accepted or kinds.cure(data):
         return Explanation(found.is_accepted, lines, None, (), places)
-    mending = readings.mended(data)
+    mending = after_end.mended(data)
     if not mending.is_whole or note_of(mending.text):
         return Explanation(False, lines, None, (), places)
     return Explanation(False, lines, mending.text.decode("utf-8"), tuple(mending.changes), places)

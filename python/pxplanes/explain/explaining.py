@@ -6,7 +6,7 @@ from __future__ import annotations
 import re
 from typing import Any, NamedTuple, Optional, Sequence
 
-from pxplanes.explain import cures, kinds, looks, readings
+from pxplanes.explain import after_end, cures, kinds, looks, readings
 from pxplanes.scene import limits, scenes
 
 WIDE = 76
@@ -32,6 +32,10 @@ class Judge:
     def faces(self, text: bytes, scene: Any) -> tuple[Optional[Sequence[int]], str]:
         """The face numbers of its picture, by rows; or None, and why it was not drawn."""
         return None, ""
+
+    def faults(self, tail: after_end.Tail, text: bytes) -> Optional[list[str]]:
+        """What the command says of the lines after a scene that it does not take, or of the first; None if it is not asked."""
+        return None
 
     def say(self, line: str) -> None:
         """Takes what is to be said of the judge's own reading."""
@@ -83,7 +87,8 @@ def meant(old: bytes, changes: list[readings.Change]) -> str:
 
 def place_of(text: bytes, note: str, known: scenes.Refusal, number: int, mistake: Optional[readings.Mistake], other: Optional[str]) -> Place:
     """A mistake as the answer has it: the program's line, the line of the text with marks, what is expected there, and what to write."""
-    cause, own = readings.cause_of(known), int(note.split(":")[0].split(" ")[-1])
+    is_answer = isinstance(known, after_end.Unanswered)
+    cause, own = (note, number) if is_answer else (readings.cause_of(known), int(note.split(":")[0].split(" ")[-1]))
     lines = scenes.cut_lines(text)
     line = lines[own - 1] if 0 < own <= len(lines) else b""
     start, stop = known.span or (0, 0)
@@ -91,16 +96,16 @@ def place_of(text: bytes, note: str, known: scenes.Refusal, number: int, mistake
     word = "the end of the line" if known.span and start >= len(line.split(b"#")[0].rstrip()) else "'%s'" % line[start:stop].decode("utf-8", "replace")
     changes = ([mistake.change] if mistake.change else mistake.candidates) if mistake else []
     limit = note.rpartition(": ")[2] + " is past a limit"
-    said = SAID.get(cause, limit) if note.startswith("malformed") else limit
+    said = known.said if isinstance(known, after_end.Unanswered) else SAID.get(cause, limit) if note.startswith("malformed") else limit
     said = (said % word if "%s" in said else said) + (meant(line, changes) if known.span else "")
     cure = mistake.change.sentence if mistake and mistake.change else None
     rest = [("expected", known.due), ("limit", known.limit)]
     if cure:
         rest.append(("cure", cure))
     else:
-        rest.append(("hint", other or cures.of(text, known) or known.cure))
+        rest.append(("hint", cures.of(text, known) or known.cure if other is None else other))
         rest += [("candidate", each.sentence) for each in changes[:MOST_CANDIDATES]]
-    shown = [re.sub(r"line \d+", "line %d" % number, note, count=1) if own else note]
+    shown = [re.sub(r"line \d+", "line %d" % number, note, count=1) if own and not is_answer else note]
     shown += (marked(line, known.span) if known.span else []) + ["%s: %s" % each for each in rest if each[1]]
     return Place(number, column, end, said, cause, tuple(shown), cure, tuple(each.sentence for each in changes if not cure))
 
@@ -180,7 +185,33 @@ def own_reading(text: bytes) -> tuple[Any, Optional[scenes.Refusal]]:
 
 
 def answer_about(judge: Judge, text: bytes, name: str = "scene") -> Answer:
-    """The answer about a text, which messages call by this name."""
+    """The answer about a text, which messages call by this name: a scene, and what may come after it."""
+    tail = after_end.cut(text)
+    found = about_scene(judge, tail.scene if tail else text, name)
+    return about_tail(judge, text, tail, found, name) if tail else found
+
+
+def about_tail(judge: Judge, text: bytes, tail: after_end.Tail, found: Answer, name: str) -> Answer:
+    """The answer about a text with lines after its scene, of which this has been found."""
+    need = after_end.memory(tail) if [place.cause for place in found.places] == ["pixel-memory"] else None
+    if need:
+        return Answer(["accepted by `pxplanes shadow` alone, whose pixels have %d memory bits: it needs %d" % (after_end.SHADOW_BITS, need)], True, [])
+    mistakes = [each for each in after_end.mended(text).mistakes if each.number > tail.scene.count(b"\n")]
+    if not found.is_accepted and not (found.places and all(place.cure for place in found.places)):
+        return found
+    after = [place_of(text, str(each.refusal.note), each.refusal, each.number, each, "") for each in mistakes]
+    said = judge.faults(tail, text) if found.is_accepted else None
+    if said is not None and said != [place.shown[0] for place in after][:len(said) if tail.word == "shadow" and said else None]:
+        judge.say("the program reads the lines after `end` in another way")
+    places = found.places + after
+    if places:
+        return Answer(lines_of(places, name), False, places)
+    lines = found.lines[:1] + after_end.notes(tail) + [line for line in found.lines[1:] if line not in after_end.usual(tail)]
+    return found._replace(lines=lines)
+
+
+def about_scene(judge: Judge, text: bytes, name: str) -> Answer:
+    """The answer about the text of a scene alone."""
     scene, known = own_reading(text)
     note = judge.note(text)
     if note.startswith("limit line 0: products") and known is None:

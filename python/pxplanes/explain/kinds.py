@@ -5,9 +5,8 @@ import re
 import struct
 from typing import Optional
 
-from pxplanes.explain import readings
+from pxplanes.explain import after_end, readings
 from pxplanes.image import netpbm
-from pxplanes.scene import scenes
 
 NETPBM = {b"P1": "PBM", b"P2": "PGM", b"P3": "PPM", b"P4": "PBM", b"P5": "PGM", b"P6": "PPM", b"P7": "PAM", b"Pf": "PFM", b"PF": "PFM"}
 OPENSCAD = re.compile(
@@ -81,8 +80,6 @@ def is_hardly_a_scene(data: bytes) -> bool:
     """Whether fewer than half of the lines with words begin as those of a scene do. What may come after `end` is not counted."""
     if data[:2] not in (b"\xff\xfe", b"\xfe\xff") and 20 * data.count(b"\0") > len(data):
         return True
-    firsts = [words[0] for words in map(readings.words_of, readings.plain(data)[0].split(b"\n")) if words]
-    if "end" in firsts:
-        behind = [word.decode() for _, _, words in scenes.BEHIND_END for word in words]
-        firsts = [word for at, word in enumerate(firsts) if at <= firsts.index("end") or word not in behind]
+    tail = after_end.cut(data)
+    firsts = [words[0] for words in map(readings.words_of, readings.plain(tail.scene if tail else data)[0].split(b"\n")) if words]
     return 2 * sum(map(readings.begins_like_a_scene, firsts)) < len(firsts) or not firsts

@@ -5,19 +5,24 @@ A hint is a pair of a heading, LIKELY or LOOK, and a sentence. LIKELY is said wh
 LOOK where a good scene may have it too."""
 from __future__ import annotations
 
+import copy
+import textwrap
 from typing import Any, Callable, Iterable, Iterator, Optional
 
 from pxplanes.scene import rays, texts
-from pxplanes.scene.scenes import Face, Plane, Scene, Solid
+from pxplanes.scene.scenes import Face, Node, Plane, Scene, Solid
 
 Pair = tuple[int, int]
 Hint = tuple[str, str]
 
-# So many planes at pixels are tried in all, for what is taken away in vain.
+# So many planes at pixels are tried in all, for what is taken away in vain; and as many for ^.
 BUDGET = 3000000
+# The letters of an expression in a hint.
+WIDEST = 60
 LIKELY, LOOK = "likely wrong", "worth a look"
 # True of every hole that goes through: `explain` leaves it out.
 NO_BACK = "is never shown: no back of it is where it is taken away"
+NOT_SHOWN = "solid %s is not in the shown expression"
 # The ways out of a picture: columns or rows, which end of them, and the direction.
 WAYS_OUT = (("to the left", "columns", 0, (-1, 0)), ("to the right", "columns", 1, (1, 0)),
             ("above", "rows", 0, (0, -1)), ("below", "rows", 1, (0, 1)))
@@ -225,21 +230,56 @@ def box_of(looked: Look) -> Any:
     return looked.columns and (looked.columns, looked.rows, looked.depths)
 
 
-def apart(scene: Scene, looks: list[Look]) -> set[int]:
-    """The solids that are taken away from what lies apart from them: whole columns, rows or depths are between."""
-    found: set[int] = set()
+def operations(scene: Scene) -> list[tuple[str, list[Node], list[Node]]]:
+    """The sign of each operation of the expression, and its operands, each in postorder."""
+    found: list[tuple[str, list[Node], list[Node]]] = []
+
+    def leaf(at: int) -> list[Node]:
+        return [at]
+
+    def join(sign: str, left: list[Node], right: list[Node]) -> list[Node]:
+        found.append((sign, left, right))
+        return [*left, *right, sign]
+
+    rays.folded(scene.show, leaf, join)
+    return found
+
+
+def hull(show: list[Node], looks: list[Look]) -> Any:
+    """A box around all cells of an operand; None if its solids have none, or that is open."""
+    def leaf(at: int) -> Any:
+        return box_of(looks[at])
 
     def join(sign: str, left: Any, right: Any) -> Any:
-        (box, _), (other, taken) = left, right
-        if sign == "-" and box:
-            found.update(at for at in taken if box_of(looks[at]) and any(
-                one[1] + 1 < two[0] or two[1] + 1 < one[0] for one, two in zip(box, box_of(looks[at]))))
-        joined = box if sign in "-*" or not other else other if not box else tuple(
-            widened(one, *two) for one, two in zip(box, other))
-        return joined, left[1] | taken
+        if sign in "-*" or not left or not right:
+            return left if sign in "-*" else left or right
+        return tuple(widened(one, *other) for one, other in zip(left, right))
 
-    rays.folded(scene.show, lambda at: (box_of(looks[at]), {at}), join)
-    return found
+    return rays.folded(show, leaf, join)
+
+
+def apart(scene: Scene, looks: list[Look]) -> set[int]:
+    """The solids that are taken away from what lies apart from them: whole columns, rows or depths are between."""
+    return {at for sign, left, right in operations(scene) if sign == "-" for at in right if isinstance(at, int) and any(
+        one[1] + 1 < two[0] or two[1] + 1 < one[0] for one, two in zip(hull(left, looks) or (), box_of(looks[at]) or ()))}
+
+
+def without_meeting(scene: Scene, looks: list[Look]) -> list[Hint]:
+    """A hint if the sides of some ^ have cells, and no common one. Every pixel of both boxes is tried, as far as the budget goes."""
+    left_over, found, both = BUDGET, [], copy.copy(scene)
+    planes = sum(3 + len(each.fronts) + len(each.backs) for each in scene.solids)
+    for sign, left, right in operations(scene):
+        boxes = hull(left, looks), hull(right, looks)
+        if sign == "^" and all(boxes):
+            columns, rows, depths = (range(max(one[0], other[0]), min(one[1], other[1]) + 1) for one, other in zip(*boxes))
+            left_over -= len(columns) * len(rows) * planes if depths else 0
+            both.show = [*left, *right, "*"]
+            if not depths or left_over >= 0 and not any(
+                    rays.runs(both, rays.crossings(scene, x, y)) for y in rows for x in columns):
+                both.show[-1] = "^"
+                found.append(texts.expression(both))
+    return [(LOOK, "no cell of the picture is on both sides of ^ in %s%s: + has the same cells" % (
+        textwrap.shorten(found[0], WIDEST, placeholder=" .."), " and in %d more" % (len(found) - 1) if found[1:] else ""))] if found else []
 
 
 def taken_in_vain(scene: Scene, looks: list[Look]) -> Iterator[int]:
@@ -269,7 +309,7 @@ def before_drawing(scene: Scene, looks: list[Look]) -> list[Hint]:
         out.append((LIKELY if index in far else LOOK, "solid %s is taken away, and nothing is nearer or farther by that%s" % (
             scene.solids[index].name, ": it lies apart from what it is taken from" if index in far else "")))
     out += [(LIKELY, each) for each in of_fraction(scene, looks) + without_common(scene, looks)]
-    return out + unbounded(scene, looks)
+    return out + without_meeting(scene, looks) + unbounded(scene, looks)
 
 
 def unbounded(scene: Scene, looks: list[Look]) -> list[Hint]:
@@ -315,7 +355,7 @@ def from_picture(scene: Scene, faces: Any, looks: list[Look]) -> list[Hint]:
         numbers = [solid.near] + [face.number for face in solid.fronts + solid.backs]
         taken_away = (index, False) in used and (index, True) not in used
         if (index, True) not in used and not taken_away:
-            out.append("solid %s is not in the shown expression" % solid.name)
+            out.append(NOT_SHOWN % solid.name)
         elif not looked.why and not seen.intersection(numbers):
             if not taken_away:
                 out.append("solid %s is never shown: others are in front of it, or take it away" % solid.name)
@@ -345,21 +385,13 @@ def of_fraction(scene: Scene, looks: list[Look]) -> list[str]:
 def without_common(scene: Scene, looks: list[Look]) -> list[str]:
     """Pairs of solids that are intersected, and have no common cell by their boxes."""
     out = []
-
-    def join(sign: str, left: Any, right: Any) -> Any:
-        if sign == "*" and isinstance(left, int) and isinstance(right, int):
-            one, other = looks[left], looks[right]
-            if one.columns and other.columns:
-                for what in ("columns", "rows", "depths"):
-                    a, b = getattr(one, what), getattr(other, what)
-                    if a[1] < b[0] or b[1] < a[0]:
-                        out.append("(%s * %s) has no cell: %s has the %s %d to %d, and %s %d to %d" % (
-                            scene.solids[left].name, scene.solids[right].name, scene.solids[left].name, what,
-                            a[0], a[1], scene.solids[right].name, b[0], b[1]))
-                        break
-        return None
-
-    rays.folded(scene.show, lambda at: at, join)
+    for sign, left, right in operations(scene):
+        if sign == "*" and isinstance(left[-1], int) and isinstance(right[-1], int):
+            (one, first), (other, second) = ((scene.solids[at].name, box_of(looks[at])) for at in (left[-1], right[-1]))
+            for what, a, b in zip(("columns", "rows", "depths"), first or (), second or ()):
+                if a[1] < b[0] or b[1] < a[0]:
+                    out.append("(%s * %s) has no cell: %s has the %s %d to %d, and %s %d to %d" % (one, other, one, what, *a, other, *b))
+                    break
     return out
 
 

@@ -121,8 +121,8 @@ def distance(one: str, other: str) -> int:
 
 
 def is_near(one: str, other: str) -> bool:
-    """Whether a word is within one or two keys of another one, of which it has more than half."""
-    return abs(len(one) - len(other)) <= 2 and distance(one, other) <= min(2, (len(other) - 1) // 2)
+    """Whether a word is another one in capitals, or within one or two keys of one of which it has more than half."""
+    return one.lower() == other.lower() or abs(len(one) - len(other)) <= 2 and distance(one, other) <= min(2, (len(other) - 1) // 2)
 
 
 def cut(line: bytes) -> tuple[str, str]:

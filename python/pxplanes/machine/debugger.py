@@ -4,6 +4,7 @@ The answers come from `pxplanes debug`, which runs as long as the debugger does,
 from __future__ import annotations
 
 import bisect
+import difflib
 import subprocess
 from typing import Callable, Iterator, Optional
 
@@ -24,12 +25,13 @@ Looks:
   pixel X Y, field X Y   its memory and registers; the keys of a scene's pixel
   plane AT               a bit of every pixel, as a picture; also enable, carry or latch
   tree LEVEL INDEX, trace    a node of the tree; the last 32 broadcasts
+  at                     the clock, the operation and the microinstruction, as `pxplanes debug` answers
   help, quit"""
 REGISTERS = {"enable": 6, "carry": 8, "latch": 10}
 MOST_ACROSS, MOST_DOWN = 128, 96
 BLOCKS = {(0, 0): " ", (1, 0): "\u2580", (0, 1): "\u2584", (1, 1): "\u2588"}
 NUMBERED = {"step": (0, 1), "back": (0, 1), "macro": (0, 1), "run": (0, 0), "pixel": (2, 2), "field": (2, 2), "tree": (2, 2), "trace": (0, 0),
-            "plane": (1, 1), "watch": (0, 2), "where": (0, 0), "help": (0, 0), "until": (1, 5), "quit": (0, 0)}
+            "at": (0, 0), "plane": (1, 1), "watch": (0, 2), "where": (0, 0), "help": (0, 0), "until": (1, 5), "quit": (0, 0)}
 
 
 class Mistaken(Exception):
@@ -94,9 +96,10 @@ class Debugger:
             return []
         least, most = NUMBERED.get(words[0], (-1, -1))
         if least < 0:
-            return ["%s is no command; `help` lists them" % words[0]]
+            near = difflib.get_close_matches(words[0].lower(), NUMBERED, 1)
+            return ["%s is no command%s; `help` lists them" % (words[0], " (did you mean %s?)" % near[0] if near else "")]
         if not least <= len(words) - 1 <= most or words[0] == "watch" and len(words) == 2:
-            return ["%s takes %s; `help` says which" % (words[0], "%d numbers" % most if least == most else "%d to %d words" % (least, most))]
+            return ["%s takes %s; `help` says which" % (words[0], "%s" % (most or "no") + " number" + "s" * (most != 1) if least == most else "%d to %d words" % (least, most))]
         try:
             return list(self.answered(words))
         except Mistaken as mistake:
@@ -126,12 +129,11 @@ class Debugger:
             elif word in ("step", "back", "until", "run", "macro"):
                 yield from self.moved(self.target(word, numbers))
             else:
-                reply = self.machine.answer(" ".join(words).encode())
-                if reply and reply[0].startswith(b"?"):
-                    raise Mistaken("a listing has no keys" if word == "field" and self.machine.is_listing else
-                                   "there is no such place: the array has %d by %d pixels, and level L of the tree 2^L nodes" % (
-                                       self.machine.wide, self.machine.high))
-                yield from (line.decode("latin-1") for line in reply)
+                line = " ".join(words).encode()
+                fault = sessions.fault(line, self.machine.wide, self.machine.high, self.machine.is_listing)
+                if fault:
+                    raise Mistaken(fault)
+                yield from (said.decode("latin-1") for said in self.machine.answer(line))
 
     def target(self, word: str, numbers: list[int]) -> int:
         """The clock that a move goes to."""

@@ -6,17 +6,16 @@ from __future__ import annotations
 
 import bisect
 import itertools
-import re
 from typing import Callable, Optional, Sequence
 
 from pxplanes import program
 from pxplanes.errors import NoLibrary, Refused, Trouble
 from pxplanes.machine import micros, operations, passes, sessions, states
+from pxplanes.scene import scenes
 
-NUMBER = re.compile(rb"\d{1,18}\Z")
 # The line of a listing that `list` writes that has its first operation.
 FIRST_LINE = 3
-Answer = Optional[list[str]]
+Answer = list[str]
 
 
 def first_word(text: bytes) -> bytes:
@@ -28,6 +27,14 @@ def first_word(text: bytes) -> bytes:
 def is_listing(text: bytes) -> bool:
     """Whether a text is meant as one: the first word of all is that of its header."""
     return first_word(text) == b"pxlist"
+
+
+def grid_of(text: bytes) -> tuple[int, int]:
+    """The columns and rows of the array of a listing or a scene."""
+    if is_listing(text):
+        return 1 << Listing(text).nx, 1 << Listing(text).ny
+    scene = scenes.read(text)
+    return program.grid(scene.width, scene.height)
 
 
 class Listing:
@@ -83,16 +90,12 @@ class Session:
     def answer(self, line: bytes) -> list[bytes]:
         """The lines that answer one, as the program writes them."""
         self.count += 1
+        if sessions.fault(line, 1 << self.listing.nx, 1 << self.listing.ny, is_listing=True):
+            return [b"? line %d" % self.count]
         words = sessions.words_of(line)
         if not words or sessions.is_quit(line):
             return []
-        name, numbers = words[0].decode("latin-1"), words[1:]
-        form = FORMS.get(name)
-        if len(line) <= sessions.LONGEST and form and len(numbers) == form[0] and all(map(NUMBER.match, numbers)):
-            lines = form[1](self, *map(int, numbers))
-            if lines is not None:
-                return [line.encode() for line in lines]
-        return [b"? line %d" % self.count]
+        return [said.encode() for said in ANSWERS[words[0].decode()](self, *map(int, words[1:]))]
 
     def state(self) -> states.State:
         if self.seen is None or self.seen.clock != self.now:
@@ -127,15 +130,11 @@ class Session:
         return ["at %d of %d %s" % (self.now, self.listing.clocks, rest)]
 
     def pixel(self, x: int, y: int) -> Answer:
-        if x >= 1 << self.listing.nx or y >= 1 << self.listing.ny:
-            return None
         found = self.state().pixel(x, y)
         registers = found.enable, found.carry, found.latch, found.leaf
         return ["pixel %d %d m %s e %d k %d l %d t %d" % (x, y, found.memory, *registers)]
 
     def tree(self, level: int, index: int) -> Answer:
-        if not 1 <= level <= self.listing.nx + self.listing.ny or index >= 1 << level:
-            return None
         return ["tree %d %d out %d carry %d" % ((level, index) + self.state().node(level, index))]
 
     def trace(self) -> Answer:
@@ -144,11 +143,10 @@ class Session:
         return ["%d: %s" % pair for pair in enumerate(map(str, made), first)]
 
 
-# Of each line how many numbers it has, and what answers it.
-FORMS: dict[str, tuple[int, Callable[..., Answer]]] = {
-    "step": (1, Session.step), "macro": (1, Session.macro), "run": (0, Session.run), "until": (1, Session.until),
-    "back": (1, Session.back), "at": (0, Session.at), "pixel": (2, Session.pixel), "tree": (2, Session.tree),
-    "trace": (0, Session.trace)}
+# What answers each line.
+ANSWERS: dict[str, Callable[..., Answer]] = {
+    "step": Session.step, "macro": Session.macro, "run": Session.run, "until": Session.until, "back": Session.back, "at": Session.at,
+    "pixel": Session.pixel, "tree": Session.tree, "trace": Session.trace}
 
 
 def held(path: Optional[str], text: bytes, commands: Sequence[bytes]) -> list[list[bytes]]:
