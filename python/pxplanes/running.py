@@ -4,6 +4,7 @@ from __future__ import annotations
 
 import collections
 import contextlib
+import os
 import queue
 import re
 import threading
@@ -22,6 +23,29 @@ MANY, LOOK = 10000, 0.1
 ROOM = 2 * (3 * 512 * 512 + 20)
 # Commands that draw nothing, and take milliseconds.
 QUICK = (["cost"], ["plan"], ["sample"], ["tidy"])
+
+
+# Threads that have no work, each by the queue where it waits. They are kept for later calls, and end with the process.
+IDLE: list[queue.SimpleQueue[Callable[[], None]]] = []
+if hasattr(os, "register_at_fork"):
+    os.register_at_fork(after_in_child=IDLE.clear)
+
+
+def begin(work: Callable[[], None]) -> None:
+    """Does some work, which raises nothing, in a thread that is kept, or in a new one."""
+    try:
+        waits = IDLE.pop()
+    except IndexError:
+        waits = queue.SimpleQueue()
+        threading.Thread(target=serve, args=(waits,), daemon=True).start()
+    waits.put(work)
+
+
+def serve(waits: queue.SimpleQueue[Callable[[], None]]) -> None:
+    """What a kept thread does."""
+    while True:
+        waits.get()()
+        IDLE.append(waits)
 
 
 def gathered(calls: Sequence[Callable[[], T]], threads: int) -> Generator[Optional[T], None, None]:
@@ -44,7 +68,7 @@ def gathered(calls: Sequence[Callable[[], T]], threads: int) -> Generator[Option
 
     try:
         for _ in range(min(threads, len(calls))):
-            threading.Thread(target=work, daemon=True).start()
+            begin(work)
         left = len(calls)
         while left:
             try:

@@ -6,6 +6,8 @@ import os
 import pickle
 import random
 import resource
+import signal
+import threading
 
 import pytest
 
@@ -99,6 +101,18 @@ def test_memory_stays_flat():
             pxplanes.run(FIRST, "tile %d 7" % (1 + at % 90))
             pxplanes.render(FIRST, threads=2, progress=lambda share: None)
     assert resource.getrusage(resource.RUSAGE_SELF).ru_maxrss - before < 2048
+
+
+def test_threads_are_kept_and_a_forked_child_has_its_own():
+    due, before = pxplanes.render(FIRST), threading.active_count()
+    for _ in range(200):
+        assert pxplanes.render(FIRST, threads=3) == due
+    assert threading.active_count() - before <= 2 * 3
+    child = os.fork()
+    if child == 0:
+        signal.alarm(100)
+        os._exit(int(pxplanes.render(FIRST, threads=3) != due))
+    assert os.waitpid(child, 0)[1] == 0
 
 
 def test_pictures_in_the_callers_arrays():
