@@ -204,6 +204,8 @@ def taken(out: Out, width: int, height: int) -> tuple[Any, Any]:
     found = [getattr(each, "shape", type(each).__name__) for each in out] if isinstance(out, (tuple, list)) else type(out).__name__
     if found != [(height, width)] * 2:
         raise ValueError("out has two arrays of shape (%d, %d), and not %s" % (height, width, found))
+    if numpy is not None and numpy.shares_memory(*out):
+        raise ValueError("the arrays of out overlap")
     return out
 
 

@@ -194,8 +194,13 @@ def test_pictures_in_the_callers_arrays():
     one = numpy.zeros((33, 48), numpy.uint32)
     rows_in_one = numpy.lib.stride_tricks.as_strided(one, (32, 48), (0, 4))
     for first, second in (numpy.zeros((32, 48), numpy.uint8), faces[1:33, 1:49]), (one[:32], one[1:]), (rows_in_one, due.faces.copy()):
-        with pytest.raises(ValueError, match="overlap, or their type is too small"):
+        with pytest.raises(ValueError, match="arrays of out overlap"):
             pxplanes.render(FIRST, out=(first, second))
+    house, rows = pxplanes.from_file(os.path.join(support.TOP, "gallery", "house.scene")), numpy.zeros((192, 128), numpy.uint32)
+    with pytest.raises(ValueError, match="arrays of out overlap"):
+        pxplanes.render(house, threads=2, out=(rows[:128], rows[64:]))
+    woven = numpy.zeros((128, 128, 2), numpy.uint32)
+    assert pxplanes.render(house, threads=2, out=(woven[..., 0], woven[..., 1])).maps() == pxplanes.run(house)
     with pytest.raises(ValueError, match="too small for the numbers"):
         pxplanes.colour(FIRST, out=numpy.zeros((32, 48, 3), numpy.int8))
     with pytest.raises(TypeError, match="no ndarray of 2 bytes each"):
