@@ -3,7 +3,6 @@ from __future__ import annotations
 
 import ctypes
 import importlib
-import math
 import struct
 from typing import Any, List, Optional, Sequence
 
@@ -33,11 +32,6 @@ class Buffer:
     def shaped(self, *shape: int) -> Any:
         """Its elements in rows: an array of this shape."""
         return shaped(memoryview(self.room), self.kind, shape)
-
-
-def empty(kind: str, *shape: int) -> Any:
-    """An array of zeros, whose memory NumPy takes where it is first written to."""
-    return numpy.zeros(shape, kind) if numpy is not None else shaped(memoryview(bytearray(4 * math.prod(shape))), kind, shape)
 
 
 def shaped(flat: memoryview, kind: str, shape: Sequence[int]) -> Any:

@@ -8,7 +8,7 @@ import operator
 import os
 from typing import TYPE_CHECKING, Any, Callable, NamedTuple, Optional, Sequence, Tuple, Union
 
-from .arrays import Buffer, empty, numpy, put, rows, shaped
+from .arrays import Buffer, numpy, put, rows, shaped
 from .calls import LONGEST_NAME, FoundFace, Text, asked, content, word_of
 from .errors import OverBudget, Refused
 from .image import netpbm
@@ -199,8 +199,11 @@ def drawn(text: Text, windows: Sequence[Window], size: tuple[int, int], out: Out
 
 def taken(out: Out, width: int, height: int) -> tuple[Any, Any]:
     """The two arrays that a picture is written to."""
+    if out is None and numpy is not None:
+        # NumPy takes their memory where it is first written to.
+        return numpy.zeros((height, width), numpy.uint32), numpy.zeros((height, width), numpy.uint32)
     if out is None:
-        return empty("I", height, width), empty("I", height, width)
+        return Buffer("I", width * height).shaped(height, width), Buffer("I", width * height).shaped(height, width)
     found = [getattr(each, "shape", type(each).__name__) for each in out] if isinstance(out, (tuple, list)) else type(out).__name__
     if found != [(height, width)] * 2:
         raise ValueError("out has two arrays of shape (%d, %d), and not %s" % (height, width, found))
