@@ -1,5 +1,7 @@
+/// <reference lib="dom" />
+
 /** A scene or a listing: a string, or the bytes of one. Another kind of array is refused as a TypeError. */
-export type Text = string | Uint8Array | Uint8ClampedArray | Int8Array | ArrayBuffer | SharedArrayBuffer;
+export type Text = string | Uint8Array | Uint8ClampedArray | Int8Array | ((ArrayBuffer | SharedArrayBuffer) & { BYTES_PER_ELEMENT?: undefined });
 
 /** A whole number from 0 on; another one is refused as a RangeError, which names it. */
 export type Whole = number | bigint;

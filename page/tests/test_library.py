@@ -3,6 +3,7 @@ import functools
 import http.server
 import json
 import os
+import re
 import shutil
 import subprocess
 import tarfile
@@ -80,6 +81,33 @@ def test_the_types_name_what_the_module_exports(place: Path) -> None:
         assert any("export %s %s" % (kind, name) in types for kind in ("class", "function", "declare const", "const")), name
 
 
+# What TypeScript says of each line is worked out by hand; the numbers are its own for an argument of a wrong type, and so on.
+TYPED = """import {load, Refused, type Picture, type Text} from "pxplanes";
+const px = await load(), scene: Text = "pxscene 1", picture: Picture = px.render(scene);
+const floats: Float32Array = px.window(scene, 0n, 1, 2, 3, {isFloat: true}).depths, image: ImageData = px.imageData(scene);
+const words: Uint32Array = px.clocks(px.state(scene, 5n), px.packed(scene, 0, 3)), kind: "near" | "front" | "back" = px.face(scene, 3).kind;
+for (const text of [new ArrayBuffer(4), new SharedArrayBuffer(4), new Int8Array(4), new Uint8Array(4).buffer]) px.check(text);
+try { px.check(scene); } catch (error) { if (error instanceof Refused) floats[0] = error.line; }
+"""
+WRONG_TYPES = [("px.render(new Uint16Array(4))", 2345), ("px.render(new DataView(new ArrayBuffer(4)))", 2345), ("px.render(5)", 2345),
+               ("const name: string = px.check('').width", 2322), ("px.window('', 1, 2)", 2554), ("px.state('', '3')", 2345),
+               ("px.render('', {isFloat: 'yes'})", 2769), ("px.paint('')", 2339)]
+
+
+@pytest.mark.skipif(shutil.which("tsc") is None, reason="there is no tsc; Debian's node-typescript has it")
+@pytest.mark.parametrize("words", ["--module nodenext --moduleResolution nodenext", "--module es2022 --moduleResolution node"])
+def test_typescript_finds_the_types(place: Path, words: str) -> None:
+    def said(lines: str) -> list[tuple[str, str]]:
+        (place / "typed.mts").write_text(lines)
+        options = "--noEmit --strict --target es2022 --lib es2022 " + words
+        run = subprocess.run(["tsc", *options.split(), "typed.mts"], cwd=place, capture_output=True, text=True)
+        return re.findall(r"^(\S+)\(.*error TS(\d+)", run.stdout, re.MULTILINE)
+
+    assert said(TYPED) == []
+    wrong = "import {load} from 'pxplanes';\nconst px = await load();\n" + ";\n".join(line for line, _ in WRONG_TYPES)
+    assert said(wrong) == [("typed.mts", str(number)) for _, number in WRONG_TYPES]
+
+
 def test_a_package_in_node(place: Path) -> None:
     (place / "in_node.mjs").write_text('import {load} from "pxplanes";\nimport {readFileSync} from "node:fs";' + SAID +
                                        'console.log(await said(undefined, readFileSync("first.scene", "utf8")));')
@@ -155,7 +183,7 @@ def called(place: Path, wasm: bytes, lines: str) -> str:
     head = """import {readFileSync} from "node:fs";
 const {load} = await import(%r), px = await load(readFileSync("pxplanes.wasm")), text = readFileSync(%r, "utf8");
 """
-    return node("--input-type=module", "-e", head % ("file://" + web_page.GLUE, FIRST) + lines, cwd=place)
+    return node("--expose-gc", "--input-type=module", "-e", head % ("file://" + web_page.GLUE, FIRST) + lines, cwd=place)
 
 
 def test_windows_and_forms(tmp_path: Path, wasm: bytes) -> None:
@@ -179,12 +207,18 @@ for (const call of [() => px.face(text, 11), () => px.window(text, 0, 0, 513, 1)
 
 
 def test_a_hundred_thousand_renders_take_no_more_memory(tmp_path: Path, wasm: bytes) -> None:
+    """After 1,000 and after 100,000: the module's memory is the same, the engine's within 1 MiB, and the process's within 8."""
     lines = """
 const small = "pxscene 1\\npicture 4 2\\ndepth 4\\nsolid a 1 2 3\\nfront 1 0 0\\nback 0 0 9\\nshow a\\nend\\n";
-let before = 0;
-for (let at = 0; at < 100000; at++) {
+const held = [];
+for (let at = 1; at <= 100000; at++) {
   px.render(at % 100 ? small : text);
-  if (at === 100) before = px.bytes;
+  if (at === 1000 || at === 100000) {
+    gc();
+    const {rss, heapUsed, arrayBuffers} = process.memoryUsage();
+    held.push([px.bytes, heapUsed + arrayBuffers, rss]);
+  }
 }
-console.log(before > 0 && px.bytes === before);"""
-    assert called(tmp_path, wasm, lines) == "true"
+const [module, engine, whole] = held[1].map((now, at) => now - held[0][at]);
+console.log(module, engine < 2 ** 20 || engine, whole < 2 ** 23 || whole);"""
+    assert called(tmp_path, wasm, lines) == "0 true true"

@@ -50,7 +50,7 @@ def tile(text: Text, width: int, height: int, clocks: Optional[int] = None, prog
     (docs/PICTURE.md, "Tiles"), by so many threads.
 
     Raises as `check` does of any tile, `Limit` of `tiles`, and, before anything is drawn, `OverBudget` if all tiles
-    together take more than so many clocks. `progress` and `out` are as in `render`, with tiles as strips.
+    together take more than so many clocks. `progress` and `out` are as in `render`, with tiles as windows.
 
     >>> int(pxplanes.tile(text, 130, 70).depths[16, 24])
     320

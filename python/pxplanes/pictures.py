@@ -12,7 +12,7 @@ from .arrays import Buffer, numpy, put, rows, shaped
 from .calls import LONGEST_NAME, FoundFace, Text, asked, content, word_of
 from .errors import OverBudget, Refused
 from .image import netpbm
-from .running import MANY, Progress, done, filled, gathered, heard, run
+from .running import MANY, Progress, done, filled, gathered, heard
 from .scene.limits import MAX_PICTURE_SIZE, MAX_WIDE_PICTURE_SIZE
 
 Out = Optional[Tuple[Any, Any]]
@@ -25,7 +25,7 @@ if TYPE_CHECKING:
 
     from .compare.comparing import Comparison
 
-# Rows of a strip: so many that strips together take no longer than the whole.
+# Rows of a window: so many that all windows, each half as wide as the picture, take no more of a processor than the whole.
 STRIP = 64
 KINDS_OF_FACES = ("near", "front", "back")
 
@@ -131,13 +131,13 @@ def render(text: Text, clocks: Optional[int] = None, progress: Optional[Progress
     """The depths and the faces of a scene. Raises as `check` does, and `OverBudget`, before anything is drawn, where it
     takes more than so many `clocks`.
 
-    A picture that takes long, or has `progress`, is drawn in strips by so many `threads`. `progress` is called with the
-    share that is drawn, from 0 to 1, after each strip and ten times a second. What it raises, and Ctrl-C, end the call
-    within a second: no other strip begins, and one under way ends in its thread.
+    A picture that takes long, or has `progress`, is drawn in windows by so many `threads`. `progress` is called with the
+    share that is drawn, from 0 to 1, after each window and ten times a second. What it raises, and Ctrl-C, end the call
+    within a second: no other window begins, and one under way ends in its thread.
 
     `out` is two arrays of NumPy for depths and faces, of shape (height, width) and any numbers and strides: views of
     larger ones, `float32`, or `[::-1]` for rows from the bottom. The picture has these; after an error they may have
-    some strips.
+    some windows.
 
     >>> picture = pxplanes.render(text)
     >>> int(picture.depths[16, 24]), int(picture.faces[16, 24])
@@ -145,7 +145,7 @@ def render(text: Text, clocks: Optional[int] = None, progress: Optional[Progress
     """
     judges, threads = list[Callable[[], Cost]](), counted(threads)
     if threads > 1 and clocks is None:
-        # To plan the whole takes about as long as to draw a strip: one thread checks the text while others draw.
+        # To plan the whole takes about as long as to draw a window: one thread checks the text while others draw.
         size, judges = size_of(text), [functools.partial(check, text)]
     else:
         due = check(text)
@@ -154,9 +154,9 @@ def render(text: Text, clocks: Optional[int] = None, progress: Optional[Progress
         if due.clocks < MANY and progress is None:
             return drawn(text, [(0, 0, *size)], size, out)
     try:
-        return drawn(text, strips(*size, threads), size, out, threads, progress, judges)
+        return drawn(text, windows_of(*size), size, out, threads, progress, judges)
     except Refused:
-        # The text is; or a plane's constant is past its limit in a lower row, where the whole picture can be drawn.
+        # The text is; or a plane's constant is past its limit in a window, where the whole picture can be drawn.
         check(text)
         return drawn(text, [(0, 0, *size)], size, out, 1, progress)
 
@@ -170,15 +170,15 @@ def counted(threads: int) -> int:
 
 def size_of(text: Text) -> tuple[int, int]:
     """The columns and rows of a scene. Raises as `tidy` does."""
-    _, picture, *_ = run(text, "tidy").splitlines()
-    _, width, height = picture.split()
-    return int(width), int(height)
+    _, found = asked("face", text, 1, None, 0, ctypes.byref(FoundFace()))
+    return found.width, found.height
 
 
-def strips(width: int, height: int, threads: int) -> list[Window]:
-    """The windows (x, y, width, height) of a picture that so many threads share alike."""
-    rows_of_each = -(-height // (threads * -(-height // (threads * STRIP))))
-    return [(0, y, width, min(rows_of_each, height - y)) for y in range(0, height, rows_of_each)]
+def windows_of(width: int, height: int) -> list[Window]:
+    """The windows (x, y, width, height) that a picture is cut to."""
+    wide = -(-width // 2)
+    return [(x, y, min(wide, width - x), min(STRIP, height - y))
+            for y in range(0, height, STRIP) for x in range(0, width, wide)]
 
 
 def drawn(text: Text, windows: Sequence[Window], size: tuple[int, int], out: Out,
@@ -199,11 +199,16 @@ def drawn(text: Text, windows: Sequence[Window], size: tuple[int, int], out: Out
 
 def taken(out: Out, width: int, height: int) -> tuple[Any, Any]:
     """The two arrays that a picture is written to."""
+    if out is None and numpy is not None:
+        # NumPy takes their memory where it is first written to.
+        return numpy.zeros((height, width), numpy.uint32), numpy.zeros((height, width), numpy.uint32)
     if out is None:
         return Buffer("I", width * height).shaped(height, width), Buffer("I", width * height).shaped(height, width)
     found = [getattr(each, "shape", type(each).__name__) for each in out] if isinstance(out, (tuple, list)) else type(out).__name__
     if found != [(height, width)] * 2:
         raise ValueError("out has two arrays of shape (%d, %d), and not %s" % (height, width, found))
+    if numpy is not None and numpy.shares_memory(*out):
+        raise ValueError("the arrays of out overlap")
     return out
 
 

@@ -4,6 +4,7 @@ from __future__ import annotations
 
 import collections
 import contextlib
+import os
 import queue
 import re
 import threading
@@ -22,6 +23,31 @@ MANY, LOOK = 10000, 0.1
 ROOM = 2 * (3 * 512 * 512 + 20)
 # Commands that draw nothing, and take milliseconds.
 QUICK = (["cost"], ["plan"], ["sample"], ["tidy"])
+# The buffer of an output that no call uses now. One call at a time takes it, and gives it back, larger if it had to be.
+KEPT: dict[str, Optional[Buffer]] = {}
+
+
+# Threads that have no work, each by the queue where it waits. They are kept for later calls, and end with the process.
+IDLE: list[queue.SimpleQueue[Callable[[], None]]] = []
+if hasattr(os, "register_at_fork"):
+    os.register_at_fork(after_in_child=IDLE.clear)
+
+
+def begin(work: Callable[[], None]) -> None:
+    """Does some work, which raises nothing, in a thread that is kept, or in a new one."""
+    try:
+        waits = IDLE.pop()
+    except IndexError:
+        waits = queue.SimpleQueue()
+        threading.Thread(target=serve, args=(waits,), daemon=True).start()
+    waits.put(work)
+
+
+def serve(waits: queue.SimpleQueue[Callable[[], None]]) -> None:
+    """What a kept thread does."""
+    while True:
+        waits.get()()
+        IDLE.append(waits)
 
 
 def gathered(calls: Sequence[Callable[[], T]], threads: int) -> Generator[Optional[T], None, None]:
@@ -44,7 +70,7 @@ def gathered(calls: Sequence[Callable[[], T]], threads: int) -> Generator[Option
 
     try:
         for _ in range(min(threads, len(calls))):
-            threading.Thread(target=work, daemon=True).start()
+            begin(work)
         left = len(calls)
         while left:
             try:
@@ -103,12 +129,14 @@ def run(text: Text, words: str = "render", progress: Optional[Progress] = None) 
     """
     if not isinstance(words, str):
         raise TypeError("the words of a command are a str, and no %s" % type(words).__name__)
-    given, status = words.encode(), NO_ROOM
-    wide = re.fullmatch(r" *tile +([1-9][0-9]{0,3}) +([1-9][0-9]{0,3}) *", words)
-    room = 6 * int(wide[1]) * int(wide[2]) + 40 if wide else ROOM
+    given, wide = words.encode(), re.fullmatch(r" *tile +([1-9][0-9]{0,3}) +([1-9][0-9]{0,3}) *", words)
+    clocks, status = 0 if words.split()[:1] in QUICK else MANY, NO_ROOM
+    out = Buffer("B", 6 * int(wide[1]) * int(wide[2]) + 40) if wide else KEPT.pop("out", None) or Buffer("B", ROOM)
     while status == NO_ROOM:
-        out = Buffer("B", room)
-        clocks = 0 if words.split()[:1] in QUICK else MANY
         status, found = done("run", text, (given, len(given)), [out], clocks=clocks, progress=progress)
-        room = found.room
-    return bytes(memoryview(out.room)[:room])
+        if status == NO_ROOM:
+            out = Buffer("B", found.room)
+    written = bytes(memoryview(out.room)[:found.room])
+    if not wide:
+        KEPT["out"] = out
+    return written

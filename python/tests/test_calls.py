@@ -1,4 +1,5 @@
 """The calls of the library from Python: their examples, and arguments of each wrong kind in each place."""
+import concurrent.futures
 import doctest
 import glob
 import importlib
@@ -6,11 +7,17 @@ import os
 import pickle
 import random
 import resource
+import shutil
+import signal
+import subprocess
+import sysconfig
+import threading
 
 import pytest
 
 import support
 import pxplanes
+from pxplanes import running
 from pxplanes.scene import scenes
 
 FIRST = pxplanes.from_file(os.path.join(support.TOP, "docs", "scenes", "first.scene"))
@@ -101,6 +108,66 @@ def test_memory_stays_flat():
     assert resource.getrusage(resource.RUSAGE_SELF).ru_maxrss - before < 2048
 
 
+def test_runs_share_a_buffer_and_keep_their_answers(monkeypatch):
+    """A listing of more than the first room makes the kept buffer grow; an answer stays, whatever comes after it."""
+    monkeypatch.setattr(running, "ROOM", 1000)
+    monkeypatch.setattr(running, "KEPT", {})
+    words = ["list", "tidy", "cost", "list", "tile 70 40", "sample 3", "plan"]
+    house = pxplanes.from_file(os.path.join(support.TOP, "gallery", "pawn.scene"))
+    with concurrent.futures.ThreadPoolExecutor(4) as pool:
+        answers = list(pool.map(lambda each: pxplanes.run(*each), [(text, word) for text in (house, FIRST) for word in words] * 3))
+    assert answers[:14] * 3 == answers and answers[0] == answers[3]
+    assert answers[1] == pxplanes.tidy(house).encode() and answers[8] == pxplanes.tidy(FIRST).encode() != answers[1]
+    pxplanes.run(house, "list")
+    assert running.KEPT["out"].count >= len(answers[0]) > running.ROOM and pxplanes.run(FIRST, "sample 3") == answers[12]
+
+
+def test_threads_are_kept_and_a_forked_child_has_its_own():
+    due, before = pxplanes.render(FIRST), threading.active_count()
+    for _ in range(200):
+        assert pxplanes.render(FIRST, threads=3) == due
+    assert threading.active_count() - before <= 2 * 3
+    child = os.fork()
+    if child == 0:
+        signal.alarm(100)
+        os._exit(int(pxplanes.render(FIRST, threads=3) != due))
+    assert os.waitpid(child, 0)[1] == 0
+
+
+# A program that has Python inside, begins it twice, and runs the lines in its first word by both.
+HOST = r"""
+#include <Python.h>
+int main(int count, char **words)
+{
+    for (int round = 0; round < 2; round++) {
+        Py_Initialize();
+        if (PyRun_SimpleString(words[count - 1]) || Py_FinalizeEx())
+            return 1;
+    }
+    return 0;
+}
+"""
+INSIDE = """import sys; sys.path[:0] = ['python']
+import pxplanes
+text, shares = pxplanes.from_file('gallery/house.scene'), []
+due = pxplanes.run(text)
+print(pxplanes.render(text, threads=4, progress=shares.append).maps() == due == pxplanes.run(text, progress=shares.append), shares[-1])
+"""
+
+
+def test_an_interpreter_in_another_program(tmp_path):
+    include, library = sysconfig.get_path("include"), sysconfig.get_config_var("LIBDIR")
+    if shutil.which("gcc") is None or not os.path.exists(os.path.join(include, "Python.h")):
+        pytest.skip("there is no gcc, or no Python.h")
+    (tmp_path / "host.c").write_text(HOST)
+    name = "python" + sysconfig.get_config_var("LDVERSION")
+    subprocess.run(["gcc", "-I" + include, "host.c", "-L" + library, "-Wl,-rpath," + library, "-l" + name, "-o", "host"], cwd=tmp_path, check=True)
+    # (without NumPy, which warns if it begins twice in one process)
+    lines = "import sys; sys.modules['numpy'] = None\n" + INSIDE
+    run = subprocess.run([str(tmp_path / "host"), lines], cwd=support.TOP, capture_output=True, text=True)
+    assert (run.returncode, run.stdout) == (0, "True 1.0\n" * 2), run.stderr
+
+
 def test_pictures_in_the_callers_arrays():
     numpy = pytest.importorskip("numpy")
     due, colours = pxplanes.render(FIRST), pxplanes.colour(FIRST)
@@ -127,8 +194,13 @@ def test_pictures_in_the_callers_arrays():
     one = numpy.zeros((33, 48), numpy.uint32)
     rows_in_one = numpy.lib.stride_tricks.as_strided(one, (32, 48), (0, 4))
     for first, second in (numpy.zeros((32, 48), numpy.uint8), faces[1:33, 1:49]), (one[:32], one[1:]), (rows_in_one, due.faces.copy()):
-        with pytest.raises(ValueError, match="overlap, or their type is too small"):
+        with pytest.raises(ValueError, match="arrays of out overlap"):
             pxplanes.render(FIRST, out=(first, second))
+    house, rows = pxplanes.from_file(os.path.join(support.TOP, "gallery", "house.scene")), numpy.zeros((192, 128), numpy.uint32)
+    with pytest.raises(ValueError, match="arrays of out overlap"):
+        pxplanes.render(house, threads=2, out=(rows[:128], rows[64:]))
+    woven = numpy.zeros((128, 128, 2), numpy.uint32)
+    assert pxplanes.render(house, threads=2, out=(woven[..., 0], woven[..., 1])).maps() == pxplanes.run(house)
     with pytest.raises(ValueError, match="too small for the numbers"):
         pxplanes.colour(FIRST, out=numpy.zeros((32, 48, 3), numpy.int8))
     with pytest.raises(TypeError, match="no ndarray of 2 bytes each"):

@@ -235,10 +235,8 @@ def micros(text: Text, first: int, count: int) -> list[Micro]:
     'hold enable-all'
     """
     first, count = operator.index(first), operator.index(count)
-    if not (0 <= first and 0 <= count and first + count < ENDLESS):
+    if not (0 <= first and 0 <= count and first + count <= clocks_of(text)):
         raise NoClock(clocks_of(text))
-    if first + count > (clocks := clocks_of(text)):
-        raise NoClock(clocks)
     room = Buffer("Q", count)
     done("micros", text, (first,), [room], clocks=first + count)
     return [micro for number in room.numbers if (micro := unpacked(number)) is not None]

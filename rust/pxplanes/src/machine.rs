@@ -50,17 +50,10 @@ impl State {
     /// Makes a clock for each of these microinstructions, packed as [`micros`] gives them. After an error nothing has changed.
     pub fn clock(&mut self, micros: &[u64]) -> Result<()> {
         let mut found = sys::Found::default();
-        let status = unsafe {
-            sys::pxplanes_clocks(
-                self.words.as_mut_ptr(),
-                self.words.len(),
-                self.moment.grid_width,
-                self.moment.grid_height,
-                micros.as_ptr(),
-                micros.len(),
-                &mut found,
-            )
-        };
+        let (len, words, sys::Moment { grid_width, grid_height, .. }) =
+            (self.words.len(), self.words.as_mut_ptr(), self.moment);
+        let (micros, count) = (micros.as_ptr(), micros.len());
+        let status = unsafe { sys::pxplanes_clocks(words, len, grid_width, grid_height, micros, count, &mut found) };
         ended(status, &found)
     }
 }

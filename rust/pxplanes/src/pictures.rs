@@ -81,15 +81,8 @@ pub fn check(text: impl AsRef<[u8]>) -> Result<Cost> {
 pub fn render(text: impl AsRef<[u8]>) -> Result<Picture> {
     let text = text.as_ref();
     let (found, [depths, faces]) = filled(|[depths, faces], found| unsafe {
-        sys::pxplanes_render(
-            text.as_ptr(),
-            text.len(),
-            depths.as_mut_ptr(),
-            depths.len(),
-            faces.as_mut_ptr(),
-            faces.len(),
-            found,
-        )
+        let (room, depths, faces) = (depths.len(), depths.as_mut_ptr(), faces.as_mut_ptr());
+        sys::pxplanes_render(text.as_ptr(), text.len(), depths, room, faces, room, found)
     })?;
     Ok(Picture { width: found.width, height: found.height, depths, faces })
 }
@@ -99,19 +92,8 @@ pub fn render(text: impl AsRef<[u8]>) -> Result<Picture> {
 pub fn window(text: impl AsRef<[u8]>, x: u32, y: u32, width: u32, height: u32) -> Result<Picture> {
     let text = text.as_ref();
     let (_, [depths, faces]) = filled(|[depths, faces], found| unsafe {
-        sys::pxplanes_window(
-            text.as_ptr(),
-            text.len(),
-            x,
-            y,
-            width,
-            height,
-            depths.as_mut_ptr(),
-            depths.len(),
-            faces.as_mut_ptr(),
-            faces.len(),
-            found,
-        )
+        let (room, depths, faces) = (depths.len(), depths.as_mut_ptr(), faces.as_mut_ptr());
+        sys::pxplanes_window(text.as_ptr(), text.len(), x, y, width, height, depths, room, faces, room, found)
     })?;
     Ok(Picture { width, height, depths, faces })
 }
