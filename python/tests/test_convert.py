@@ -140,6 +140,17 @@ def test_gltf_has_its_buffer_in_it_or_beside_it(tmp_path):
         mesh_files.read("gltf", content)
 
 
+@pytest.mark.parametrize("more, why", [
+    ({"asset": {"version": "1.0"}}, "glTF 1.0, and 2.0 is read"), ({"asset": {}}, "glTF 1.0, and 2.0 is read"),
+    ({"extensionsRequired": ["KHR_materials_unlit", "KHR_draco_mesh_compression"]}, "KHR_draco_mesh_compression, which")])
+def test_gltf_of_another_version_or_packed_is_refused_as_that(more, why):
+    content = gltf("data:application/octet-stream;base64,%s")[0]
+    assert len(mesh_files.read("gltf", json.dumps({**json.loads(content), "extensionsRequired": [
+        "KHR_materials_unlit"]}).encode())[1]) == 4
+    with pytest.raises(Trouble, match=why):
+        mesh_files.read("gltf", json.dumps({**json.loads(content), **more}).encode())
+
+
 def test_gltf_places_its_nodes_and_reads_strips():
     # A quarter turn about the file's y axis takes z to x and x to -z; then twice as large in x, and 1 metre up.
     half = 0.5 ** 0.5
