@@ -33,6 +33,7 @@ SMALLEST = 64        # pixels on a side of a portrait
 NONE, JOBS = -1, 2
 NEARER = 0.05        # cells by which a column may be nearer than what is seen
 FILM = 1e-7          # cells; what is thinner is nothing
+SLIM = 1e-4          # of a mesh's extent: a facet may pass through itself by less, as by its digits
 LIGHTEST, DULL = np.array((-0.42, -0.53, -0.74)), 0.35
 
 
@@ -86,30 +87,36 @@ def outwards(triangles: Array) -> Array:
 
 
 def triangulated(points: Array, sides: Sequence[Sequence[int]]) -> Array:
-    """The triangles of facets; one that is not convex is cut by its ears."""
-    numbers = []
-    for side in sides:
+    """The triangles of facets; one that is not convex is cut by its ears. `Trouble` where one passes through itself."""
+    numbers, thin = [], SLIM * float(np.ptp(points, axis=0).max())
+    for at, side in enumerate(sides, 1):
         if len(side) == 3:
             numbers.append(tuple(side))
             continue
         own = points[list(side)]
         normal = np.cross(own, np.roll(own, -1, 0)).sum(0)
         axis = int(np.abs(normal).argmax())
-        flat = np.delete(own, axis, 1) * ([1, -1] if (normal[axis] > 0) == (axis == 1) else [1, 1])
-        numbers += [(side[a], side[b], side[c]) for a, b, c in ears(flat.tolist())]
+        flat = (np.delete(own, axis, 1) * ([1, -1] if (normal[axis] > 0) == (axis == 1) else [1, 1])).tolist()
+        cut = list(ears(flat))
+        turned = [shaping.turn(*(flat[corner] for corner in each)) for each in cut]
+        if min(turned) < -thin * np.ptp(flat, axis=0).max():
+            raise Trouble("facet %d passes through itself near %.6g %.6g %.6g" % (
+                at, *own[cut[turned.index(min(turned))][1]]))
+        numbers += [tuple(side[corner] for corner in each) for each in cut]
     out: Array = points[np.array(numbers)]
     return out
 
 
 def ears(ring: Sequence[Sequence[float]]) -> Iterator[tuple[int, int, int]]:
-    """The triangles of a polygon that turns to the left."""
+    """The triangles of a polygon that turns to the left. (At one place two corners are one, as of a slit to a hole.)"""
     left = list(range(len(ring)))
     while len(left) > 3:
         for i, b in enumerate(left):
             a, c = left[i - 1], left[(i + 1) % len(left)]
-            if shaping.turn(ring[a], ring[b], ring[c]) > 0 and not any(
-                    all(shaping.turn(ring[u], ring[v], ring[other]) >= 0 for u, v in ((a, b), (b, c), (c, a)))
-                    for other in left if other not in (a, b, c)):
+            own = [ring[a], ring[b], ring[c]]
+            if shaping.turn(*own) > 0 and not any(
+                    all(shaping.turn(u, v, ring[other]) >= 0 for u, v in zip(own, own[1:] + own[:1]))
+                    for other in left if ring[other] not in own):
                 break
         else:
             i = min(range(len(left)), key=lambda k: abs(
