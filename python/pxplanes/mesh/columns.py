@@ -30,6 +30,7 @@ GUARD = 1500         # what reaches so many pixels beyond the middle of the pict
 BIG = 48             # columns seen over more pixels than this on a side are in scenes of their own
 ROWS = 2000000       # so many rows or pixels of triangles are looked at together
 SMALLEST = 64        # pixels on a side of a portrait
+TILE = 64            # pixels on a side of a box in which solids are left out together
 NONE, JOBS = -1, 2
 NEARER = 0.05        # cells by which a column may be nearer than what is seen
 FILM = 1e-7          # cells; what is thinner is nothing
@@ -414,33 +415,41 @@ class Model:
 
 def shown_by(scene: Any) -> Array:
     """The first cell that a scene shows at each pixel by the rules of docs/PICTURE.md, in whole numbers; the far limit
-    for none."""
-    rows = max(1, ROWS // (scene.width * len(scene.solids)))
-    return np.concatenate([shown_in(scene, range(top, min(top + rows, scene.height)))
-                           for top in range(0, scene.height, rows)])
+    for none. (Values of planes are whole, and below 2^53.)"""
+    limit = scene.far() << scene.fraction_bits
+    planes = [[np.array([(0, 0, least), *(face.plane for face in faces)], float) for faces, least in (
+        (solid.fronts, 0), (solid.backs, limit), (solid.sides, 0))] for solid in scene.solids]
+    return np.concatenate([np.concatenate([shown_in(scene, planes, (left, top)) for left in range(0, scene.width, TILE)],
+                                          axis=1) for top in range(0, scene.height, TILE)])
 
 
-def shown_in(scene: Any, rows: range) -> Array:
-    """The same for some rows of the picture. (Values of planes are whole, and below 2^53.)"""
-    x, y = (own.ravel() for own in np.meshgrid(np.arange(scene.width), np.array(rows)))
-    far, places = scene.far(), np.stack([x, y, np.ones_like(x)]).astype(float)
+def may_meet(planes: Sequence[Array], corners: Array) -> bool:
+    """Whether a solid may be within a box of the picture: no side, and no front with a back, keeps it out."""
+    fronts, backs, sides = (np.matmul(own, corners) for own in planes)
+    return bool(((backs[:, None] - fronts).max(2) > 0).all() and (sides.max(1) >= 0).all())
 
-    def bound(kind: str, least: int, kept: Any) -> Array:
-        planes = ([(0, 0, least), *(face.plane for face in getattr(solid, kind))] for solid in scene.solids)
-        return np.array([kept.reduce(np.array(own, float) @ places) for own in planes])
+
+def shown_in(scene: Any, planes: Sequence[Sequence[Array]], corner: tuple[int, int]) -> Array:
+    """The same for the box of the picture that has this corner."""
+    high = [min(low + TILE, side) - 1 for low, side in zip(corner, (scene.width, scene.height))]
+    x, y = np.meshgrid(*(np.arange(low, last + 1) for low, last in zip(corner, high)))
+    far, places = scene.far(), np.stack([x.ravel(), y.ravel(), np.ones(x.size)])
+    corners = np.array([(*place, 1) for place in itertools.product(*zip(corner, high))], float).T
+    kept = [at for at, own in enumerate(planes) if may_meet(own, corners)]
+
+    def bound(kind: int, reduced: Any) -> Array:
+        return np.array([reduced(planes[at][kind] @ places, 0) for at in kept]).reshape(-1, x.size)
 
     def both(sign: str, left: Array, right: Array) -> Array:
         joined: Array = rays.JOINED[sign](left, right)
         return joined
 
-    first, end = (np.ceil(own / (1 << scene.fraction_bits)) for own in (
-        bound("fronts", 0, np.maximum), bound("backs", far << scene.fraction_bits, np.minimum)))
-    is_met = (first < end) & (bound("sides", 0, np.minimum) >= 0)
-    kept = np.flatnonzero(is_met.any(1))
-    first, end = (np.where(is_met, own, far)[kept] for own in (first, end))
+    first, end = (np.ceil(bound(kind, reduced) / (1 << scene.fraction_bits)) for kind, reduced in ((0, np.max), (1, np.min)))
+    is_met = (first < end) & (bound(2, np.min) >= 0)
+    first, end = (np.where(is_met, own, far) for own in (first, end))
     row = np.full(len(scene.solids), NONE)
     row[kept] = np.arange(len(kept))
-    cells, live, now = np.full(len(x), far), np.arange(len(x)), np.zeros(len(x))
+    cells, live, now = np.full(x.size, far), np.arange(x.size), np.zeros(x.size)
     while len(live):
         has = np.concatenate([(first <= now) & (now < end), np.zeros((1, len(live)), bool)])
         holds = rays.folded(scene.show, lambda at: np.asarray(has[row[at]]), both)
@@ -448,7 +457,7 @@ def shown_in(scene: Any, rows: range) -> Array:
         later = np.minimum(*(np.where(own > now, own, far).min(0, initial=far) for own in (first, end)))
         goes = ~holds & (later < far)
         live, now, first, end = live[goes], later[goes], first[:, goes], end[:, goes]
-    return cells.reshape(-1, scene.width)
+    return cells.reshape(x.shape)
 
 
 def unlike(model: Model, depths: Array, bits: Sequence[int], rounded: float, digit: float) -> tuple[int, Any]:
