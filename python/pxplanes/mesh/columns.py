@@ -437,22 +437,18 @@ def shown_in(scene: Any, planes: Sequence[Sequence[Array]], corner: tuple[int, i
     corners = np.array([(*place, 1) for place in itertools.product(*zip(corner, high))], float).T
     kept = [at for at, own in enumerate(planes) if may_meet(own, corners)]
 
-    def bound(kind: int, reduced: Any) -> Array:
-        return np.array([reduced(planes[at][kind] @ places, 0) for at in kept]).reshape(-1, x.size)
-
-    def both(sign: str, left: Array, right: Array) -> Array:
-        joined: Array = rays.JOINED[sign](left, right)
-        return joined
-
-    first, end = (np.ceil(bound(kind, reduced) / (1 << scene.fraction_bits)) for kind, reduced in ((0, np.max), (1, np.min)))
-    is_met = (first < end) & (bound(2, np.min) >= 0)
+    first, end, inside = (np.array([reduced(planes[at][kind] @ places, 0) for at in kept]).reshape(-1, x.size)
+                          for kind, reduced in enumerate((np.max, np.min, np.min)))
+    first, end = (np.ceil(own / (1 << scene.fraction_bits)) for own in (first, end))
+    is_met = (first < end) & (inside >= 0)
     first, end = (np.where(is_met, own, far) for own in (first, end))
     row = np.full(len(scene.solids), NONE)
     row[kept] = np.arange(len(kept))
     cells, live, now = np.full(x.size, far), np.arange(x.size), np.zeros(x.size)
     while len(live):
         has = np.concatenate([(first <= now) & (now < end), np.zeros((1, len(live)), bool)])
-        holds = rays.folded(scene.show, lambda at: np.asarray(has[row[at]]), both)
+        holds = rays.folded(scene.show, lambda at: np.asarray(has[row[at]]),
+                            lambda sign, left, right: np.asarray(rays.JOINED[sign](left, right)))
         cells[live[holds]] = now[holds]
         later = np.minimum(*(np.where(own > now, own, far).min(0, initial=far) for own in (first, end)))
         goes = ~holds & (later < far)
