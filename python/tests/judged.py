@@ -1,10 +1,13 @@
 """Random programs of OpenSCAD, and meshes in files, drawn by `pxplanes convert` and judged pixel by pixel: five rays a
 pixel through the mesh that OpenSCAD makes, or through the file's own triangles (ray_judge.py). Nothing but the command
-is of the tool."""
+is of the tool. Assimp reads the real meshes (real_meshes.txt) for the rays."""
 import collections
 import concurrent.futures
 import functools
 import glob
+import gzip
+import hashlib
+import io
 import itertools
 import json
 import math
@@ -15,6 +18,7 @@ import resource
 import struct
 import subprocess
 import sys
+import tarfile
 import tempfile
 from typing import NamedTuple
 
@@ -24,7 +28,7 @@ import ray_judge
 
 TOP = os.path.realpath(os.path.join(os.path.dirname(__file__), "..", ".."))
 
-SIZE, SECONDS, NEARER = (96, 72), 60, 0.004
+SIZE, LARGER, SECONDS, NEARER = (96, 72), (288, 216), 60, 0.004
 RAW = np.dtype([("normal", "<f4", 3), ("corners", "<f4", (3, 3)), ("more", "<u2")])
 EXAMPLES = "/usr/share/openscad/examples"
 # Those that make nothing, or flat shapes alone, so that OpenSCAD has no mesh of them; example023 needs the library MCAD.
@@ -32,17 +36,23 @@ NO_SOLIDS = ("echo", "example015", "example023", "list_comprehensions", "module_
              "recursion")
 WAYS = ("--draw", "scene")
 WORDS = ("right", "refused", "wrong", "timed out", "no witness")
-KINDS = {"program": "random programs", "mesh": "meshes", "held": "models of this repository"}
+KINDS = {"program": "random programs", "mesh": "meshes", "held": "models of this repository", "real": "real meshes"}
+# Of each real mesh its package, the version as found, the SHA-256 of the file's bytes, and its path in the package. After
+# a "!" is the path in the archive there; what ends in .gz is unpacked first.
+REAL = os.path.join(os.path.dirname(os.path.realpath(__file__)), "real_meshes.txt")
+# glTF has y upwards and metres; the tool makes z upwards and millimetres of them.
+MILLIMETRES, UPRIGHT = 1000, ((1, 0, 0), (0, 0, 1), (0, -1, 0))
 MODELS = (".csg", ".scad", ".stl", ".off", ".obj", ".ply", ".3mf", ".glb", ".gltf")
 
 
 class Subject(NamedTuple):
     """A model: its kind and name, and what writes it into a folder, and gives its path with the triangles that rays
-    meet; no path for no witness."""
+    meet; no path for no witness. The seed draws the camera; the size is that of the picture."""
 
     name: str
     write: object
     seed: int
+    size: tuple = SIZE
 
 
 # ---- random programs ----
@@ -213,8 +223,90 @@ def subjects_held(count):
             for at, path in enumerate(paths[:count])]
 
 
+# ---- real meshes ----
+class Real(NamedTuple):
+    package: str
+    version: str
+    checksum: str
+    path: str
+
+    def name(self):
+        """The file's name; an STL file of words that has a name of its own ends as others do."""
+        return re.split("[/!]", self.path)[-1].removesuffix(".gz").replace(".stla", ".stl")
+
+
+def real_meshes():
+    with open(REAL) as file:
+        return [Real(*line.rstrip("\n").split(" ", 3)) for line in file]
+
+
+def subjects_real(first, last, folder):
+    """The real meshes of these numbers, downloaded into a folder."""
+    own = list(enumerate(real_meshes()))[first - 1:last]
+    return [Subject("real %s" % each.name(), functools.partial(write_real, fetched(each, folder)), at, LARGER)
+            for at, each in own]
+
+
+def fetched(own, folder):
+    """The file of a package of Debian's, kept in a folder; an error if it is another one than its checksum says."""
+    path = os.path.join(os.path.abspath(folder), "real", own.checksum[:8] + "-" + own.name())
+    if not os.path.exists(path):
+        os.makedirs(os.path.dirname(path), exist_ok=True)
+        data = unpacked(package(own, folder), own.path)
+        if hashlib.sha256(data).hexdigest() != own.checksum:
+            raise ValueError("%s of %s %s is another file than its checksum says" % (
+                own.path, own.package, own.version))
+        with open(path, "wb") as file:
+            file.write(data)
+    return path
+
+
+def package(own, folder):
+    """The bytes of a package's archive of files."""
+    pattern = os.path.join(os.path.abspath(folder), own.package + "_*.deb")
+    if not glob.glob(pattern):
+        subprocess.run(["apt-get", "download", "-q", "%s=%s" % (own.package, own.version)], cwd=folder, check=True)
+    return subprocess.run(["dpkg-deb", "--fsys-tarfile", *glob.glob(pattern)], check=True, capture_output=True).stdout
+
+
+def unpacked(archive, path):
+    outer, _, inner = path.partition("!")
+    with tarfile.open(fileobj=io.BytesIO(archive)) as file:
+        data = file.extractfile("./" + outer if not outer.startswith("data/") else outer).read()
+    return unpacked(data, inner) if inner else gzip.decompress(data) if path.endswith(".gz") else data
+
+
+def write_real(path, folder):
+    """A file as it is, and its triangles as Assimp reads them."""
+    witness = os.path.join(folder, "witness.stl")
+    done = subprocess.run(["assimp", "export", path, witness, "-fstlb", "-ptv"], capture_output=True,
+                          preexec_fn=bounded(300))
+    triangles = stl(witness if done.returncode == 0 else None)
+    return path, triangles @ np.array(UPRIGHT) * MILLIMETRES if path.endswith(("glb", "gltf")) else triangles
+
+
+def open_edges(triangles):
+    """How many edges of a mesh are not met by as many triangles one way as the other."""
+    _, sides = points_of(triangles)
+    ways = np.concatenate([sides[:, [at, (at + 1) % 3]] for at in range(3)])
+    _, numbers = np.unique(np.sort(ways, axis=1), axis=0, return_inverse=True)
+    return int((np.bincount(numbers.ravel(), np.where(ways[:, 0] < ways[:, 1], 1, -1)) != 0).sum())
+
+
+def table_of_real(rows):
+    """Lines of a table: each real mesh with its package, its triangles, and what came of it."""
+    of_name = {row["name"]: row for row in rows if row["way"] == "--draw"}
+    out = ["| File | Package | Triangles | Open edges | Result | Seconds |", "|---" * 6 + "|"]
+    for own in real_meshes():
+        row = of_name.get("real " + own.name())
+        if row:
+            out.append("| %s | %s | %d | %d | %s | %.1f |" % (
+                own.name(), own.package, row["triangles"], row["open"], row["word"], row["seconds"]))
+    return out
+
+
 # ---- judging ----
-def camera_words(triangles, seed):
+def camera_words(triangles, seed, size):
     """A camera from a random side that has all of a mesh in the picture, the words that say it, and near and far."""
     draw = random.Random(seed)
     points = triangles.reshape(-1, 3)
@@ -225,13 +317,13 @@ def camera_words(triangles, seed):
     is_deep, fov = seed % 2 == 1, draw.uniform(15, 60) if seed % 2 else 22.5
     distance = 1.05 * radius / (math.sin if is_deep else math.tan)(math.radians(fov) / 2)
     eye = middle + distance * way
-    words = ["--size", *map(str, SIZE)]
+    words = ["--size", *map(str, size)]
     if is_deep:
         near, far = (distance - radius) * 0.98, (distance + radius) * 1.02
         words += ["--eye=" + listed(eye), "--at=" + listed(middle), "--fov", repr(fov), "--near", repr(near), "--far",
                   repr(far)]
-        return ray_judge.camera_of(eye, middle, SIZE, True, fov), words, (near, far)
-    return ray_judge.camera_of(eye, middle, SIZE, False), words + ["--camera=" + listed([*eye, *middle])], None
+        return ray_judge.camera_of(eye, middle, size, True, fov), words, (near, far)
+    return ray_judge.camera_of(eye, middle, size, False), words + ["--camera=" + listed([*eye, *middle])], None
 
 
 def listed(numbers):
@@ -267,7 +359,9 @@ def lens_of(camera, ends, cells, depths, away):
         return Lens(cells / (1 / ends[0] - 1 / ends[1]), ends[0], True)
     there = np.isfinite(away).all(1) & (depths < cells)
     z, own = away[there].mean(1), depths[there] - 0.5
-    kept = np.ptp(away[there], axis=1) < 0.02 * max(np.ptp(z) if len(z) else 0, 1e-300)
+    spread = np.ptp(away[there], axis=1)
+    # (in a picture of steep faces alone, the less steep half of them)
+    kept = spread <= max(0.02 * np.ptp(z), np.median(spread)) if len(z) else spread < 0
     for _ in range(8):
         if kept.sum() < 2 or np.ptp(z[kept]) == 0:
             break
@@ -287,15 +381,15 @@ def judged(subject, ways=WAYS):
         path, triangles = subject.write(folder)
         if path is None or not np.isfinite(triangles).all():
             return [{"name": subject.name, "way": way, "word": "no witness"} for way in ways]
-        is_empty = len(triangles) == 0
-        camera, words, ends = camera_words(np.zeros((1, 3, 3)) if is_empty else triangles, subject.seed)
-        away = ray_judge.nearest(triangles, camera, SIZE) if not is_empty else np.full((SIZE[0] * SIZE[1], 5), np.inf)
-        return [{"name": subject.name, "way": way, "triangles": len(triangles),
-                 **word_of(path, way, words, folder, camera, ends, away, triangles)}
+        is_empty, size = len(triangles) == 0, subject.size
+        camera, words, ends = camera_words(np.zeros((1, 3, 3)) if is_empty else triangles, subject.seed, size)
+        away = ray_judge.nearest(triangles, camera, size) if not is_empty else np.full((size[0] * size[1], 5), np.inf)
+        return [{"name": subject.name, "way": way, "triangles": len(triangles), "open": open_edges(triangles),
+                 **word_of(path, way, words, folder, camera, ends, away, triangles, size)}
                 for way in ways]
 
 
-def word_of(path, way, words, folder, camera, ends, away, triangles):
+def word_of(path, way, words, folder, camera, ends, away, triangles, size):
     maps, before = os.path.join(folder, "maps"), resource.getrusage(resource.RUSAGE_CHILDREN).ru_utime
     more = ["--draw", maps] if way == "--draw" else ["-o", os.path.join(folder, "out.scene")]
     status, said = run(["convert", *words, "--seconds", str(SECONDS), *more, path], folder)
@@ -323,19 +417,19 @@ def word_of(path, way, words, folder, camera, ends, away, triangles):
     bad, there = ray_judge.wrong_pixels(depths, cells, away, lens, room)
     # at a steep face after an edge the rays around a pixel are not near enough: what is wrong is so by nearer ones too
     if bad:
-        nearer = ray_judge.nearest(triangles, camera, SIZE, NEARER)
+        nearer = ray_judge.nearest(triangles, camera, size, NEARER)
         bad = sorted(set(bad) & set(ray_judge.wrong_pixels(depths, cells, nearer, lens, room)[0]))
     row.update(pixels=there, rounded=sum(rounded), columns="drawn by columns" in said)
     if bad:
-        x, y = bad[0] % SIZE[0], bad[0] // SIZE[0]
+        x, y = bad[0] % size[0], bad[0] // size[0]
         return {**row, "word": "wrong", "why": "%d of %d pixels, the first x %d, y %d: %d, and not %s" % (
             len(bad), there, x, y, depths[bad[0]], np.round(away[bad[0]], 4).tolist()), "command": " ".join(words)}
     return {**row, "word": "right"}
 
 
 def rows_at(subject):
-    """The rows of a subject; of every fifth as one scene too."""
-    return judged(subject, WAYS if subject.seed % 5 == 0 else WAYS[:1])
+    """The rows of a subject; of every fifth as one scene too. (Real meshes have more parts than a scene has solids.)"""
+    return judged(subject, WAYS if subject.seed % 5 == 0 and not subject.name.startswith("real") else WAYS[:1])
 
 
 def rows_of(subjects, jobs):

@@ -140,6 +140,17 @@ def test_gltf_has_its_buffer_in_it_or_beside_it(tmp_path):
         mesh_files.read("gltf", content)
 
 
+@pytest.mark.parametrize("more, why", [
+    ({"asset": {"version": "1.0"}}, "glTF 1.0, and 2.0 is read"), ({"asset": {}}, "glTF 1.0, and 2.0 is read"),
+    ({"extensionsRequired": ["KHR_materials_unlit", "KHR_draco_mesh_compression"]}, "KHR_draco_mesh_compression, which")])
+def test_gltf_of_another_version_or_packed_is_refused_as_that(more, why):
+    content = gltf("data:application/octet-stream;base64,%s")[0]
+    assert len(mesh_files.read("gltf", json.dumps({**json.loads(content), "extensionsRequired": [
+        "KHR_materials_unlit"]}).encode())[1]) == 4
+    with pytest.raises(Trouble, match=why):
+        mesh_files.read("gltf", json.dumps({**json.loads(content), **more}).encode())
+
+
 def test_gltf_places_its_nodes_and_reads_strips():
     # A quarter turn about the file's y axis takes z to x and x to -z; then twice as large in x, and 1 metre up.
     half = 0.5 ** 0.5
@@ -255,16 +266,22 @@ def size_and_rows(path):
 
 
 @pytest.mark.skipif(shutil.which("povray") is None, reason="no povray")
-def test_povray_draws_twenty_bits_as_the_program_does(built, tmp_path):
-    scene = (b"pxscene 3\npicture 64 48\ndepth 20 4\nsolid a 200 10 10\nfront 90000 -20000 1500000\nback 90000 -20000 9500000\nside 16 3 -60\n"
-             b"side -9 2 380\nsolid b 10 200 10\nfront -60000 50000 3500000\nback 0 0 15000000\nside 0 1 -5\nside 0 -1 40\nshow (a + b)\nend\n")
+@pytest.mark.parametrize("width", [1, 2, 8, 15, 16, 17, 20, 24])
+def test_povray_draws_every_depth_as_the_program_does(built, tmp_path, width):
+    fraction = min(8, 24 - width)
+    most = (2 ** width - 1) << fraction
+    slope = min(most // 64, 90000)
+    scene = ("pxscene 3\npicture 64 48\ndepth %d %d\nsolid a 200 10 10\nfront %d %d %d\nback %d 0 %d\nside 16 3 -60\nside -9 2 380\n"
+             "solid b 10 200 10\nfront %d %d %d\nside 0 1 -5\nside 0 -1 40\nshow (a + b)\nend\n" % (
+                 width, fraction, slope, -slope // 4, most // 10, slope, most // 2, -slope // 2, slope // 3, most // 3)).encode()
     (tmp_path / "deep.scene").write_bytes(scene)
     done = px(built, "convert", "deep.scene", "--to", "pov", "-o", "deep.pov", cwd=tmp_path)
     assert done.returncode == 0, done.stderr
-    subprocess.run(["povray", "+Ideep.pov", "+Odeep.ppm", "+W64", "+H48", "+FP8", "File_Gamma=1", "-D", "-A"],
-                   cwd=tmp_path, check=True,
+    subprocess.run(["povray", "+Ideep.pov", "+Odeep.ppm", "+W64", "+H48", "File_Gamma=1", "-D", "-A",
+                    *(["+FP8"] if width > 16 else ["+FP16", "Grayscale_Output=on"])], cwd=tmp_path, check=True,
                    capture_output=True)
     ours = netpbm.images(subprocess.run([built, "render"], input=scene, capture_output=True, check=True).stdout)[
         0].numbers()
-    theirs = netpbm.images((tmp_path / "deep.ppm").read_bytes())[0].numbers()
-    assert max(ours) == 2 ** 20 - 1 and len(set(ours)) > 100 and list(ours) == list(theirs)
+    image = netpbm.images((tmp_path / "deep.ppm").read_bytes())[0]
+    theirs = image.numbers() if width > 16 else image.samples[::image.channels]
+    assert len(set(ours)) > min(100, width) and list(ours) == list(theirs)

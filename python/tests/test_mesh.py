@@ -141,6 +141,28 @@ def test_an_open_mesh_shows_both_sides_and_is_refused_in_a_difference():
         modelling.by_columns(("-", [torn, tree_of(CUBE % (8, 0, 8, 0, 30, 0))]), modelling.Choices(size=SIZE))
 
 
+# A square of 4 by 4 with a hole of 2 by 2, to which a slit leads: 16 - 4 = 12.
+KEYHOLE = [(0, 0), (4, 0), (4, 4), (0, 4), (0, 0), (1, 1), (1, 3), (3, 3), (3, 1), (1, 1)]
+
+
+@pytest.mark.parametrize("axis", range(3))
+@pytest.mark.parametrize("way", [1, -1])
+def test_a_facet_with_a_slit_to_its_hole_has_its_own_area(axis, way):
+    points = numpy.insert(numpy.array(KEYHOLE, float), axis, 7, axis=1)
+    found = columns.triangulated(points, [list(range(len(points)))[::way]])
+    areas = numpy.cross(found[:, 1] - found[:, 0], found[:, 2] - found[:, 0])[:, axis] / 2
+    assert numpy.abs(areas).sum() == pytest.approx(12) and abs(areas.sum()) == pytest.approx(12)
+
+
+def test_a_facet_that_passes_through_itself_is_refused_with_its_place():
+    bow = [[0.0, 0.0, 0.0], [4.0, 3.0, 0.0], [4.0, 0.0, 0.0], [0.0, 1.0, 0.0]]
+    with pytest.raises(Trouble, match="facet 2 passes through itself near"):
+        columns.triangulated(numpy.array(bow), [[0, 1, 2], [0, 1, 2, 3]])
+    # Corners of a sliver are where their digits leave them, on either side of a line.
+    thin = numpy.array([[0, 0, 0], [100, 1e-6, 0], [200, -1e-6, 0], [300, 0, 0], [100, 0, 0]], float)
+    assert len(columns.triangulated(thin, [[0, 1, 2, 3, 4]])) == 3
+
+
 SIGNS = """pxscene 3\npicture 40 30\ndepth 8 4\nsolid a 9 9 9\nfront 40 9 100\nback 3 40 900\nside 1 0 -3\nside -1 1 30
 solid b 9 9 9\nfront -50 3 2000\nback 0 -20 3000\nsolid c 9 9 9\nfront 0 0 900\nfront 7 60 0\nshow %s\nend\n"""
 
@@ -351,6 +373,19 @@ def test_a_text_of_slim_facets_is_refused_as_parts_and_right_by_columns(tmp_path
 def test_random_programs_are_as_rays_through_openscads_mesh(seed):
     row, = judged_models.judged(judged_models.subject_of_program(seed), judged_models.WAYS[:1])
     assert row["word"] == "right", row
+
+
+@pytest.mark.parametrize("seed", [0, 1])
+def test_the_judge_finds_what_a_picture_lacks(seed, tmp_path):
+    triangles = numpy.array(ball(10, (0, 0, 0))[0])[ball(10, (0, 0, 0))[1]]
+    path = tmp_path / "ball.stl"
+    path.write_bytes(judged_models.raw_stl(triangles))
+    dent = triangles.copy()
+    dent[numpy.abs(dent) == 10] = 9
+    for other, word in ((triangles, "right"), (triangles * 1.04, "wrong"), (triangles[::3], "wrong"), (dent, "wrong"),
+                        (triangles + (0.5, 0, 0), "wrong")):
+        row, = judged_models.judged(judged_models.Subject("ball", lambda _: (str(path), other), seed), ["--draw"])
+        assert row["word"] == word, row
 
 
 def boxes(count, hole):

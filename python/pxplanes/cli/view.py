@@ -57,6 +57,7 @@ def add_options(parser: argparse.ArgumentParser) -> None:
                         "in its name; with --show distances a PFM file next to it")
     parser.add_argument("--show", choices=WHATS, help="what to show (default: a scene's colours; both of two maps)")
     parser.add_argument("--lights", metavar="LIGHTS", help="with a scene: its colours in the light of these light lines (docs/SCENES.md, \"Light lines\")")
+    parser.add_argument("--up", choices=tuple(modelling.UPWARDS), help="the axis that is upwards in a model's file (default: y for glTF, z for others)")
     parser.add_argument("--scene", metavar="SCENE", help="the scene of the maps, whose camera gives the distances")
     parser.add_argument("--page", metavar="HTML", help="write a page that plays the broadcasts of FILE, for any browser")
     parser.add_argument("--first", metavar="N", type=frame.whole_number(0, 10 ** 11), default=0,
@@ -196,7 +197,7 @@ def of_model(options: argparse.Namespace) -> Picture:
     what = options.show or "colours"
     if what not in ("colours", "depths", "faces"):
         raise Trouble("a model has no %s here: `pxplanes convert` makes a scene of it" % what)
-    drawing, colours = modelling.portrait(options.file)
+    drawing, colours = modelling.portrait(options.file, options.up)
     height, width = drawing.depths.shape
     if what == "colours":
         return Picture(width, height, drawing.colours(colours), what)

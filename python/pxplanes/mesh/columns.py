@@ -30,9 +30,11 @@ GUARD = 1500         # what reaches so many pixels beyond the middle of the pict
 BIG = 48             # columns seen over more pixels than this on a side are in scenes of their own
 ROWS = 2000000       # so many rows or pixels of triangles are looked at together
 SMALLEST = 64        # pixels on a side of a portrait
+TILE = 64            # pixels on a side of a box in which solids are left out together
 NONE, JOBS = -1, 2
 NEARER = 0.05        # cells by which a column may be nearer than what is seen
 FILM = 1e-7          # cells; what is thinner is nothing
+SLIM = 1e-4          # of a mesh's extent: a facet may pass through itself by less, as by its digits
 LIGHTEST, DULL = np.array((-0.42, -0.53, -0.74)), 0.35
 
 
@@ -86,30 +88,36 @@ def outwards(triangles: Array) -> Array:
 
 
 def triangulated(points: Array, sides: Sequence[Sequence[int]]) -> Array:
-    """The triangles of facets; one that is not convex is cut by its ears."""
-    numbers = []
-    for side in sides:
+    """The triangles of facets; one that is not convex is cut by its ears. `Trouble` where one passes through itself."""
+    numbers, thin = [], SLIM * float(np.ptp(points, axis=0).max())
+    for at, side in enumerate(sides, 1):
         if len(side) == 3:
             numbers.append(tuple(side))
             continue
         own = points[list(side)]
         normal = np.cross(own, np.roll(own, -1, 0)).sum(0)
         axis = int(np.abs(normal).argmax())
-        flat = np.delete(own, axis, 1) * ([1, -1] if (normal[axis] > 0) == (axis == 1) else [1, 1])
-        numbers += [(side[a], side[b], side[c]) for a, b, c in ears(flat.tolist())]
+        flat = (np.delete(own, axis, 1) * ([1, -1] if (normal[axis] > 0) == (axis == 1) else [1, 1])).tolist()
+        cut = list(ears(flat))
+        turned = [shaping.turn(*(flat[corner] for corner in each)) for each in cut]
+        if min(turned) < -thin * np.ptp(flat, axis=0).max():
+            raise Trouble("facet %d passes through itself near %.6g %.6g %.6g" % (
+                at, *own[cut[turned.index(min(turned))][1]]))
+        numbers += [tuple(side[corner] for corner in each) for each in cut]
     out: Array = points[np.array(numbers)]
     return out
 
 
 def ears(ring: Sequence[Sequence[float]]) -> Iterator[tuple[int, int, int]]:
-    """The triangles of a polygon that turns to the left."""
+    """The triangles of a polygon that turns to the left. (At one place two corners are one, as of a slit to a hole.)"""
     left = list(range(len(ring)))
     while len(left) > 3:
         for i, b in enumerate(left):
             a, c = left[i - 1], left[(i + 1) % len(left)]
-            if shaping.turn(ring[a], ring[b], ring[c]) > 0 and not any(
-                    all(shaping.turn(ring[u], ring[v], ring[other]) >= 0 for u, v in ((a, b), (b, c), (c, a)))
-                    for other in left if other not in (a, b, c)):
+            own = [ring[a], ring[b], ring[c]]
+            if shaping.turn(*own) > 0 and not any(
+                    all(shaping.turn(u, v, ring[other]) >= 0 for u, v in zip(own, own[1:] + own[:1]))
+                    for other in left if ring[other] not in own):
                 break
         else:
             i = min(range(len(left)), key=lambda k: abs(
@@ -407,41 +415,45 @@ class Model:
 
 def shown_by(scene: Any) -> Array:
     """The first cell that a scene shows at each pixel by the rules of docs/PICTURE.md, in whole numbers; the far limit
-    for none."""
-    rows = max(1, ROWS // (scene.width * len(scene.solids)))
-    return np.concatenate([shown_in(scene, range(top, min(top + rows, scene.height)))
-                           for top in range(0, scene.height, rows)])
+    for none. (Values of planes are whole, and below 2^53.)"""
+    limit = scene.far() << scene.fraction_bits
+    planes = [[np.array([(0, 0, least), *(face.plane for face in faces)], float) for faces, least in (
+        (solid.fronts, 0), (solid.backs, limit), (solid.sides, 0))] for solid in scene.solids]
+    return np.concatenate([np.concatenate([shown_in(scene, planes, (left, top)) for left in range(0, scene.width, TILE)],
+                                          axis=1) for top in range(0, scene.height, TILE)])
 
 
-def shown_in(scene: Any, rows: range) -> Array:
-    """The same for some rows of the picture. (Values of planes are whole, and below 2^53.)"""
-    x, y = (own.ravel() for own in np.meshgrid(np.arange(scene.width), np.array(rows)))
-    far, places = scene.far(), np.stack([x, y, np.ones_like(x)]).astype(float)
+def may_meet(planes: Sequence[Array], corners: Array) -> bool:
+    """Whether a solid may be within a box of the picture: no side, and no front with a back, keeps it out."""
+    fronts, backs, sides = (np.matmul(own, corners) for own in planes)
+    return bool(((backs[:, None] - fronts).max(2) > 0).all() and (sides.max(1) >= 0).all())
 
-    def bound(kind: str, least: int, kept: Any) -> Array:
-        planes = ([(0, 0, least), *(face.plane for face in getattr(solid, kind))] for solid in scene.solids)
-        return np.array([kept.reduce(np.array(own, float) @ places) for own in planes])
 
-    def both(sign: str, left: Array, right: Array) -> Array:
-        joined: Array = rays.JOINED[sign](left, right)
-        return joined
+def shown_in(scene: Any, planes: Sequence[Sequence[Array]], corner: tuple[int, int]) -> Array:
+    """The same for the box of the picture that has this corner."""
+    high = [min(low + TILE, side) - 1 for low, side in zip(corner, (scene.width, scene.height))]
+    x, y = np.meshgrid(*(np.arange(low, last + 1) for low, last in zip(corner, high)))
+    far, places = scene.far(), np.stack([x.ravel(), y.ravel(), np.ones(x.size)])
+    corners = np.array([(*place, 1) for place in itertools.product(*zip(corner, high))], float).T
+    kept = [at for at, own in enumerate(planes) if may_meet(own, corners)]
 
-    first, end = (np.ceil(own / (1 << scene.fraction_bits)) for own in (
-        bound("fronts", 0, np.maximum), bound("backs", far << scene.fraction_bits, np.minimum)))
-    is_met = (first < end) & (bound("sides", 0, np.minimum) >= 0)
-    kept = np.flatnonzero(is_met.any(1))
-    first, end = (np.where(is_met, own, far)[kept] for own in (first, end))
+    first, end, inside = (np.array([reduced(planes[at][kind] @ places, 0) for at in kept]).reshape(-1, x.size)
+                          for kind, reduced in enumerate((np.max, np.min, np.min)))
+    first, end = (np.ceil(own / (1 << scene.fraction_bits)) for own in (first, end))
+    is_met = (first < end) & (inside >= 0)
+    first, end = (np.where(is_met, own, far) for own in (first, end))
     row = np.full(len(scene.solids), NONE)
     row[kept] = np.arange(len(kept))
-    cells, live, now = np.full(len(x), far), np.arange(len(x)), np.zeros(len(x))
+    cells, live, now = np.full(x.size, far), np.arange(x.size), np.zeros(x.size)
     while len(live):
         has = np.concatenate([(first <= now) & (now < end), np.zeros((1, len(live)), bool)])
-        holds = rays.folded(scene.show, lambda at: np.asarray(has[row[at]]), both)
+        holds = rays.folded(scene.show, lambda at: np.asarray(has[row[at]]),
+                            lambda sign, left, right: np.asarray(rays.JOINED[sign](left, right)))
         cells[live[holds]] = now[holds]
         later = np.minimum(*(np.where(own > now, own, far).min(0, initial=far) for own in (first, end)))
         goes = ~holds & (later < far)
         live, now, first, end = live[goes], later[goes], first[:, goes], end[:, goes]
-    return cells.reshape(-1, scene.width)
+    return cells.reshape(x.shape)
 
 
 def unlike(model: Model, depths: Array, bits: Sequence[int], rounded: float, digit: float) -> tuple[int, Any]:

@@ -9,24 +9,23 @@ import struct
 from typing import Any, Iterator, Optional
 
 from pxplanes.errors import Trouble
-from pxplanes.mesh import solids, turns
-
-Matrix = list[list[float]]
-Points = list[list[float]]
+from pxplanes.mesh import kinds, solids, turns
 
 FORMS = {5121: "B", 5123: "H", 5125: "I", 5126: "f"}
 WIDTHS = {"SCALAR": 1, "VEC3": 3}
 DEEPEST = 64
+# How the names of extensions begin that leave the shapes as they are.
+SHAPELESS = ("KHR_materials_", "KHR_texture_", "KHR_lights_", "EXT_texture_", "EXT_lights_")
 MILLIMETRES = [[1000.0, 0.0, 0.0, 0.0], [0.0, 0.0, -1000.0, 0.0], [0.0, 1000.0, 0.0, 0.0]]
 
 
-def read(data: bytes, folder: Optional[str] = None) -> tuple[Points, list[list[int]]]:
+def read(data: bytes, folder: Optional[str] = None) -> tuple[kinds.Points, list[list[int]]]:
     """The points and triangles of a file's scene. Buffers in files are looked for in the folder; without one they are
     refused."""
     try:
         head, body = chunks(data)
-        file = File(json.loads(head), body, folder)
-        points: Points = []
+        file = File(understood(json.loads(head)), body, folder)
+        points: list[kinds.Vector] = []
         sides: list[list[int]] = []
         for matrix, primitive in file.placed():
             own = list(file.rows(primitive["attributes"]["POSITION"]))
@@ -38,6 +37,17 @@ def read(data: bytes, folder: Optional[str] = None) -> tuple[Points, list[list[i
     except (KeyError, IndexError, TypeError, ValueError, AttributeError, struct.error):
         raise Trouble("the glTF file is damaged, or has what is not read: sparse or packed arrays, or other than "
                       "triangles") from None
+
+
+def understood(said: dict[str, Any]) -> dict[str, Any]:
+    """A file's JSON; `Trouble` for what its own words say that is not read."""
+    version = str(said.get("asset", {}).get("version", "1.0"))
+    if not version.startswith("2."):
+        raise Trouble("the file is glTF %s, and 2.0 is read" % version)
+    unread = [name for name in said.get("extensionsRequired", ()) if not name.startswith(SHAPELESS)]
+    if unread:
+        raise Trouble("the glTF file requires %s, which is not read" % unread[0])
+    return said
 
 
 def chunks(data: bytes) -> tuple[bytes, bytes]:
@@ -60,7 +70,7 @@ def triangles(mode: int, numbers: list[int]) -> list[list[int]]:
     raise ValueError("lines and points")
 
 
-def matrix_of(node: dict[str, Any]) -> Matrix:
+def matrix_of(node: dict[str, Any]) -> kinds.Matrix:
     """How a node is placed in that above it: by its matrix, column by column, or by a scale, a turn and a
     translation."""
     if "matrix" in node:
@@ -110,7 +120,7 @@ class File:
         for at in range(own["count"]):
             yield list(form.unpack_from(self.buffer(view["buffer"]), first + at * step))
 
-    def placed(self) -> Iterator[tuple[Matrix, dict[str, Any]]]:
+    def placed(self) -> Iterator[tuple[kinds.Matrix, dict[str, Any]]]:
         """Each primitive of the scene, with its place in millimetres."""
         nodes = self.said["scenes"][self.said.get("scene", 0)]["nodes"] if "scenes" in self.said else range(
             len(self.said["nodes"]))

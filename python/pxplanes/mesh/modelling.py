@@ -552,10 +552,10 @@ def by_columns(tree: kinds.Tree, choices: Any) -> Any:
     return drawing
 
 
-def portrait(name: str) -> Any:
+def portrait(name: str, up: Optional[str] = None) -> Any:
     """The picture of the model in a file by columns, in perspective, so that it fills the picture; and the colours of
     its leaves."""
-    choices = Choices(projection="p")
+    choices = Choices(projection="p", up=up)
     tree = read(name, choices)
     choices.camera, choices.size = columns_module().portrait(solids.leaves(tree), choices.view, views.FIELD)
     return by_columns(tree, choices), [leaf.colour for leaf, _ in solids.leaves(tree)]
