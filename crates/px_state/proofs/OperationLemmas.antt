@@ -32,15 +32,7 @@ pub put_next : (Is : ℕ → Operation → Type 0) (first k : ℕ) (operation : 
     → ((j : ℕ) → j < length old → first + j ≡ k → get_or new j no_operation ≡ operation)
     → ((j : ℕ) → (first + j ≡ k → ⊥) → get_or new j no_operation ≡ get_or old j no_operation)
     → IsPutTo Is first k old → Is k operation → IsPutTo Is first (k + 1) new
-put_next Is first k operation old new same put kept before is j within low = elim (cases_lt (first + j) k) [
-  | inl early ↦
-      let other : first + j ≡ k → ⊥ = λ here. absurd (omega (arith, here, early)) in
-      subst (Is (first + j)) (sym (kept j other)) (before j (omega (arith, within, same)) early)
-  | inr late ↦
-      let here : first + j ≡ k = omega (arith, late, low) in
-      subst (λ n. Is n (get_or new j no_operation)) (sym here)
-      (subst (Is k) (sym (put j (omega (arith, within, same)) here)) is)
-]
+put_next Is first k operation old new h p q r zz5 = grind arith
 
 -- and behind the last one due all are there
 pub all_put : (Is : ℕ → Operation → Type 0) (first end : ℕ) (list : List Operation) → first + length list ≤ end
@@ -113,17 +105,7 @@ module _ (scene : SceneView) (pass : ℕ) (step : Step) (here : slice_get (steps
       → op ≡ get_or own i m.All → clock ≡ start_in_listing (passes_listing scene) k → purpose.pass ≡ pass
       → purpose ≡ purpose_of scene step purpose.pass (literals_in (take (purpose.pass + 1) (steps scene)))
       → IsPassed scene k (told op clock purpose)
-  is_passed i k clock op purpose within at is begins pass_is for = record {
-    step = step;
-    is = rw pass_is here;
-    from = rw pass_is (omega (arith, at));
-    to = rw pass_is (omega (arith, at, within, before_more));
-    operation_is = record {
-      m = op;
-      is = ap (slice_get (passes scene)) at ∙ (operation_here i within ∙ ap (λ x. Some x) (sym is));
-      told_is = ap (λ n. told op n purpose) begins ∙ ap (told op (start_in_listing (passes_listing scene) k)) for;
-    };
-  }
+  is_passed i k clock op purpose within at is begins pass_is for = grind (arith, before_more, operation_here)
 
 -- behind the last step all operations are there
 pub before_all : (scene : SceneView) (pass : ℕ) → length (steps scene) ≤ pass → operations_before scene pass
