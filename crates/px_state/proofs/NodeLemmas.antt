@@ -1,10 +1,10 @@
 -- The nodes of a tree whose latches are in words.
 use Rattle.px_num.proofs.Basics.{◌≡◌, ℕ, ◌+◌, ◌*◌, ◌/◌, ◌%◌, ◌^◌, ◌<◌, ◌≤◌, ◌==◌, ◌&&◌, eqb, nat_lt, nat_le, Bool}
-use Rattle.px_num.proofs.Basics.{true, false, cond, List, get_or, refl, sym, ap, ◌∙◌, arith, inl, inr}
+use Rattle.px_num.proofs.Basics.{false, cond, List, get_or, refl, sym, ap, ◌∙◌, arith, inl, inr}
 use Rattle.px_num.proofs.Basics.{cases_lt, get_or-replicate, pow-add}
 use Rattle.px_num.proofs.ListLaws.{get_or-tabulate}
 use Rattle.px_num.proofs.TruthLaws.{lt_false, lt_true, power_grows}
-use Rattle.px_num.specs.Bits.{majority, nat_bit, xor}
+use Rattle.px_num.specs.Bits.{nat_bit}
 use Rattle.px_plane_tree.specs.Lent.{IsLatch}
 use Rattle.px_rows.proofs.BitLaws.{bit_of_zero}
 use Rattle.px_tree.specs.Nodes.{TreeState, after_feed, at_place, cleared, next_at, next_node, zero_node}
@@ -14,15 +14,6 @@ use Rattle.px_state.proofs.ShapeLemmas.{plane_end}
 use Rattle.px_state.specs.Cells.{HoldsNodes, IsShape, IsShapeOf, nodes_at, placed}
 use Rattle.px_state.specs.Words.{IsNodeWord, node_bit, padded_leaf}
 use Rattle.px_state.specs.declared.shape.Shape.{Shape}
-
--- the node table by its two cases
-pub output_law : (odd p l c : Bool) → cond odd (xor p (xor l c)) p ≡ (next_node odd p l c).output
-output_law true p l c = refl
-output_law false p l c = refl
-
-pub carry_law : (odd p l c zero : Bool) → zero ≡ false → cond odd (majority p l c) zero ≡ (next_node odd p l c).carry
-carry_law true p l c zero none = refl
-carry_law false p l c zero none = none
 
 -- the parents of nodes, of which the root is line c
 pub parents_root : (word j : ℕ) (c : Bool) → 2 ≤ j → j < 64

@@ -32,10 +32,6 @@ bit_below false = omega arith
 tree_below : (op : TreeOp) → tree_number op < 3
 tree_below op = grind arith
 
--- the place of an act is one of the memory's, or none is named
-pub place_within : (bits : ℕ) (a : Act) → 1 ≤ bits → HasPlace bits a → memory_place a < bits
-place_within bits a h p = grind arith
-
 pub has_place : (bits : ℕ) (a : Act) → memory_place a < bits → HasPlace bits a
 has_place bits a h = grind arith
 
