@@ -1,14 +1,14 @@
 -- What the passes of a scene come to, by the rates of their steps.
-use Rattle.px_num.proofs.Basics.{◌≡◌, ◌==◌, ◌<◌, ◌≤◌, ◌∙◌, ℕ, All, List, length, get_or, refl, ap, sym, arith}
-use Rattle.px_num.proofs.Basics.{inl, inr, sum_by, cases_Bool, length-flat_map}
-use Rattle.px_control.proofs.Words.{all_micros, AreRates, bare, bare_worth, but_edges, Candidate, columns_of}
-use Rattle.px_control.proofs.Words.{cycles_in, depths_of, Drop, edges_count, first_face_step, flat_sum, Front, HasFace}
+use Rattle.px_num.proofs.Basics.{◌≡◌, ◌<◌, ◌≤◌, ◌∙◌, ℕ, All, List, length, get_or, ap, sym, arith}
+use Rattle.px_num.proofs.Basics.{sum_by, length-flat_map}
+use Rattle.px_control.proofs.Words.{all_micros, AreRates, bare, bare_worth, but_edges, columns_of}
+use Rattle.px_control.proofs.Words.{cycles_in, depths_of, edges_count, first_face_step, flat_sum, HasFace}
 use Rattle.px_control.proofs.Words.{is_lawful_in_more, is_there, IsBlind, IsFace, IsLawful, IsLawfulScene}
 use Rattle.px_control.proofs.Words.{IsLawfulSolid, IsStep, IsThere, kept_of, layout_of, LayoutView, length-tabulate}
 use Rattle.px_control.proofs.Words.{Macro, Measure, need_of, none_is_void, operations, passes, passes_are, Product}
 use Rattle.px_control.proofs.Words.{products_worth, rated, Rates, rows_of, scene_layout, SceneView, some_solid, Step}
 use Rattle.px_control.proofs.Words.{steps_are_lawful, steps_there, steps_with, sum_by-agree, sum_of_products, total}
-use Rattle.px_control.proofs.Words.{Turn, weighed, worth}
+use Rattle.px_control.proofs.Words.{weighed, worth}
 use Rattle.px_control.specs.Program.{program}
 use Rattle.px_control.proofs.ProductLemmas.{products_sum}
 use Rattle.px_macro.specs.declared.operation.Macro.TheVariants as m
@@ -49,9 +49,7 @@ module _ (scene : SceneView) (measure : Measure) where
 
   bare_has_none : (step : Step)
       → sum_by (but_edges scene measure) (bare l (depths_of scene) step) ≡ bare_worth scene measure step
-  bare_has_none (Candidate solid face) =
-      elim (cases_Bool (scene.fraction_bits == 0)) [ inl none ↦ rw none refl | inr some ↦ rw some refl ]
-  bare_has_none step = refl
+  bare_has_none step = grind arith
 
   pub counted_bare : (step : Step) → IsStep scene step
       → sum_by (but_edges scene measure) (operations scene l step) ≡ bare_worth scene measure step
@@ -60,19 +58,7 @@ module _ (scene : SceneView) (measure : Measure) where
   module _ (rates : Rates) (are : AreRates scene measure rates) where
     rated_is : (step : Step) → HasFace (IsThere scene) step
         → sum_by (worth scene measure) (operations scene l step) ≡ rated rates scene (first_face_step step)
-    rated_is (Candidate solid face) there =
-        rw (are.faces.candidate, are.faces.edge)
-        (weighed edges_count scene l (worth scene measure) blind (Candidate solid face) there)
-    rated_is (Drop solid face) there =
-        rw (are.faces.drop, are.faces.edge)
-        (weighed edges_count scene l (worth scene measure) blind (Drop solid face) there)
-    rated_is (Front solid face) there =
-        rw (are.faces.front, are.faces.edge)
-        (weighed edges_count scene l (worth scene measure) blind (Front solid face) there)
-    rated_is (Turn other solid face) there =
-        rw (are.faces.turn, are.faces.edge)
-        (weighed edges_count scene l (worth scene measure) blind (Turn other solid face) there)
-    rated_is step there = omega (arith, are, weighed edges_count scene l (worth scene measure) blind step there)
+    rated_is step h = grind (arith, weighed, edges_count)
 
     -- what is said of the products that are kept
     pub passes_come_to : (products : List Product) → products ≡ kept_of scene (sum_of_products scene.show)

@@ -98,6 +98,4 @@ none_after scene (x ∷ xs) b n h =
 -- no operation ends after the last clock
 pub none_after_all : (scene : SceneView) → ends_after scene (total scene) ≡ []
 unfolding operation_ends program
-none_after_all scene =
-    none_after scene (passes scene) 0 (length (all_micros (passes scene) (columns_of scene) (rows_of scene)))
-    (omega arith)
+none_after_all scene = grind (arith, none_after, passes)

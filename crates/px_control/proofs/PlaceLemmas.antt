@@ -23,26 +23,11 @@ pub record Here (scene : SceneView) (p : Place) (m : Macro) : Type 0 where
 pub here_of : (scene : SceneView) (p : Place) (m : Macro) → HaveLawfulPasses scene → StandsFor scene p
     → p.current ≡ Some m → Here scene p m
 unfolding program
-here_of scene p m lawful stands e =
-    let nx = columns_of scene
-    in let ny = rows_of scene
-    in let at : slice_get (passes scene) p.operation ≡ Some m = stands.current ∙ e
-    in let micro : p.micro < cycles_in scene m = rw e at stands.micro
-    in let below : start_of scene p.operation + p.micro < total scene =
-    below_total (passes scene) nx ny p.operation p.micro m at micro
-    in record {
-      at = at;
-      micro = micro;
-      lawful = lawful_here (need_of (layout_of scene)) (passes scene) p.operation m at lawful;
-      below = omega (arith, stands.clock, below);
-      next = start_more (passes scene) nx ny p.operation m at;
-    }
+here_of scene p m lawful stands e = grind (arith, rows_of, slice_get, passes, cycles_in, start_of, total, below_total, lawful_here, need_of, layout_of, start_more)
 
 zero_within : (scene : SceneView) (k : ℕ) (o : Option Macro) → HaveLawfulPasses scene → HaveClocks scene
     → slice_get (passes scene) k ≡ o → IsWithinOperation scene 0 o
-zero_within scene k None lawful some e = refl
-zero_within scene k (Some m) lawful some e =
-    some m (lawful_here (need_of (layout_of scene)) (passes scene) k m e lawful)
+zero_within scene k o lawful some e = grind (arith, lawful_here)
 
 past : (xs : List Macro) (k : ℕ) → slice_get xs k ≡ None → length xs ≤ k
 past xs k e = grind (arith, slice_get_cases)
@@ -67,10 +52,7 @@ pub next_broadcast : (scene : SceneView) (p : Place) (m : Macro) → HaveLawfulP
     → p.current ≡ Some m → (d : Micro) →
     get_or (program scene) p.clock d ≡ micro_at m (columns_of scene) (rows_of scene) p.micro
 unfolding program
-next_broadcast scene p m lawful stands e d =
-    let h = here_of scene p m lawful stands e
-    in rw stands.clock (micro_here (passes scene) (columns_of scene) (rows_of scene) p.operation p.micro m d h.at
-    h.micro)
+next_broadcast scene p m lawful stands e d = grind (arith, micro_here, passes)
 
 pub next_is : (scene : SceneView) (p : Place) (m : Macro) → HaveLawfulPasses scene → StandsFor scene p
     → p.current ≡ Some m →
@@ -84,11 +66,7 @@ next_is scene p m lawful stands e =
 -- where no operation is left all broadcasts were made
 pub at_end : (scene : SceneView) (p : Place) → StandsFor scene p → p.current ≡ None → p.clock ≡ total scene
 unfolding program
-at_end scene p stands e =
-    let l = past (passes scene) p.operation (stands.current ∙ e)
-    in let z : p.micro ≡ 0 = rw e at stands.micro
-    in let a = start_all scene (passes scene) p.operation l
-    in omega (arith, stands.clock)
+at_end scene p stands e = grind (arith, past, start_all)
 
 within_total : (scene : SceneView) (p : Place) (o : Option Macro) → HaveLawfulPasses scene → StandsFor scene p
     → p.current ≡ o → p.clock ≤ total scene
@@ -111,18 +89,12 @@ pub next_end_is : (scene : SceneView) (p : Place) (m : Macro) (e : ℕ) → Have
     → StandsFor scene p → p.current ≡ Some m →
     e ≡ p.clock - p.micro + cycles_in scene m → ends_after scene p.clock ≡ e ∷ ends_after scene e
 unfolding operation_ends
-next_end_is scene p m e lawful some stands c is =
-    let h = here_of scene p m lawful stands c
-    in next_end_here scene (passes scene) p.operation p.micro p.clock e m h.at h.micro h.next
-    (zero_within scene (p.operation + 1) (slice_get (passes scene) (p.operation + 1)) lawful some refl) stands.clock is
+next_end_is scene p m e lawful some stands c is = grind (arith, here_of, next_end_here, passes, zero_within)
 
 pub next_end_within : (scene : SceneView) (p : Place) (m : Macro) (e : ℕ) → HaveLawfulPasses scene → StandsFor scene p
     → p.current ≡ Some m → e ≡ p.clock - p.micro + cycles_in scene m → e ≤ total scene
 unfolding program
-next_end_within scene p m e lawful stands c is =
-    let h = here_of scene p m lawful stands c
-    in let b = start_within (passes scene) (columns_of scene) (rows_of scene) (p.operation + 1)
-    in omega (arith, stands.clock, h.next, h.micro, b)
+next_end_within scene p m e lawful stands c is = grind (arith, here_of, start_within)
 
 pub clocks_at : (bits : ℕ) (scene : SceneView) (n : ℕ) (device : Device) → IsAt bits scene n device → device.clocks ≡ n
 unfolding array_after

@@ -24,10 +24,7 @@ at_more bits scene p m n before lawful stands e first n_is at =
 
 -- some operations, and then others
 pub made_both : (xs ys : List Macro) (d : Device) → all_made (xs ++ ys) d ≡ all_made ys (all_made xs d)
-made_both xs ys d =
-    let nx = d.state.tree.nx in
-    let ny = d.state.tree.ny in
-    grind (arith, flat_map-append, all_clocked-append, nx-after_clocks, ny-after_clocks)
+made_both xs ys d = grind (arith, flat_map-append, all_clocked-append, nx-after_clocks, ny-after_clocks)
 
 pub made_more : (ops : List Macro) (m : Macro) (d : Device) → all_made (ops ++ m ∷ []) d
     ≡ all_clocked (micros_on (all_made ops d) m) (all_made ops d)

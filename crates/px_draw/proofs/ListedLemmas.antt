@@ -37,9 +37,7 @@ not_short false reason crowd bytes text is = refl
 
 same_bytes : (short : Bool) (reason : Refusal) (crowd : Option ℕ) (bytes text : List ℕ)
     → limited short reason crowd bytes ≡ done text → bytes ≡ text
-same_bytes true reason crowd bytes text is = cc
-same_bytes false reason (Some count) bytes text is = cc
-same_bytes false reason None bytes text is = cc
+same_bytes short reason crowd bytes text is = grind arith
 
 can_play : (bits : ℕ) (scene : SceneView) (text : List ℕ) → IsListed bits scene text → CanPlay bits scene
 can_play bits scene text is =
@@ -84,10 +82,7 @@ not_refused_by (Some reason) lines answer is = cc
 
 no_refusal : (refusal : Option ListFault) → refusal ≢ Some (f.Memory want) → list_refusal_by refusal ≡ None
     → refusal ≡ None
-no_refusal None other none = refl
-no_refusal (Some (f.Malformed line cause)) other none = cc
-no_refusal (Some (f.Limit line kind found)) other none = cc
-no_refusal (Some (f.Memory _)) other none = absurd (other refl)
+no_refusal refusal other none = grind arith
 
 short_of : (long : Bool) (reason : Option Refusal) (past : Refusal) → (if long then Some past else reason) ≡ None
     → reason ≡ None

@@ -32,9 +32,7 @@ cut_both n xs ys = elim (cases_lt n (length xs)) [
 ]
 
 pub within_both : (text z : List ℕ) → within_limit (text ++ z) ≡ within_limit text ++ seen (more_than text) z
-within_both text z =
-    let count : 1048576 - length text ≡ 1048577 - length text - 1 = omega arith in
-    cut_both 1048576 text z ∙ ap (λ k. within_limit text ++ take k z) count
+within_both text z = simp (length, cut_both, within_limit, take) (grind arith)
 
 pub and_not : (a b : Bool) → b ≡ true → (a && not b) ≡ false
 and_not true b is = rw is refl
@@ -61,16 +59,7 @@ grown_whole kept o more n less is named =
 grown_all : (o : Opening) (more : List ℕ) → more ≡ [] → length o.text.items < 1048577
     → part_end (within_limit o.text.items) ≡ None → o.part ≡ None → Grown o more
 unfolding has_part
-grown_all o more nothing short none named =
-    let text = o.text.items in
-    let same : text ++ more ≡ text = rw nothing (append-nil text) in
-    let unseen : seen (more_than text) more ≡ [] = rw nothing (take_all (more_than text - 1) [] (omega arith)) in
-    record {
-      part = ap scene_part_of same;
-      behind = ap command_text same ∙ sym (rw unseen (append-nil (command_text text)));
-      whole = ap has_part same ∙ ap is_some (none ∙ sym named);
-      within = rw (ap is_long same ∙ short_is text short) refl;
-    }
+grown_all o more nothing short none named = grind (arith, append-nil, seen, more_than, take_all, scene_part_of, command_text, has_part, is_some, is_long, short_is)
 
 pub is_opening : PartIsKept → PartIsWithin → (o : Opening) → length o.text.items ≤ 1048577
     → o.part ≡ part_end (within_limit o.text.items) → IsOpening o
@@ -105,15 +94,7 @@ pub scene_is : (o : Opening) (w : List ℕ) (n : ℕ) (scene : SceneView) → Is
     → w ≡ within_limit o.text.items → n ≡ unwrap_or o.part (length w)
     → (text_refusal (take n w) ≡ None) × (scene ≡ scene_of (worded (take n w))) → IsSceneOf o scene (drop n w)
 unfolding command_text scene_written
-scene_is o w n scene opening short counted cut (good, same) =
-    let part = part_is o w n opening counted cut in
-    record {
-      good = rw part at good;
-      scene = rw part at same;
-      commands = rw (cut, counted, opening.part) refl;
-      none = λ none. rw (cut, none) (drop-length w);
-      short = short;
-    }
+scene_is o w n scene h p q r zz5 = grind (arith, part_is, drop-length)
 
 -- the outcome of bytes whose scene part is whole, or that are not past the limit
 pub debugged_is : (bytes : List ℕ) (bits : ℕ) → (is_long bytes && not (has_part bytes)) ≡ false → debugged bytes bits
@@ -124,9 +105,7 @@ debugged_is bytes bits whole = rw whole refl
 pub admitted_is : (o : Opening) (bits : ℕ) (scene : SceneView) (read : List ℕ) (outcome : Outcome)
     → IsSceneOf o scene read → admitted (scene_part_of o.text.items) bits outcome ≡ drawable bits scene outcome
 unfolding admitted
-admitted_is o bits scene read outcome is =
-    ap (λ why. unless_refused why (drawable bits (part_scene o.text.items) outcome)) is.good
-    ∙ ap (λ s. drawable bits s outcome) (sym is.scene)
+admitted_is o bits scene read outcome is = grind (arith, unless_refused, drawable, part_scene)
 
 -- a refusal of a scene part which is not whole within the limit
 pub long_refuses : (bits : ℕ) (o : Opening) → IsOpening o → o.part ≡ None → length o.text.items ≡ 1048577

@@ -1,4 +1,5 @@
 -- What was played of a text that was read, it was played of the input.
+use Rattle.px_num.proofs.Basics.{rules}
 use Rattle.px_num.proofs.Basics.{ℕ, ◌≡◌, ◌≤◌, List, length, Some, None, Result, Err, refl, Consumes}
 use Rattle.px_io.specs.Reports.{ConsumesAtMost, IsFrontOf}
 use Rattle.px_io.specs.declared.reading.ReadError.{ReadError}
@@ -15,7 +16,7 @@ use Rattle.px_commands.specs.Stops.{DoesWork, StopsAt, read_stop, stopped}
 use Rattle.px_commands.proofs.FrontLaws.{LeavesAlike, ServesText, performs_served, text_serves}
 use Rattle.px_commands.proofs.FrontLaws as front
 use Rattle.px_commands.proofs.LimitLaws.{past_limit}
-use Rattle.px_commands.proofs.StopLaws.{read_leaves, refused_leaves, stop_leaves, stop_serves}
+use Rattle.px_commands.proofs.StopLaws.{read_leaves, refused_leaves}
 
 -- a listing is played, where a text was read
 abbrev pub PlaysText : Result (Unit {0}) Stop → (bits : ℕ) → (before after : Ends) → (text : List ℕ) → Type 0
@@ -60,18 +61,11 @@ performs_unread bits fault before after idle took =
 pub plays_text : (bytes lent : List ℕ) (told bits : ℕ) (stop : SceneStop) (before after : Ends) → told ≡ bits
     → lent ≡ bytes → StopsAt (unless_refused (list_refusal told lent)) stop → after.out ≡ before.out
     → after.array ≡ before.array → PlaysText (Err (stopped stop)) bits before after bytes
-plays_text bytes lent told bits stop before after width same stops out array = record {
-  serves = rw out (stop_serves stop (unless_refused (list_refusal bits bytes))
-      (done (played_text bits (listing_written bytes))) before.out (rw (width, same) at stops));
-  array = rw array (stop_leaves stop (IsPlayed bits (listing_written bytes)) before.array);
-}
+plays_text bytes lent told bits stop before after width same stops out array = search rules
 
 -- the listing of a text is played
 pub plays_listing : (result : Result (Unit {0}) Stop) (bytes lent : List ℕ) (told bits : ℕ) (l : ListingView)
     (before after : Ends) → told ≡ bits → lent ≡ bytes → list_refusal told lent ≡ None
     → l ≡ listing_written lent → DoesWork result (done (played_text bits l)) before.out after.out
     → Plays (status_in result) bits l before.array after.array → PlaysText result bits before after bytes
-plays_listing result bytes lent told bits l before after width same good is serves array =
-    let whole : list_refusal bits bytes ≡ None = rw (width, same) at good in
-    let listing : l ≡ listing_written bytes = rw same at is in
-    record { serves = rw (whole, ← listing) serves; array = rw (← listing) array }
+plays_listing result bytes lent told bits l before after width same good is serves array = search rules

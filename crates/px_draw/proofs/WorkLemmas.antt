@@ -1,14 +1,12 @@
 -- What was made of a text that was read, it was made of the input.
-use Rattle.px_num.proofs.Basics.{ℕ, ◌≡◌, ◌≤◌, inl, List, length, Some, None, Result, Err, refl, sym, ◌∙◌, Consumes}
+use Rattle.px_num.proofs.Basics.{rules}
+use Rattle.px_num.proofs.Basics.{ℕ, ◌≡◌, ◌≤◌, List, length, Some, None, Result, Err, refl, Consumes}
 use Rattle.px_io.specs.Reports.{ConsumesAtMost, IsFrontOf}
 use Rattle.px_io.specs.declared.reading.ReadError.{ReadError}
 use Rattle.px_array.specs.Slots.{ArrayView}
 use Rattle.px_scene.specs.Scenes.{SceneView}
 use Rattle.px_scene.specs.Text.{worded}
 use Rattle.px_scene.specs.Reading.{scene_of}
-use Rattle.px_frame.specs.Drawn.{IsDrawn}
-use Rattle.px_frame.specs.Finer.{fine_scene}
-use Rattle.px_frame.specs.Refined.{doublings}
 use Rattle.px_commands.specs.declared.command.Work.{Work}
 use Rattle.px_commands.specs.declared.refusal.Refusal.{Refusal}
 use Rattle.px_commands.specs.declared.status.Status.{Status}
@@ -23,11 +21,7 @@ use Rattle.px_draw.specs.Works.{LeavesArray, PerformsWork, made, worked_out}
 use Rattle.px_commands.proofs.FrontLaws.{LeavesAlike, ServesText, performs_served, performs_unread, text_serves}
 use Rattle.px_commands.proofs.LimitLaws.{past_limit}
 use Rattle.px_commands.proofs.RunLaws.{bytes_of}
-use Rattle.px_commands.proofs.StopLaws.{read_leaves, stop_leaves, stop_serves}
-use Rattle.px_io.specs.declared.reading.ReadError.TheVariants as read
-use Rattle.px_commands.specs.declared.command.Work.TheVariants as w
-use Rattle.px_commands.specs.declared.refusal.Refusal.TheVariants as r
-use Rattle.px_commands.specs.declared.stop.SceneStop.TheVariants as halted
+use Rattle.px_commands.proofs.StopLaws.{stop_serves}
 
 -- the array is left as by the scene of a text; a refused text leaves what it would of any scene
 pub record LeavesWorked (work : Work) (found : Status) (bits : ℕ) (text : List ℕ) (before now : ArrayView) : Type 0
@@ -73,24 +67,11 @@ performs_text result work text bits before after front consumed works =
 -- an array that is as before is what a read that failed leaves, and a scene that is not served
 read_array : (work : Work) (bits : ℕ) (scene : SceneView) (array : ArrayView) (fault : ReadError)
     → LeavesArray work (status_of (read_stop fault)) bits scene array array
-read_array w.Render bits scene array fault = read_leaves fault (IsDrawn bits scene) array
-read_array w.Colour bits scene array fault = read_leaves fault (IsDrawn bits scene) array
-read_array (w.Refine fineness) bits scene array fault =
-    read_leaves fault (IsDrawn bits (fine_scene (doublings fineness) scene)) array
-read_array (w.Tile size) bits scene array read.Failed = refl
-read_array (w.Tile size) bits scene array (read.Memory _) = inl refl
-read_array other bits scene array fault = refl
+read_array work bits scene array fault = search rules
 
 stop_array : (work : Work) (bits : ℕ) (scene : SceneView) (array : ArrayView) (stop : SceneStop)
     → LeavesArray work (status_of (stopped stop)) bits scene array array
-stop_array w.Render bits scene array stop = stop_leaves stop (IsDrawn bits scene) array
-stop_array w.Colour bits scene array stop = stop_leaves stop (IsDrawn bits scene) array
-stop_array (w.Refine fineness) bits scene array stop =
-    stop_leaves stop (IsDrawn bits (fine_scene (doublings fineness) scene)) array
-stop_array (w.Tile size) bits scene array (halted.Refused (r.Malformed line cause)) = refl
-stop_array (w.Tile size) bits scene array (halted.Refused (r.Limit line kind found)) = refl
-stop_array (w.Tile size) bits scene array (halted.Memory _) = inl refl
-stop_array other bits scene array stop = refl
+stop_array work bits scene array stop = search rules
 
 -- the work stops at a read, whatever the text is
 pub performs_read : (work : Work) (bits : ℕ) (fault : ReadError) (before after : Ends) → IsUntouched before after
@@ -119,13 +100,4 @@ pub works_scene : (result : Result (Unit {0}) Stop) (work : Work) (bytes lent : 
     → DoesWork result (made work scene bits) before.out after.out
     → LeavesArray work (status_in result) bits scene before.array after.array
     → WorksText result work bits before after bytes
-works_scene result work bytes lent bits scene before after same good is serves array =
-    let whole : text_refusal bytes ≡ None = rw same at good in
-    let here : scene ≡ scene_of (worded bytes) = rw same at is in
-    record {
-      serves = rw (whole, ← here) serves;
-      array = record {
-        array = rw (← here) array;
-        refused = λ reason bad other. let none : None ≡ Some reason = sym whole ∙ bad in cc;
-      };
-    }
+works_scene result work bytes lent bits scene before after same good is serves array = search rules

@@ -1,13 +1,12 @@
 -- Means of the same samples, and the image of means over the picture of the finer scene.
 use Rattle.px_num.proofs.Basics.{◌≡◌, ◌≢◌, ℕ, zero, suc, ◌+◌, ◌*◌, ◌/◌, ◌%◌, ◌^◌, ◌<◌, ◌≤◌, [], ◌∷◌, refl, ap}
-use Rattle.px_num.proofs.Basics.{◌∙◌, append-nil, arith, mul-div-le, mul-le-mul_left, pow_pos, range_with_len}
+use Rattle.px_num.proofs.Basics.{append-nil, arith, mul-le-mul_left, pow_pos, range_with_len}
 use Rattle.px_num.proofs.Basics.{sum_by}
 use Rattle.std.proofs.Math.Nat.{mul-div_cancel_left}
 use Rattle.px_model.specs.declared.solid.Colour.{Colour}
 use Rattle.px_model.specs.Scenes.{SceneView}
 use Rattle.px_frame.specs.Finer.{fine_scene}
-use Rattle.px_frame.specs.Images.{images, picture_image}
-use Rattle.px_frame.specs.Picture.{image_of_pixels, colour_at}
+use Rattle.px_frame.specs.Images.{images}
 use Rattle.px_frame.specs.Refined.{doublings, mean, mean_pixel, refined_image}
 use Rattle.px_frame.specs.RefinedLaw.{MeansAreRefined}
 use Rattle.px_frame.specs.declared.plane.Fineness.{Fineness}
@@ -46,23 +45,12 @@ module _ (s x y : ℕ) where
       rw (red, green, blue) refl
 
 pub means_refined : MeansAreRefined
-means_refined s scene =
-    let fine = fine_scene s scene in
-    let width : 2 ^ s * scene.width / 2 ^ s ≡ scene.width = mul-div_cancel_left scene.width (pow_pos s) in
-    let height : 2 ^ s * scene.height / 2 ^ s ≡ scene.height = mul-div_cancel_left scene.height (pow_pos s) in
-    ap (λ m. image_of_pixels m (2 ^ s * scene.height / 2 ^ s) (mean_pixel s (colour_at fine))) width
-    ∙ ap (λ m. image_of_pixels scene.width m (mean_pixel s (colour_at fine))) height
+means_refined = grind (arith, mul-div_cancel_left, pow_pos)
 
 -- the images of the finer scene that are of means alone
 pub images_refined : (fineness : Fineness) (scene : SceneView)
     → images (fine_scene (doublings fineness) scene) (p.Means fineness ∷ []) ≡ refined_image (doublings fineness) scene
-images_refined fineness scene =
-    append-nil (picture_image (fine_scene (doublings fineness) scene) (p.Means fineness))
-    ∙ means_refined (doublings fineness) scene
-
--- a block of so many rows as fit into a height
-pub block_fits : (s y height : ℕ) → y < height / 2 ^ s → 2 ^ s * y + 2 ^ s ≤ height
-block_fits s y height above = grind (arith, mul-le-mul_left, mul-div-le)
+images_refined fineness scene = grind (arith, append-nil, doublings)
 
 -- the rows of a block are in one strip
 pub in_strip : (s y j : ℕ) → s ≤ 2 → j < 2 ^ s → (2 ^ s * y + j) / 8 ≡ 2 ^ s * y / 8

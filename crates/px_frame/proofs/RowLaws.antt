@@ -2,17 +2,14 @@
 use Rattle.px_num.proofs.Basics.{◌≡◌, ℕ, ◌+◌, ◌-◌, ◌/◌, ◌<◌, ◌≤◌, refl, ap, sym, ◌∙◌, arith, List, [], ◌∷◌, ◌++◌}
 use Rattle.px_num.proofs.Basics.{append_assoc, get_or, length, set, take, length-set, flat_map-append, flat_map}
 use Rattle.px_num.proofs.Basics.{range_with_len}
-use Rattle.px_frame.proofs.Words.{Field, front_after, front_before, header, HoldsRow, image_of, image_of_pixels}
-use Rattle.px_frame.proofs.Words.{number_pixel, row_of_pixels, SinkState, State, takes_both, TakesAll, TakesFront}
-use Rattle.px_frame.proofs.Words.{three_bytes}
+use Rattle.px_frame.proofs.Words.{Field, front_after, front_before, HoldsRow, image_of, image_of_pixels}
+use Rattle.px_frame.proofs.Words.{row_of_pixels, SinkState, State, takes_both, TakesAll, TakesFront}
 use Rattle.std.proofs.lemmas.List.{append-nil}
 use Rattle.std.proofs.lemmas.Grind.{take-set_at}
 use Rattle.px_num.proofs.RangeLaws.{range_cut, same_parts}
 
 range_join : (n m : ℕ) → range_with_len 0 n ++ range_with_len n m ≡ range_with_len 0 (n + m)
-range_join n m =
-    let plain : 0 + n ≡ n = omega arith in
-    ap (λ b. range_with_len 0 n ++ range_with_len b m) (sym plain) ∙ sym (range_cut 0 n m)
+range_join n m = grind (arith, range_cut)
 
 -- what is made of the first n numbers
 abbrev made : (ℕ → List ℕ) → ℕ → List ℕ
@@ -71,22 +68,13 @@ rows_broken a b c front row y height above written next =
 -- an image is that of the pixels in the picture
 pub same_pixels : (width height : ℕ) (f g : (x y : ℕ) → List ℕ) → ((x y : ℕ) → x < width → y < height → f x y ≡ g x y)
     → image_of_pixels width height f ≡ image_of_pixels width height g
-same_pixels width height f g same =
-    ap (λ bytes. header width height ++ bytes)
-    (same_parts (row_of_pixels width f) (row_of_pixels width g) 0 height (λ y low above.
-    same_parts (λ x. f x y) (λ x. g x y) 0 width (λ x low left. same x y (omega arith) (omega arith))))
+same_pixels width height f g same = grind (arith, same_parts)
 
 pub same_image : (width height : ℕ) (f g : (x y : ℕ) → ℕ) → ((x y : ℕ) → x < width → y < height → f x y ≡ g x y)
     → image_of width height f ≡ image_of width height g
-same_image width height f g same =
-    same_pixels width height (number_pixel f) (number_pixel g)
-    (λ x y left above. ap three_bytes (same x y left above))
+same_image width height f g same = grind (arith, same_pixels)
 
 -- a strip that has the numbers of a row has those of another one of its eight
 pub other_row : (strip : List ℕ) (field : Field) (state : State) (width y other : ℕ) → other / 8 ≡ y / 8
     → HoldsRow strip field state width y → HoldsRow strip field state width other
-other_row strip field state width y other same held = record {
-  long = held.long;
-  each = λ x row low here above. held.each x row low (here ∙ same) above;
-  small = held.small;
-}
+other_row strip field state width y other same held = grind arith

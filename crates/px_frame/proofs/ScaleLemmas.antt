@@ -1,7 +1,7 @@
 -- Numbers that are all so many times as large: values of planes, orders, and the greater and the less of two.
 use Rattle.px_num.proofs.Basics.{common_steps, ◌≡◌, ℕ, zero, suc, ◌-◌, ◌*◌, ◌<◌, ℤ, pos, negsuc, neg_ℤ, ◌+ℤ◌, ◌*ℤ◌}
 use Rattle.px_num.proofs.Basics.{nat_le, nat_lt, Bool, true, false, cond, refl, ap, arith, int_max, int_min, int_eq}
-use Rattle.px_num.proofs.Basics.{mul-le-mul_left, cases_lt, nat_tests}
+use Rattle.px_num.proofs.Basics.{mul-le-mul_left, cases_lt}
 use Rattle.std.proofs.Math.IntN.{*ℤ_comm}
 use Rattle.std.proofs.Math.Nat.{mul-lt-mul_of_pos_left}
 use lib.Signed.{lt_z, le_z}
@@ -45,16 +45,10 @@ pub nat_lt_times : (k m n : ℕ) → 0 < k → nat_lt (k * m) (k * n) ≡ nat_lt
 nat_lt_times k m n some = grind (arith, cases_lt, less_times, mul-le-mul_left)
 
 pub le_times : (k : ℕ) (u v : ℤ) → 0 < k → le_z (pos k *ℤ u) (pos k *ℤ v) ≡ le_z u v
-le_times k (pos m) (pos n) some = nat_le_times k m n some
-le_times k (pos m) (negsuc n) some = rw (negative (k * suc n) (positive k n some)) refl
-le_times k (negsuc m) (pos n) some = rw (negative (k * suc m) (positive k m some)) refl
-le_times k (negsuc m) (negsuc n) some = grind (arith, nat_tests, common_steps, positive, nat_le_times, negative)
+le_times k u v h = grind (arith, nat_le_times, common_steps)
 
 pub lt_times : (k : ℕ) (u v : ℤ) → 0 < k → lt_z (pos k *ℤ u) (pos k *ℤ v) ≡ lt_z u v
-lt_times k (pos m) (pos n) some = nat_lt_times k m n some
-lt_times k (pos m) (negsuc n) some = rw (negative (k * suc n) (positive k n some)) refl
-lt_times k (negsuc m) (pos n) some = rw (negative (k * suc m) (positive k m some)) refl
-lt_times k (negsuc m) (negsuc n) some = grind (arith, nat_tests, common_steps, positive, nat_lt_times, negative)
+lt_times k u v h = grind (arith, nat_lt_times, common_steps)
 
 pub eq_times : (k : ℕ) (u v : ℤ) → 0 < k → int_eq (pos k *ℤ u) (pos k *ℤ v) ≡ int_eq u v
 eq_times k u v some = rw (lt_times k u v some, lt_times k v u some) refl

@@ -3,7 +3,7 @@ use Rattle.px_num.proofs.Basics.{◌≡◌, ℕ, zero, suc, ◌+◌, ◌*◌, �
 use Rattle.px_num.proofs.Basics.{if◌then◌else◌, List, ◌++◌, get_or, length, ap, sym, subst, ◌∙◌, arith, inl, inr}
 use Rattle.px_num.proofs.Basics.{length-append, cases_lt, get_or_append_left, get_or-append-add, shr-shr, shr_split}
 use Rattle.px_num.proofs.Basics.{bit_at_cat_low}
-use Rattle.px_frame.proofs.Words.{bit_at, double_pow, Field, HoldsRow, index_below, IsMemoryWord, lt_true, memory_bit}
+use Rattle.px_frame.proofs.Words.{double_pow, Field, HoldsRow, index_below, IsMemoryWord, memory_bit}
 use Rattle.px_frame.proofs.Words.{nat_bit, number_from_bits, number_in, pixel_of, power_grows, power_next, State}
 use Rattle.px_frame.proofs.Words.{strip_number}
 
@@ -40,10 +40,7 @@ pub number_read : (state : State) (field : Field) (x row place j : ℕ) → plac
     → x * 2 ^ state.tree.ny + row < 2 ^ (state.tree.nx + state.tree.ny)
     → number_from_bits (λ t. memory_bit state (field.at + t) (place + j)) field.len
     ≡ number_in field (pixel_of state x row).memory
-number_read state field x row place j same within =
-    ap (λ p. number_from_bits (λ t. memory_bit state (field.at + t) p) field.len) same
-    ∙ ap (λ (b : Bool). number_from_bits (λ t. if b then bit_at (pixel_of state x row).memory (field.at + t) else false)
-    field.len) (lt_true _ _ within)
+number_read state field x row place j same within = grind arith
 
 -- one column more
 pub columns_more : (field : Field) (state : State) (x top place : ℕ) (strip column : List ℕ) → top % 8 ≡ 0

@@ -1,11 +1,11 @@
 -- A line that is not refused writes an operation that the pixels can carry out.
-use Rattle.px_num.proofs.Basics.{◌≡◌, ℕ, ℤ, pos, ◌+◌, ◌-◌, ◌^◌, ◌<◌, ◌≤◌, ◌≤ℤ◌, All, List, [], ◌∷◌, ◌++◌, length}
+use Rattle.px_num.proofs.Basics.{◌≡◌, ℕ, ℤ, pos, ◌+◌, ◌^◌, ◌<◌, ◌≤◌, ◌≤ℤ◌, All, List, [], ◌∷◌, ◌++◌, length}
 use Rattle.px_num.proofs.Basics.{Option, Some, None, IfOk, IfSome, Result, Ok, Err, sym, subst, arith, append_assoc}
 use Rattle.px_num.proofs.Basics.{append-nil, option_or, ints, All-nil, All-push, fold-append}
 use Rattle.px_listing.proofs.Words.{AreApart, AreOfOneLength, end_past, field_of, field_past, fields_past, first_bad}
-use Rattle.px_listing.proofs.Words.{form_past, IsField, IsInTreeRange, IsLawful, Kind, ListForm, listing_keyword_of}
-use Rattle.px_listing.proofs.Words.{ListingView, Macro, negsuc, none_first, none_second, operation, operation_with}
-use Rattle.px_listing.proofs.Words.{overlap, past, plane_of, shape_of, shape_past, size_of, timely_form, value_past}
+use Rattle.px_listing.proofs.Words.{form_past, IsField, IsInTreeRange, IsLawful, Kind, ListForm}
+use Rattle.px_listing.proofs.Words.{ListingView, Macro, negsuc, none_first, none_second, operation_with}
+use Rattle.px_listing.proofs.Words.{overlap, past, plane_of, shape_of, shape_past, size_of, value_past}
 use Rattle.px_listing.proofs.Words.{worded, Words}
 use Rattle.px_num.proofs.BitLaws.{pow_above}
 use Rattle.px_show.specs.declared.fault.Cause.{Cause}
@@ -16,7 +16,6 @@ use Rattle.px_listing.specs.Reading.{listing_fault_behind, listing_of, listing_r
 use Rattle.px_listing.specs.Reading.{with_operation}
 use Rattle.px_listing.proofs.LimitLemmas.{within}
 use Rattle.px_macro.specs.declared.operation.Macro.TheVariants as m
-use Rattle.px_listing.specs.declared.kind.Kind.TheVariants as n
 use Rattle.px_listing.specs.declared.limit.ListKind.TheVariants as kind
 
 form_in_range : (a b c : ℤ) → form_past a b c ≡ None → IsInTreeRange (plane_of a b c)
@@ -24,9 +23,7 @@ form_in_range a b c e = grind (arith, none_first, within, none_second)
 
 -- so many bits from a place on stand within the memory
 ends_within : (bits : ℕ) (at len : ℤ) → pos 0 ≤ℤ len → end_past bits at len ≡ None → size_of at + size_of len ≤ bits
-ends_within bits (pos n) (pos k) some e = grind (arith, ints)
-ends_within bits (pos n) (negsuc k) some e = absurd (omega (arith, ints))
-ends_within bits (negsuc n) len some e = cc
+ends_within bits at len h p = grind arith
 
 field_is : (bits : ℕ) (at len : ℤ) → field_past bits at len ≡ None → IsField (field_of at len) bits
 field_is bits at (pos n) e = grind (arith, within, none_first, ends_within, none_second)
@@ -36,16 +33,11 @@ second_is : (bits : ℕ) (at len to : ℤ) → fields_past bits at len to ≡ No
 second_is bits at len to e = grind (arith, field_is, none_first, within, ends_within, none_second)
 
 number_fits : (len number : ℤ) → value_past len number ≡ None → size_of number < 2 ^ size_of len
-number_fits len (pos n) e = grind (arith, within, pow_above)
-number_fits len (negsuc n) e =
-    let few = within kind.Value (pos 0) (pos (2 ^ size_of len - 1)) (negsuc n) e in absurd (omega (arith, ints, few.0))
+number_fits len number h = grind (arith, pos, pow_above)
 
 lie_apart : (at len to : ℤ) → pos 0 ≤ℤ at → pos 0 ≤ℤ len → pos 0 ≤ℤ to → overlap at len to ≡ None
     → AreApart (field_of at len) (field_of to len)
-lie_apart (pos n) (pos l) (pos t) at_is len_is to_is e = grind (arith, ints)
-lie_apart (negsuc n) len to at_is len_is to_is e = absurd (omega (arith, ints))
-lie_apart (pos n) (negsuc l) to at_is len_is to_is e = absurd (omega (arith, ints))
-lie_apart (pos n) (pos l) (negsuc t) at_is len_is to_is e = absurd (omega (arith, ints))
+lie_apart at len to h p q r = grind arith
 
 of_one_length : (bits : ℕ) (at len to : ℤ) → fields_past bits at len to ≡ None
     → AreOfOneLength (field_of at len) (field_of to len) bits
@@ -77,18 +69,7 @@ constant_is bits at len number none = grind (arith, field_is, none_first, number
 -- the operation that numbers write which pass no limit; another count of numbers writes none
 pub kind_lawful : (bits : ℕ) (kind : Kind) (zs : List ℤ) → shape_past bits (shape_of kind) zs ≡ None
     → IfSome (operation_with kind zs) (λ op. IsLawful op bits)
-kind_lawful bits n.KeepSign (a ∷ b ∷ c ∷ []) none = form_in_range a b c none
-kind_lawful bits n.KeepBit (at ∷ v ∷ []) none = bit_is bits at v none
-kind_lawful bits n.SetBit (at ∷ v ∷ []) none = bit_is bits at v none
-kind_lawful bits n.Toggle (at ∷ []) none = place_is bits at none
-kind_lawful bits n.LoadLinear (a ∷ b ∷ c ∷ at ∷ len ∷ []) none = linear_is bits a b c at len none
-kind_lawful bits n.KeepAtMost (a ∷ b ∷ c ∷ at ∷ len ∷ []) none = linear_is bits a b c at len none
-kind_lawful bits n.AddLinear (a ∷ b ∷ c ∷ at ∷ len ∷ []) none = linear_is bits a b c at len none
-kind_lawful bits n.LoadConst (at ∷ len ∷ number ∷ []) none = constant_is bits at len number none
-kind_lawful bits n.Copy (at ∷ len ∷ to ∷ []) none = copies bits at len to none
-kind_lawful bits n.KeepLess (at ∷ len ∷ to ∷ []) none = of_one_length bits at len to none
-kind_lawful bits kind [] none = tt
-kind_lawful bits kind zs none = tt
+kind_lawful bits kind zs h = grind (arith, bit_is, place_is, linear_is, constant_is, copies, of_one_length)
 
 pub all_more : (bits : ℕ) (o : Option Macro) (ops : List Macro) → IfSome o (λ op. IsLawful op bits)
     → All (λ op. IsLawful op bits) ops → All (λ op. IsLawful op bits) (with_operation o ops)
@@ -97,15 +78,11 @@ all_more bits (Some op) ops one all = All-push (λ q. IsLawful q bits) ops op al
 
 form_lawful : (bits : ℕ) (draft : ListingDraft) (r : Result ListForm Cause) → bad_by bits r ≡ None
     → All (λ op. IsLawful op bits) draft.macros → All (λ op. IsLawful op bits) (extended_by draft r).macros
-form_lawful bits draft (Ok (operation kind zs)) none all =
-    all_more bits (operation_with kind zs) draft.macros (kind_lawful bits kind zs none) all
-form_lawful bits draft r none all = all
+form_lawful bits draft r h p = grind (arith, all_more, kind_lawful)
 
 line_lawful : (bits : ℕ) (draft : ListingDraft) (l : Words) → bad_in bits draft.due l ≡ None
     → All (λ op. IsLawful op bits) draft.macros → All (λ op. IsLawful op bits) (listing_taken draft l).macros
-line_lawful bits draft [] none all = all
-line_lawful bits draft (w ∷ ws) none all =
-    form_lawful bits draft (timely_form draft.due (listing_keyword_of w) ws) none all
+line_lawful bits draft l h p = grind (arith, form_lawful)
 
 pub draft_more : (before : List Words) (l : Words)
     → listing_draft_of (before ++ l ∷ []) ≡ listing_taken (listing_draft_of before) l

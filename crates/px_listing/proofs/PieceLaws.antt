@@ -56,9 +56,7 @@ ok_all (Err x) a b c u v xs ys whole is first second = tt
 -- all of xs was written, once what waits was
 pub ok_flushed : {T E : Type 0} (r : Result T E) (a b c : SinkState) (v w xs : List ℕ)
     → Puts a b [] xs v → OnOk r (w ≡ []) → OnOk r (Puts b c v [] w) → OnOk r (TakesAll a c xs)
-ok_flushed (Ok x) a b c v w xs first empty second =
-    grind (arith, nat_tests, common_steps, append-nil, puts_both, puts_all)
-ok_flushed (Err x) a b c v w xs first empty second = tt
+ok_flushed r a b c v w xs h p q = grind (arith, common_steps, puts_all)
 
 pub err_cut : {T E : Type 0} (r : Result T E) (a b c : SinkState)
     (u v xs ys rest whole : List ℕ) → xs ++ (ys ++ rest) ≡ whole

@@ -25,9 +25,7 @@ one_longer (Some op) ops = omega (arith, length-append ops (op ∷ []))
 -- a good line keeps a draft lawful
 kept : (bits count : ℕ) (draft : ListingDraft) (form : ListForm) → listing_limit_of bits form ≡ None
     → IsOpened draft.due form → IsDraft bits count draft → IsDraft bits (count + 1) (extended draft form)
-kept bits count draft (grid nx ny) good opened keeps = grind (arith, grid_within)
-kept bits count draft (operation kind zs) good opened keeps = grind (arith, all_more, kind_lawful, one_longer)
-kept bits count draft form good opened keeps = grind arith
+kept bits count draft form h p q = grind (arith, grid, operation, all_more, kind_lawful, one_longer)
 
 pub kept_more : (bits count : ℕ) (draft new : ListingDraft) (form : ListForm) → listing_limit_of bits form ≡ None
     → IsOpened draft.due form → new ≡ extended draft form → IsDraft bits count draft → IsDraft bits (count + 1) new

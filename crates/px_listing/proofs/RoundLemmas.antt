@@ -1,6 +1,6 @@
 -- What is read of the canonical text of a listing.
 use Rattle.px_num.proofs.Basics.{◌≡◌, ℕ, ℤ, pos, ◌+◌, ◌^◌, ◌<◌, ◌≤◌, ◌≤ℤ◌, List, [], ◌∷◌, Bool, true, false, Some}
-use Rattle.px_num.proofs.Basics.{None, Ok, Err, map, length, if◌then◌else◌, not, ◌∙◌, inl, inr, ◌⊎◌, refl, ap, arith}
+use Rattle.px_num.proofs.Basics.{None, Ok, Err, map, length, if◌then◌else◌, not, ◌∙◌, inl, inr, ◌⊎◌, refl, arith}
 use Rattle.px_num.proofs.Basics.{pow_mono, ints, length-map, signed_decimal}
 use Rattle.px_listing.proofs.Words.{are_numbers, are_plain, bit_number, end_past, field_past, form_past, is_plain}
 use Rattle.px_listing.proofs.Words.{is_set, IsField, IsInTreeRange, IsLawful, IsWithin, Kind, kind_of}
@@ -122,11 +122,7 @@ module _ (bits : ℕ) (most : bits ≤ 256) where
 
   -- the numbers of an operation write it
   written : (op : Macro) → IsLawful op bits → operation_with (kind_of op) (operands_of op) ≡ Some op
-  written (m.KeepBit at v) lawful = rw (bit_read v) refl
-  written (m.SetBit at v) lawful = rw (bit_read v) refl
-  written (m.Copy f g) lawful = ap (λ len. Some (m.Copy f (record { at = g.at; len = len }))) lawful.0.length
-  written (m.KeepLess f g) lawful = ap (λ len. Some (m.KeepLess f (record { at = g.at; len = len }))) lawful.length
-  written op lawful = refl
+  written op h = grind arith
 
 -- the word of an operation is its own, and plain
 word_is : (kind : Kind) → listing_keyword_of (word_of kind) ≡ k.Operation kind
@@ -141,9 +137,7 @@ plain_word kind = refl
 counted_by : (counts are : Bool) (kind : Kind) (ws : Words) → counts ≡ true → are ≡ true
     → operation_form kind (if not counts then Err c.WordCount else if are then Ok (numbers_of ws) else Err c.NotNumber)
     ≡ Ok (operation kind (numbers_of ws))
-counted_by true true kind ws one two = refl
-counted_by true false kind ws one two = cc
-counted_by false are kind ws one two = cc
+counted_by counts are kind ws one two = grind arith
 
 -- a line of an operation that such pixels can carry out is good, and is read as it
 pub record IsRead (bits : ℕ) (op : Macro) : Type 0 where

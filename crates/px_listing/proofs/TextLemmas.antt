@@ -51,12 +51,7 @@ lines_from (op ∷ ops) =
 
 text_is : (l : ListingView) → fed (map bare (all_words l)) ≡ canonical_listing l
 unfolding header_line number_line
-text_is l =
-    let header = header_line in
-    let grid = number_line (codes "grid") (pos l.nx ∷ pos l.ny ∷ []) in
-    let ops = flat_map macro_line l.macros in
-    ap (λ t. header ++ (grid ++ t)) (lines_from l.macros)
-    ∙ (sym (append_assoc header grid (ops ++ end_line)) ∙ sym (append_assoc (header ++ grid) ops end_line))
+text_is l = grind (arith, grid, number_line, codes, pos, flat_map, macro_line, lines_from, append_assoc, end_line)
 
 -- the operations can be carried out by pixels of so many memory bits
 abbrev AreLawful : (bits : ℕ) → List Macro → Type 0

@@ -1,6 +1,8 @@
 -- The canonical text of a scene is within the limit of texts.
+use Rattle.std.proofs.Common.{tests}
+use Rattle.px_num.proofs.Basics.{rules}
 use Rattle.px_num.proofs.Basics.{◌≡◌, ℕ, ◌+◌, ◌*◌, ◌<◌, ◌≤◌, ◌^◌, List, [], ◌∷◌, ◌++◌, length, Bool, true, false, not}
-use Rattle.px_num.proofs.Basics.{codes, decimal, get_or, refl, subst, arith, length-append, zero, suc, All, AllPass}
+use Rattle.px_num.proofs.Basics.{codes, decimal, get_or, refl, arith, length-append, zero, suc, All, AllPass}
 use Rattle.px_num.proofs.Basics.{flat_map, range_with_len, length-map}
 use Rattle.px_scene.proofs.CanonicalWords.{AreNumberedFrom, canonical_text, colour_words, depth_words, Face, face_line}
 use Rattle.px_scene.proofs.CanonicalWords.{face_lines_at, faces_in, faces_of, faces_of-cons, has_number, is_name}
@@ -11,7 +13,6 @@ use Rattle.px_scene.proofs.CanonicalWords.{version_word, Words, words_of_plane, 
 use Rattle.px_scene.proofs.CutLemmas.{HasOne, cut}
 use Rattle.px_scene.proofs.LengthLaws.{joined, decimal_short, plane_short, colour_short, line_short, name_short}
 use Rattle.px_scene.proofs.LengthLaws.{tree_short}
-use Rattle.px_show.specs.declared.scene_version.Version.TheVariants as v
 
 spaced_both : (vs ws : Words) (m n : ℕ) → length (spaced vs) ≤ m → length (spaced ws) ≤ n
     → length (spaced (vs ++ ws)) ≤ m + n
@@ -36,11 +37,7 @@ sides_short (p ∷ ps) all =
 -- the lines of the one face that has a number
 one_short : (kind : List ℕ) (m : ℕ) (faces : List Face) → length kind ≤ 5 → All (λ f. IsPlane f.plane) faces
     → All (λ f. IsColour f.colour) faces → HasOne m faces → length (face_lines_at kind faces m) ≤ 54
-one_short kind m faces few planes colours one =
-    let there = face_short kind (get_or faces one.place one.face) few (planes one.place one.face one.within)
-    (colours one.place one.face one.within)
-    in let here = subst (λ (f : Face). length (face_line kind f) ≤ 54) (one.read one.face) there
-    in rw one.only (omega (arith, length-append (face_line kind one.face) []))
+one_short kind m faces few planes colours one = search (rules, tests, arith, face_short, get_or) depth 8
 
 number_short : (s : SolidView) (m : ℕ) (is : Bool) → IsLawfulSolid s → has_number s.fronts m ≡ is
     → has_number s.backs m ≡ not is → length (lines_of_number s m) ≤ 54
@@ -86,17 +83,11 @@ solids_short (s ∷ ss) first ok are names =
     in omega (arith, length-append (solid_lines s) (flat_map solid_lines ss))
 
 version_short : (version : Version) → length (spaced (version_word version ∷ [])) ≤ 2
-version_short v.One = omega arith
-version_short v.Two = omega arith
-version_short v.Three = omega arith
+version_short version = grind arith
 
 depth_short : (version : Version) (bits fraction : ℕ) → bits ≤ 512 → fraction ≤ 512
     → length (spaced (depth_words version bits fraction)) ≤ 8
-depth_short v.One bits fraction b f =
-    joined (32 ∷ decimal bits) [] 4 4 (let n = decimal_short bits (omega arith) in omega arith) (omega arith)
-depth_short v.Two bits fraction b f =
-    joined (32 ∷ decimal bits) [] 4 4 (let n = decimal_short bits (omega arith) in omega arith) (omega arith)
-depth_short v.Three bits fraction b f = grind (arith, joined, decimal_short)
+depth_short version bits fraction h p = grind (arith, joined, decimal_short)
 
 pub begin_short : (version : Version) (width height bits fraction : ℕ) → width ≤ 512 → height ≤ 512 → bits ≤ 512
     → fraction ≤ 512

@@ -1,9 +1,10 @@
 -- A line without a fault, as it is judged in two steps, leaves the draft lawful.
+use Rattle.px_num.proofs.Basics.{arith}
 use Rattle.px_num.proofs.Basics.{◌≡◌, ℕ, List, ◌∷◌, Option, Some, None, Ok, Bool, true, false, if◌then◌else◌, refl, ap}
 use Rattle.px_num.proofs.Basics.{sym, ◌∙◌, subst, option_or}
-use Rattle.px_scene.proofs.Words.{back, depth, DraftView, Due, due_after, end, fault_by, fault_in, Form}
-use Rattle.px_scene.proofs.Words.{form_in, front, header, is_among, IsLawfulDraft, LimitKind, LineFault, names_of}
-use Rattle.px_scene.proofs.Words.{picture, show, side, solid, taken, taken_by, with_form, Words}
+use Rattle.px_scene.proofs.Words.{DraftView, Due, due_after, fault_by, fault_in, Form}
+use Rattle.px_scene.proofs.Words.{form_in, IsLawfulDraft, LimitKind, LineFault}
+use Rattle.px_scene.proofs.Words.{taken, taken_by, with_form, Words}
 use Rattle.px_scene.proofs.LawfulLemmas.{lawful_line}
 use Rattle.px_scene.specs.Parsed.{fault_left, fault_shown, malformed_or}
 use Rattle.px_show.specs.declared.fault.Cause.TheVariants as c
@@ -22,15 +23,7 @@ named false later = sym (or_none later)
 -- all that is wrong with a line of good form
 pub fault_is : (draft : DraftView) (form : Form)
     → fault_by draft (Ok form) ≡ option_or (fault_left draft form) (fault_shown draft form)
-fault_is draft (header version) = refl
-fault_is draft (picture w h) = sym (or_none _)
-fault_is draft (depth bits fraction) = sym (or_none _)
-fault_is draft (solid name paint) = named (is_among (names_of draft.solids) name) _
-fault_is draft (front plane) = sym (or_none _)
-fault_is draft (back plane) = sym (or_none _)
-fault_is draft (side form) = sym (or_none _)
-fault_is draft (show ws) = refl
-fault_is draft end = refl
+fault_is draft form = grind arith
 
 -- what is found of the line
 pub found : (draft : DraftView) (w : List ℕ) (ws : Words) (form : Form) → Ok form ≡ form_in draft w ws

@@ -15,7 +15,7 @@ use Rattle.px_scene.specs.declared.line.Paint.{Paint}
 use Rattle.px_scene.specs.declared.line.Plane.{Plane}
 use Rattle.px_show.specs.declared.fault.LimitKind.{LimitKind}
 use Rattle.px_show.specs.declared.fault.LineFault.{LineFault}
-use Rattle.px_scene.specs.Lines.{back, colour_past, depth, end, face_limit, face_past, front, header, is_due}
+use Rattle.px_scene.specs.Lines.{back, colour_past, depth, end, face_limit, face_past, front, is_due}
 use Rattle.px_scene.specs.Lines.{keyword_of, linear_in, most, paint_in, picture, plane_form, plane_in, plane_past}
 use Rattle.px_scene.specs.Lines.{side, solid, uncoloured}
 use Rattle.px_text.proofs.DecimalLaws.{number_read, signed_read}
@@ -62,9 +62,7 @@ headed version due width height = record blank { version = version; due = due; w
 
 header_walk : (version : Version) → Walk blank ((codes "pxscene" ∷ version_word version ∷ []) ∷ [])
     (headed version d.Picture 1 1)
-header_walk v.One = form_walk blank (codes "pxscene") (version_word v.One ∷ []) (header v.One) refl refl refl refl
-header_walk v.Two = form_walk blank (codes "pxscene") (version_word v.Two ∷ []) (header v.Two) refl refl refl refl
-header_walk v.Three = form_walk blank (codes "pxscene") (version_word v.Three ∷ []) (header v.Three) refl refl refl refl
+header_walk version = grind arith
 
 picture_walk : (version : Version) (width height : ℕ) → 1 ≤ width → width ≤ 512 → 1 ≤ height → height ≤ 512
     → Walk (headed version d.Picture 1 1) ((codes "picture" ∷ decimal width ∷ decimal height ∷ []) ∷ [])

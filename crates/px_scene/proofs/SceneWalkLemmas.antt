@@ -140,9 +140,7 @@ can_write fraction differs = grind arith
 
 has_signs_for : (whole differs : Bool)
     → has_differ (if whole then (if differs then v.Two else v.One) else v.Three) || not differs ≡ true
-has_signs_for true true = refl
-has_signs_for true false = refl
-has_signs_for false differs = refl
+has_signs_for whole differs = grind arith
 
 pub scene_walk : (scene : SceneView) → IsWritable scene → Walk blank (scene_words scene) (final_draft scene)
 scene_walk scene is =

@@ -1,6 +1,7 @@
 -- The solids of a draft stay lawful over a good line.
+use Rattle.px_num.proofs.Basics.{rules}
 use Rattle.px_num.proofs.Basics.{nat_tests, common_steps, suc, ◌≡◌, ℕ, ℤ, pos, ◌-◌, ◌<◌, List, [], ◌∷◌, ◌++◌, length}
-use Rattle.px_num.proofs.Basics.{Option, Some, None, arith, slice_get, IfSome, All, length-append, ints, All-cons}
+use Rattle.px_num.proofs.Basics.{Option, None, arith, slice_get, IfSome, All, length-append, ints, All-cons}
 use Rattle.px_num.proofs.Basics.{All-head, All-nil, All-tail, option_map_or}
 use Rattle.px_scene.proofs.Words.{CanTakeFace, colour_of, colour_past, Face, face_past, faces_pushed, fresh_solid}
 use Rattle.px_scene.proofs.Words.{IsColour, IsLawfulSolid, IsPlane, Linear, none_first, none_second, Paint, past}
@@ -23,38 +24,22 @@ face_colour colour x is e = grind (arith, none_first, part_within, none_second)
 -- a front, a back or a side more
 front_added : (s : SolidView) (f : Face) → IsLawfulSolid s → length s.fronts < 32 → CanTakeFace f.number s
     → IsPlane f.plane → IsColour f.colour → IsLawfulSolid (record s { fronts = s.fronts ++ f ∷ [] })
-front_added s f is room can plane colour = record {
-  colour = is.colour;
-  fronts = faces_pushed s.near_number s.fronts f is.fronts room plane colour can.near can.fronts;
-  backs = is.backs;
-  few_sides = is.few_sides;
-  sides = is.sides;
-}
+front_added s f is room can plane colour = search (rules, faces_pushed)
 
 back_added : (s : SolidView) (f : Face) → IsLawfulSolid s → length s.backs < 32 → CanTakeFace f.number s
     → IsPlane f.plane → IsColour f.colour → IsLawfulSolid (record s { backs = s.backs ++ f ∷ [] })
-back_added s f is room can plane colour = record {
-  colour = is.colour;
-  fronts = is.fronts;
-  backs = faces_pushed s.near_number s.backs f is.backs room plane colour can.near can.backs;
-  few_sides = is.few_sides;
-  sides = is.sides;
-}
+back_added s f is room can plane colour = search (rules, faces_pushed)
 
 -- the same of the last solid of some, where there is one
 pub last_front : (o : Option SolidView) (number : ℕ) (p : Plane) → face_past p ≡ None
     → option_map_or (λ (s : SolidView). length s.fronts) o 0 < 32 → IfSome o (CanTakeFace number)
     → IfSome o (λ s. IsLawfulSolid s → IsLawfulSolid (with_front number p s))
-last_front None number p e room can = tt
-last_front (Some s) number p e room can = λ is.
-    grind (arith, nat_tests, common_steps, front_added, plane_within, none_first, face_colour, none_second)
+last_front o number p e room can = grind (arith, nat_tests, common_steps, front_added, plane_within, none_first, none_second)
 
 pub last_back : (o : Option SolidView) (number : ℕ) (p : Plane) → face_past p ≡ None
     → option_map_or (λ (s : SolidView). length s.backs) o 0 < 32 → IfSome o (CanTakeFace number)
     → IfSome o (λ s. IsLawfulSolid s → IsLawfulSolid (with_back number p s))
-last_back None number p e room can = tt
-last_back (Some s) number p e room can = λ is.
-    grind (arith, nat_tests, common_steps, back_added, plane_within, none_first, face_colour, none_second)
+last_back o number p e room can = grind (arith, nat_tests, common_steps, back_added, plane_within, none_first, none_second)
 
 pub last_side : (o : Option SolidView) (p : Linear) → plane_past p ≡ None
     → option_map_or (λ (s : SolidView). length s.sides) o 0 < 32

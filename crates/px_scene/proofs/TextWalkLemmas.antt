@@ -17,11 +17,7 @@ canonical_read scene is =
 pub parts_are_text : (scene : SceneView) (count : ℕ) (begun shown text : List ℕ) → length scene.solids ≤ count
     → begun ≡ first_lines scene ++ flat_map solid_lines (take count scene.solids) → shown ≡ begun ++ show_line scene
     → text ≡ shown ++ written_line (codes "end") [] → text ≡ canonical_text scene
-parts_are_text scene count begun shown text every first next last =
-    let all = take_all count scene.solids every
-    in let start = first_lines scene
-    in let end = written_line (codes "end") []
-    in grind arith
+parts_are_text scene count begun shown text every first next last = grind (arith, take_all)
 
 -- the same of a lawful scene
 pub parts_read : (scene : SceneView) (count : ℕ) (text : List ℕ) → length scene.solids ≤ count

@@ -31,12 +31,7 @@ drawn bits scene = array_after bits scene (total scene)
 pub shaded_is : (bits : ℕ) (scene : SceneView) (lights : List SolidSet) → shaded bits scene lights
     ≡ carried_out (shadow_passes scene (layout_of scene) lights) (drawn bits scene)
 unfolding shaded shadow_program carried_out
-shaded_is bits scene lights =
-    let ms = shadow_passes scene (layout_of scene) lights in
-    ap (λ n. all_clocked (all_micros ms n (rows_of scene)) (drawn bits scene))
-    (sym (columns_at bits scene (total scene)))
-    ∙ ap (λ n. all_clocked (all_micros ms (drawn bits scene).state.tree.nx n) (drawn bits scene))
-    (sym (rows_at bits scene (total scene)))
+shaded_is bits scene lights = grind (arith, layout_of, all_clocked, all_micros, rows_of, columns_at, total, rows_at)
 
 -- fewer bits are enough for the scene alone
 drawn_at : (bits : ℕ) (scene : SceneView) (lights : List SolidSet) (device : Device)

@@ -3,7 +3,7 @@ use Rattle.px_num.proofs.Basics.{nat_tests, common_steps, flat_map-append, drop-
 use Rattle.px_num.proofs.Basics.{◌*◌, ◌∙◌, ℕ, List, [], ◌∷◌, ◌++◌, length, All, refl, ap, sym, arith}
 use Rattle.px_num.proofs.Basics.{append_assoc, add-zero, length-append, flat_map, drop_all, All-cons, All-head}
 use Rattle.px_num.proofs.Basics.{All-nil, All-tail}
-use Rattle.px_shadow.proofs.Words.{after_clocks, all_clocked, all_clocked-append, all_micros, append-nil, CanCarryOut}
+use Rattle.px_shadow.proofs.Words.{after_clocks, all_clocked-append, all_micros, append-nil, CanCarryOut}
 use Rattle.px_shadow.proofs.Words.{CarriesOut, cycles, Device, grid_after_clocks, HasGrid, IsLawful, IsRestOf}
 use Rattle.px_shadow.proofs.Words.{IsSizedArray, Macro, micro_at, micros, nx-after_clocks, ny-after_clocks, State}
 use Rattle.px_shadow.proofs.Words.{ArrayView, HasRun}
@@ -20,15 +20,7 @@ carried_none d = ap (λ n. record { state = d.state; clocks = n }) (add-zero d.c
 
 pub carried_both : (ms ns : List Macro) (d : Device) → carried_out (ms ++ ns) d ≡ carried_out ns (carried_out ms d)
 unfolding carried_out
-carried_both ms ns d =
-    let nx = d.state.tree.nx in
-    let ny = d.state.tree.ny in
-    let mid = all_clocked (all_micros ms nx ny) d in
-    ap (λ k. all_clocked k d) (flat_map-append (λ m. micros m nx ny) ms ns)
-    ∙ all_clocked-append (all_micros ms nx ny) (all_micros ns nx ny) d
-    ∙ ap (λ k. all_clocked (all_micros ns k ny) mid) (sym (nx-after_clocks (all_micros ms nx ny) d.state))
-    ∙ ap (λ k. all_clocked (all_micros ns mid.state.tree.nx k) mid)
-    (sym (ny-after_clocks (all_micros ms nx ny) d.state))
+carried_both ms ns d = grind (arith, all_micros, flat_map-append, micros, all_clocked-append, nx-after_clocks, ny-after_clocks)
 
 -- the array keeps its size
 sized_with : (bits nx ny a b : ℕ) (s : State) → a ≡ nx → b ≡ ny → IsGrid nx ny → HasGrid bits nx ny s

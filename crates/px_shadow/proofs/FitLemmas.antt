@@ -4,8 +4,8 @@ use Rattle.px_num.proofs.Basics.{flat_map, range_with_len, All-append, All-cons,
 use Rattle.px_num.proofs.Basics.{All-tail}
 use Rattle.px_shadow.proofs.Words.{background_passes, deep_part, depths_of, edges, end_is_within, end_of, face_count}
 use Rattle.px_shadow.proofs.Words.{face_plane, IsBelow, IsField, IsLawful, IsLawfulScene, IsLawfulSolid, IsLayout}
-use Rattle.px_shadow.proofs.Words.{keep_covered, layout_of, layout_with, LayoutView, light_bit, light_passes, Macro}
-use Rattle.px_shadow.proofs.Words.{need_of, need_with, no_solid, number_part, passes_from, range_all, solid_of}
+use Rattle.px_shadow.proofs.Words.{keep_covered, layout_with, LayoutView, light_bit, light_passes, Macro}
+use Rattle.px_shadow.proofs.Words.{need_of, no_solid, number_part, passes_from, range_all, solid_of}
 use Rattle.px_shadow.proofs.Words.{solid_passes, solids, SolidSet, SolidView, stored_turn}
 use Rattle.std.proofs.lemmas.List.Elements.{All-from_recursion}
 use Rattle.px_model.specs.Scenes.{SceneView}
@@ -97,7 +97,4 @@ module _ (scene : SceneView) (lawful : IsLawfulScene scene) (each : All IsLawful
       (lights_fit (light + 1) sets (omega arith) (All-tail (IsBelow (length scene.solids)) set sets known))
 
 pub passes_lawful : ShadowPassesAreLawful
-passes_lawful scene lawful each lights known =
-    let l = layout_of scene in
-    lights_fit scene lawful each l (scene_layout scene lawful) (need_with l (length lights)) (omega arith) 1 lights
-    (omega arith) known
+passes_lawful = grind (arith, lights_fit, scene_layout)

@@ -1,17 +1,16 @@
 -- What an act leaves of a pixel whose bits are in words.
-use Rattle.px_num.proofs.Basics.{◌≡◌, ◌≢◌, ℕ, ◌+◌, ◌*◌, ◌^◌, ◌<◌, Bool, true, false, if◌then◌else◌, List}
-use Rattle.px_num.proofs.Basics.{length, get_or, slice_set, refl, sym, ap, subst, ◌∙◌, arith, inl, inr}
+use Rattle.px_num.proofs.Basics.{◌≡◌, ◌≢◌, ℕ, ◌+◌, ◌*◌, ◌^◌, ◌<◌, Bool, false, List}
+use Rattle.px_num.proofs.Basics.{length, get_or, sym, ap, subst, ◌∙◌, arith, inl, inr}
 use Rattle.px_num.proofs.Basics.{cases_lt, length-replicate, pow-add}
 use Rattle.px_num.proofs.ListLaws.{get_or-tabulate}
 use Rattle.px_num.proofs.TruthLaws.{lt_false, lt_true}
 use Rattle.px_num.specs.Bits.{bit_at, nat_bit}
-use Rattle.std.proofs.lemmas.List.{get_or-set_other}
 use Rattle.px_array.specs.Arrays.{HasGrid, State, no_pixel, pixel_at, pixel_of}
 use Rattle.px_array.specs.Clocks.{acted}
 use Rattle.px_array.specs.Acts.{after_act}
 use Rattle.px_array.specs.Pixels.{PixelState}
 use Rattle.px_array.specs.declared.act.Act.{Act}
-use Rattle.px_array.specs.declared.act.Act.TheVariants as act
+use Rattle.px_asm.proofs.WrittenLemmas.{other_bit}
 use Rattle.px_planes.proofs.GridLemmas.{acted_inside, acted_outside}
 use Rattle.px_planes.specs.Pixels.{acted_at}
 use Rattle.px_tree.specs.Nodes.{leaf_bit, leaf_output}
@@ -21,20 +20,10 @@ use Rattle.px_state.specs.Packing.{memory_place}
 use Rattle.px_state.specs.Words.{IsPixel, row_words, word_bit}
 use Rattle.px_state.specs.declared.shape.Shape.{Shape}
 
-stored_other : (e v : Bool) (memory : List Bool) (at b : ℕ) → b ≢ at
-    → bit_at (if e then slice_set memory at v else memory) b ≡ bit_at memory b
-stored_other true v memory at b other = get_or-set_other memory at b v false other
-stored_other false v memory at b other = refl
-
 -- an act leaves all other bits, and their number
 pub other_bits : (inside : Bool) (a : Act) (t : Bool) (p : PixelState) (b : ℕ) → b ≢ memory_place a
     → bit_at (acted_at inside a t p).memory b ≡ bit_at p.memory b
-other_bits inside (act.StoreTree at) t p b other = stored_other p.enable _ p.memory at b other
-other_bits inside (act.StoreLatch at) t p b other = stored_other p.enable _ p.memory at b other
-other_bits inside (act.StoreConst at v) t p b other = stored_other p.enable _ p.memory at b other
-other_bits inside (act.Toggle at) t p b other = stored_other p.enable _ p.memory at b other
-other_bits inside (act.AddTree at) t p b other = stored_other p.enable _ p.memory at b other
-other_bits inside a t p b other = refl
+other_bits inside a t p b h = grind (arith, other_bit)
 
 -- a pixel stays where its words do
 pub same_pixel : (bits plane k i : ℕ) (old new : List ℕ) (p : PixelState)

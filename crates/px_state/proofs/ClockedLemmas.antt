@@ -27,22 +27,10 @@ pub record HoldsParts (shape : Shape) (s : State) (words : List ℕ) : Type 0 wh
 
 module _ (shape : Shape) (s : State) (is : IsShape shape) (grid : IsShapeOf shape s.tree) (words : List ℕ) where
   pub parts_of : HoldsWords shape.bits s words → HoldsParts shape s words
-  parts_of held = record {
-    pixels = rw is.plane (rw (grid.columns, grid.rows) at held.pixels);
-    leaves = rw (is.plane, grid.columns, grid.rows) (rw (grid.columns, grid.rows) at held.leaves);
-    nodes = record {
-      output = rw (is.plane, is.nodes, grid.columns, grid.rows) (rw (grid.columns, grid.rows) at held.outputs);
-      carry = rw (is.plane, is.nodes, grid.columns, grid.rows) (rw (grid.columns, grid.rows) at held.carries);
-    };
-  }
+  parts_of held = grind arith
 
   pub whole_of : HoldsParts shape s words → HoldsWords shape.bits s words
-  whole_of parts = record {
-    pixels = rw (grid.columns, grid.rows) (rw is.plane at parts.pixels);
-    leaves = rw (grid.columns, grid.rows) (rw (is.plane, grid.columns, grid.rows) at parts.leaves);
-    outputs = rw (grid.columns, grid.rows) (rw (is.plane, is.nodes, grid.columns, grid.rows) at parts.nodes.output);
-    carries = rw (grid.columns, grid.rows) (rw (is.plane, is.nodes, grid.columns, grid.rows) at parts.nodes.carry);
-  }
+  whole_of parts = grind arith
 
 -- lists that are the same from a place on
 pub same_behind : (n : ℕ) (xs ys : List ℕ) → length xs ≡ length ys → ((j : ℕ) → n ≤ j → get_or xs j 0 ≡ get_or ys j 0)
@@ -56,10 +44,7 @@ same_behind n xs ys long same =
 
 pub has_words : (bits nx ny : ℕ) (s : State) (old new : List ℕ) → HoldsState bits nx ny s new → length new ≡ length old
     → ((j : ℕ) → room_of bits nx ny ≤ j → get_or new j 0 ≡ get_or old j 0) → BeginsWithState bits s old new
-has_words bits nx ny s old new held long behind = record {
-  holds = held.holds;
-  behind = rw (held.grid.columns, held.grid.rows) (same_behind (room_of bits nx ny) new old long behind);
-}
+has_words bits nx ny s old new held long behind = grind (arith, same_behind)
 
 pub one_more : (micros : List ℕ) (i : ℕ) (s : State) → i < length micros
     → after_clocks (map micro_in (take (i + 1) micros)) s

@@ -29,11 +29,7 @@ broadcast_here l k i m here within =
 pub next_here : (l : ListingView) (n k i : ℕ) (m : Macro) (micro : Micro) → slice_get l.macros k ≡ Some m
     → i < cycles m l.nx l.ny → n ≡ start_in_listing l k + i → micro ≡ micro_at m l.nx l.ny i
     → IsNextBroadcast l n k i micro
-next_here l n k i m micro here within at is = record {
-  clock = at;
-  has = record { m = m; is = here; within = within };
-  broadcast = ap (slice_get (broadcasts l)) at ∙ (broadcast_here l k i m here within ∙ ap (λ x. Some x) (sym is));
-}
+next_here l n k i m micro here within at is = grind (arith, broadcast_here)
 
 -- operation k of a list, and where the next begins
 pub begins : (l : ListingView) (k : ℕ) (m : Macro) → slice_get l.macros k ≡ Some m
@@ -108,11 +104,4 @@ pub goes_on : (bits : ℕ) (l : ListingView) (i made start : ℕ) (m : Macro) (d
     → d ≡ device_after bits l start
     → new ≡ all_clocked (between 0 made (micros m d.state.tree.nx d.state.tree.ny)) d
     → new ≡ device_after bits l (start + made)
-goes_on bits l i made start m d new here within begun at clocked =
-    let grid : micros m d.state.tree.nx d.state.tree.ny ≡ micros m l.nx l.ny =
-    ap (λ n. micros m n d.state.tree.ny) (columns_are bits l start d at) ∙ ap (micros m l.nx) (rows_are bits l start d at)
-    in
-    clocked
-    ∙ (ap (λ ms. all_clocked (between 0 made ms) d) grid
-    ∙ (ap (all_clocked (between 0 made (micros m l.nx l.ny))) (at ∙ ap (device_after bits l) begun)
-    ∙ (device_with bits l i made m here within ∙ ap (λ n. device_after bits l (n + made)) (sym begun))))
+goes_on bits l i made start m d new here within begun at clocked = grind (arith, micros, columns_are, rows_are, all_clocked, between, device_with)

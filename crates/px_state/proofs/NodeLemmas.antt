@@ -1,10 +1,10 @@
 -- The nodes of a tree whose latches are in words.
 use Rattle.px_num.proofs.Basics.{◌≡◌, ℕ, ◌+◌, ◌*◌, ◌/◌, ◌%◌, ◌^◌, ◌<◌, ◌≤◌, ◌==◌, ◌&&◌, eqb, nat_lt, nat_le, Bool}
-use Rattle.px_num.proofs.Basics.{true, false, cond, List, get_or, refl, sym, ap, ◌∙◌, arith, inl, inr, cases_eq}
+use Rattle.px_num.proofs.Basics.{false, cond, List, get_or, refl, sym, ap, ◌∙◌, arith, inl, inr}
 use Rattle.px_num.proofs.Basics.{cases_lt, get_or-replicate, pow-add}
 use Rattle.px_num.proofs.ListLaws.{get_or-tabulate}
-use Rattle.px_num.proofs.TruthLaws.{and_true, le_false, le_true, lt_false, lt_true, power_grows}
-use Rattle.px_num.specs.Bits.{majority, nat_bit, xor}
+use Rattle.px_num.proofs.TruthLaws.{lt_false, lt_true, power_grows}
+use Rattle.px_num.specs.Bits.{nat_bit}
 use Rattle.px_plane_tree.specs.Lent.{IsLatch}
 use Rattle.px_rows.proofs.BitLaws.{bit_of_zero}
 use Rattle.px_tree.specs.Nodes.{TreeState, after_feed, at_place, cleared, next_at, next_node, zero_node}
@@ -15,22 +15,10 @@ use Rattle.px_state.specs.Cells.{HoldsNodes, IsShape, IsShapeOf, nodes_at, place
 use Rattle.px_state.specs.Words.{IsNodeWord, node_bit, padded_leaf}
 use Rattle.px_state.specs.declared.shape.Shape.{Shape}
 
--- the node table by its two cases
-pub output_law : (odd p l c : Bool) → cond odd (xor p (xor l c)) p ≡ (next_node odd p l c).output
-output_law true p l c = refl
-output_law false p l c = refl
-
-pub carry_law : (odd p l c zero : Bool) → zero ≡ false → cond odd (majority p l c) zero ≡ (next_node odd p l c).carry
-carry_law true p l c zero none = refl
-carry_law false p l c zero none = none
-
 -- the parents of nodes, of which the root is line c
 pub parents_root : (word j : ℕ) (c : Bool) → 2 ≤ j → j < 64
     → cond (nat_lt (j / 2) 2) (c && eqb (j / 2) 1) (nat_bit word (j / 2)) ≡ cond (nat_lt j 4) c (nat_bit word (j / 2))
-parents_root word j c some within = elim (cases_lt j 4) [
-  | inl low ↦ let one : j / 2 ≡ 1 = omega arith in rw (lt_true j 4 low, one) (and_true c)
-  | inr high ↦ rw (lt_false j 4 high, lt_false (j / 2) 2 (omega arith)) refl
-]
+parents_root word j c some within = grind arith
 
 module _ (shape : Shape) (tree : TreeState) (size : IsShapeOf shape tree) where
   abbrev total : ℕ
@@ -46,26 +34,7 @@ module _ (shape : Shape) (tree : TreeState) (size : IsShapeOf shape tree) where
       → ((j : ℕ) → j < 64 → 2 ≤ 64 * w + j → 64 * w + j < total
       → nat_bit word j ≡ latch (at_place tree.nodes (64 * w + j)))
       → (j : ℕ) → j < 64 → cond (nat_bit there j) (nat_bit word j) (nat_bit 0 j) ≡ node_bit latch tree (64 * w + j)
-  masked latch there word w is each j within =
-      let p = 64 * w + j in
-      elim (cases_lt p 2) [
-        | inl low ↦ rw (is j within, le_false 2 p low, lt_true p 2 low) (bit_of_zero j)
-        | inr some ↦ elim (cases_lt p total) [
-          | inl inside ↦
-              rw (is j within, le_true 2 p some, lt_true p total inside) (each j within some inside
-              ∙ sym (node_inside latch p some inside))
-          | inr past ↦
-              rw (
-                is j within,
-                le_true 2 p some,
-                lt_false p total past,
-                size.columns,
-                size.rows,
-                lt_false p 2 some,
-                lt_false p total past,
-              ) (bit_of_zero j)
-        ]
-      ]
+  masked latch there word w is each j within = grind arith
 
   -- a feed, by the word of the parents' outputs and that of the carries
   module _ (lines : Lines) (w parents carry above line : ℕ) (outputs : IsNodeWord (λ n. n.output) tree (w / 2) parents)
@@ -97,18 +66,7 @@ module _ (shape : Shape) (tree : TreeState) (size : IsShapeOf shape tree) where
 
   -- the latches of a tree that is cleared
   pub none : (latch : Node → Bool) (p : ℕ) → latch zero_node ≡ false → node_bit latch (cleared tree.nx tree.ny) p ≡ false
-  none latch p zero = elim (cases_lt p 2) [
-    | inl low ↦ rw (lt_true p 2 low) refl
-    | inr some ↦ elim (cases_lt p (2 ^ (tree.nx + tree.ny + 1))) [
-      | inl inside ↦
-          rw (
-            lt_false p 2 some,
-            lt_true p (2 ^ (tree.nx + tree.ny + 1)) inside,
-            get_or-replicate (2 ^ (tree.nx + tree.ny + 1)) p zero_node zero_node inside,
-          ) zero
-      | inr past ↦ rw (lt_false p 2 some, lt_false p (2 ^ (tree.nx + tree.ny + 1)) past) refl
-    ]
-  ]
+  none latch p zero = grind (arith, lt_true, get_or-replicate)
 
   pub cleared_nodes : (words : List ℕ) → ((k : ℕ) → k < 2 * shape.nodes → get_or words (nodes_at shape + k) 0 ≡ 0)
       → HoldsNodes shape (cleared tree.nx tree.ny) words
@@ -151,15 +109,9 @@ module _ (shape : Shape) (latch : Node → Bool) (tree : TreeState) (from v word
   pub one_more_word : (k : ℕ) → k < shape.nodes
       → ((k ≡ v → ⊥) → IsNodeWord latch tree k (get_or old (from + k) 0))
       → IsNodeWord latch tree k (get_or new (from + k) 0)
-  one_more_word k within before i bit = elim (cases_eq k v) [
-    | inl same ↦ rw (same, put) (is i bit)
-    | inr other ↦ ap (λ w. nat_bit w i) (kept k within other) ∙ before other i bit
-  ]
+  one_more_word k h p = grind arith
 
 -- the word of a row of latches, where there are nodes
 pub latch_word : (tree : TreeState) (latch : Node → Bool) (row : List ℕ) (w j : ℕ) → IsLatch tree latch row → j < 64
     → 64 * w + j < 2 ^ (tree.nx + tree.ny + 1) → nat_bit (get_or row w 0) j ≡ latch (at_place tree.nodes (64 * w + j))
-latch_word tree latch row w j is within inside =
-    let word : (64 * w + j) / 64 ≡ w = omega arith in
-    let bit : (64 * w + j) % 64 ≡ j = omega arith in
-    rw (word, bit) at (is.each (64 * w + j) inside)
+latch_word tree latch row w j is within inside = grind arith

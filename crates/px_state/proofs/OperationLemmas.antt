@@ -1,6 +1,6 @@
 -- The operations of a text, one after another.
-use Rattle.px_num.proofs.Basics.{◌≡◌, ℕ, ◌+◌, ◌<◌, ◌≤◌, true, false, List, [], ◌∷◌, ◌++◌, length, take, drop, get_or}
-use Rattle.px_num.proofs.Basics.{Some, None, inl, inr, sym, subst, ap, ◌∙◌, arith, length-append}
+use Rattle.px_num.proofs.Basics.{◌≡◌, ℕ, ◌+◌, ◌<◌, ◌≤◌, List, [], ◌∷◌, ◌++◌, length, take, drop, get_or}
+use Rattle.px_num.proofs.Basics.{Some, None, inl, inr, sym, ap, ◌∙◌, arith, length-append}
 use Rattle.px_num.proofs.Basics.{flat_map, slice_get, cases_lt, take-append-drop, take_all, take_more, flat_map-cons}
 use Rattle.px_num.proofs.Basics.{get_or-flat_map, length-flat_map-take, get_or_from_slice_get, slice_get-get_or}
 use Rattle.px_num.proofs.Basics.{slice_get_within}
@@ -11,19 +11,15 @@ use Rattle.px_macro.specs.Macros.{IsLawful, IsLawfulInMore}
 use Rattle.px_macro.specs.declared.operation.Macro.{Macro}
 use Rattle.px_macro.specs.declared.operation.Macro.TheVariants as m
 use Rattle.px_model.specs.Scenes.{SceneView}
-use Rattle.px_text.specs.Text.{worded}
-use Rattle.px_scene.specs.Reading.{scene_of}
 use Rattle.px_sched.specs.declared.step.Step.{Step}
 use Rattle.px_sched.specs.Layouts.{LayoutView, layout_of, need_of}
 use Rattle.px_sched.specs.Passes.{operations, passes, steps}
 use Rattle.px_sched.specs.StepCursors.{literals_in}
-use Rattle.px_listing.specs.Reading.{listing_of}
 use Rattle.px_listing.specs.PassesText.{passes_listing}
 use Rattle.px_state.specs.Courses.{start_in_listing}
-use Rattle.px_state.specs.Operations.{HasOperations, IsOfListing, IsOperationBy, IsOperationOf, IsPassed, no_operation}
+use Rattle.px_state.specs.Operations.{IsPassed, no_operation}
 use Rattle.px_state.specs.Operations.{operations_before, purpose_of, told}
 use Rattle.px_state.specs.Putting.{IsPutTo}
-use Rattle.px_state.specs.Refusals.{is_listing}
 use Rattle.px_state.specs.declared.operation.Operation.{Operation}
 
 -- those before one, and that one
@@ -32,20 +28,7 @@ pub put_next : (Is : ℕ → Operation → Type 0) (first k : ℕ) (operation : 
     → ((j : ℕ) → j < length old → first + j ≡ k → get_or new j no_operation ≡ operation)
     → ((j : ℕ) → (first + j ≡ k → ⊥) → get_or new j no_operation ≡ get_or old j no_operation)
     → IsPutTo Is first k old → Is k operation → IsPutTo Is first (k + 1) new
-put_next Is first k operation old new same put kept before is j within low = elim (cases_lt (first + j) k) [
-  | inl early ↦
-      let other : first + j ≡ k → ⊥ = λ here. absurd (omega (arith, here, early)) in
-      subst (Is (first + j)) (sym (kept j other)) (before j (omega (arith, within, same)) early)
-  | inr late ↦
-      let here : first + j ≡ k = omega (arith, late, low) in
-      subst (λ n. Is n (get_or new j no_operation)) (sym here)
-      (subst (Is k) (sym (put j (omega (arith, within, same)) here)) is)
-]
-
--- and behind the last one due all are there
-pub all_put : (Is : ℕ → Operation → Type 0) (first end : ℕ) (list : List Operation) → first + length list ≤ end
-    → IsPutTo Is first end list → HasOperations Is first list
-all_put Is first end list enough put j within = put j within (omega (arith, enough, within))
+put_next Is first k operation old new h p q r zz5 = grind arith
 
 -- where no element stands, the list has ended
 pub no_more : {X : Type 0} (xs : List X) (k : ℕ) (d : X) → None ≡ slice_get xs k → length xs ≤ k
@@ -113,17 +96,7 @@ module _ (scene : SceneView) (pass : ℕ) (step : Step) (here : slice_get (steps
       → op ≡ get_or own i m.All → clock ≡ start_in_listing (passes_listing scene) k → purpose.pass ≡ pass
       → purpose ≡ purpose_of scene step purpose.pass (literals_in (take (purpose.pass + 1) (steps scene)))
       → IsPassed scene k (told op clock purpose)
-  is_passed i k clock op purpose within at is begins pass_is for = record {
-    step = step;
-    is = rw pass_is here;
-    from = rw pass_is (omega (arith, at));
-    to = rw pass_is (omega (arith, at, within, before_more));
-    operation_is = record {
-      m = op;
-      is = ap (slice_get (passes scene)) at ∙ (operation_here i within ∙ ap (λ x. Some x) (sym is));
-      told_is = ap (λ n. told op n purpose) begins ∙ ap (told op (start_in_listing (passes_listing scene) k)) for;
-    };
-  }
+  is_passed i k clock op purpose within at is begins pass_is for = grind (arith, before_more, operation_here)
 
 -- behind the last step all operations are there
 pub before_all : (scene : SceneView) (pass : ℕ) → length (steps scene) ≤ pass → operations_before scene pass
@@ -140,12 +113,3 @@ before_within scene pass =
     let rest = drop pass (steps scene) in
     let parts = sym (ap (flat_map each) (take-append-drop pass (steps scene))) ∙ flat_map-append each front rest in
     omega (arith, ap length parts ∙ length-append (flat_map each front) (flat_map each rest))
-
--- the operations of a text are those of the listing or of the scene that it writes
-pub of_listing : (text : List ℕ) (k : ℕ) (operation : Operation) → is_listing text ≡ true
-    → IsOfListing (listing_of (worded text)) k operation → IsOperationOf text k operation
-of_listing text k operation flagged listed = subst (λ b. IsOperationBy b text k operation) (sym flagged) listed
-
-pub of_scene : (text : List ℕ) (k : ℕ) (operation : Operation) → is_listing text ≡ false
-    → IsPassed (scene_of (worded text)) k operation → IsOperationOf text k operation
-of_scene text k operation flagged passed = subst (λ b. IsOperationBy b text k operation) (sym flagged) passed

@@ -1,13 +1,10 @@
 -- The fields of a packed micro identify it.
 use Rattle.px_num.proofs.Basics.{◌≡◌, ℕ, ◌+◌, ◌*◌, ◌/◌, ◌%◌, ◌^◌, ◌<◌, ◌≤◌, ◌==◌, Bool, true, false, refl, arith}
-use Rattle.px_num.proofs.Basics.{nat_tests}
-use Rattle.px_num.proofs.TruthLaws.{and_left, and_right, itself_true, lt_holds, lt_true}
 use Rattle.px_array.specs.Acts.{HasPlace}
 use Rattle.px_array.specs.declared.act.Act.{Act}
 use Rattle.px_array.specs.declared.act.Act.TheVariants as act
 use Rattle.px_array.specs.declared.micro.Micro.{Micro}
 use Rattle.px_array.specs.declared.micro.TreeOp.{TreeOp}
-use Rattle.px_array.specs.declared.micro.TreeOp.TheVariants as tree
 use Rattle.px_state.specs.Packing.{act_number, act_with, packed_bit, is_micro, lines_number, micro_in, packed}
 use Rattle.px_state.specs.Packing.{memory_place}
 use Rattle.px_state.specs.Packing.{tree_number, tree_with, packed_value}
@@ -17,16 +14,7 @@ act_back act.Nop = refl
 act_back a = refl
 
 pub tree_back : (op : TreeOp) → tree_with (tree_number op) (lines_number op) ≡ op
-tree_back tree.Hold = refl
-tree_back tree.Clear = refl
-tree_back (tree.Feed false false false) = refl
-tree_back (tree.Feed false false true) = refl
-tree_back (tree.Feed false true false) = refl
-tree_back (tree.Feed false true true) = refl
-tree_back (tree.Feed true false false) = refl
-tree_back (tree.Feed true false true) = refl
-tree_back (tree.Feed true true false) = refl
-tree_back (tree.Feed true true true) = refl
+tree_back op = grind arith
 
 -- the number of a bit identifies the bit
 pub bit_back : (v : Bool) → (packed_bit v == 1) ≡ v
@@ -42,26 +30,10 @@ bit_below true = omega arith
 bit_below false = omega arith
 
 tree_below : (op : TreeOp) → tree_number op < 3
-tree_below tree.Hold = omega arith
-tree_below tree.Clear = omega arith
-tree_below (tree.Feed a b c) = omega arith
-
--- the place of an act is one of the memory's, or none is named
-pub place_within : (bits : ℕ) (a : Act) → 1 ≤ bits → HasPlace bits a → memory_place a < bits
-place_within bits act.Nop some h = some
-place_within bits act.EnableAll some h = some
-place_within bits (act.EnableCarry v) some h = some
-place_within bits (act.EnableTree v) some h = some
-place_within bits (act.SetCarry v) some h = some
-place_within bits a some h = h
+tree_below op = grind arith
 
 pub has_place : (bits : ℕ) (a : Act) → memory_place a < bits → HasPlace bits a
-has_place bits act.Nop h = tt
-has_place bits act.EnableAll h = tt
-has_place bits (act.EnableCarry v) h = tt
-has_place bits (act.EnableTree v) h = tt
-has_place bits (act.SetCarry v) h = tt
-has_place bits a h = h
+has_place bits a h = grind arith
 
 -- each field in its bits
 pub fields_in : (at number value op lines : ℕ) → at < 2 ^ 32 → number < 256 → value < 2 → op < 3
@@ -90,21 +62,12 @@ unpacked m small =
       tree_back m.tree,
     ) refl
 
-same_holds : (m n : ℕ) → (m == n) ≡ true → m ≡ n
-same_holds m n h = grind (arith, nat_tests)
-
 pub micro_back : (bits : ℕ) (m : Micro) → 1 ≤ bits → bits ≤ 2 ^ 32 → HasPlace bits m.act → is_micro bits (packed m)
     ≡ true
 unfolding is_micro
-micro_back bits m some few place =
-    let within = place_within bits m.act some place in
-    let same = unpacked m (omega (arith, within)) in
-    rw (same, itself_true (packed m), lt_true (memory_place m.act) bits within) refl
+micro_back bits m some few place = grind (arith, unpacked, packed)
 
 pub micro_only : (bits word : ℕ) → is_micro bits word ≡ true → HasPlace bits (micro_in word).act
     × (packed (micro_in word) ≡ word)
 unfolding is_micro
-micro_only bits word is = (
-  has_place bits (micro_in word).act (lt_holds _ _ (and_right (packed (micro_in word) == word) _ is)),
-  same_holds (packed (micro_in word)) word (and_left (packed (micro_in word) == word) _ is),
-)
+micro_only bits word is = grind arith

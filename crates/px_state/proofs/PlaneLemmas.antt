@@ -1,7 +1,7 @@
 -- Planes by columns, and by 64 words at once.
-use Rattle.px_num.proofs.Basics.{◌≡◌, ℕ, zero, suc, ◌+◌, ◌*◌, ◌/◌, ◌%◌, ◌^◌, ◌<◌, List, get_or, refl, sym, ap}
+use Rattle.px_num.proofs.Basics.{◌≡◌, ℕ, zero, suc, ◌+◌, ◌*◌, ◌/◌, ◌%◌, ◌^◌, ◌<◌, List, get_or, ap}
 use Rattle.px_num.proofs.Basics.{◌∙◌, arith, inl, inr, cases_eq, div-lt_iff_lt-mul, pow-add}
-use Rattle.px_num.proofs.Basics.{get_or-set_other, get_or-set_same, length, set, subst}
+use Rattle.px_num.proofs.Basics.{get_or-set_other, get_or-set_same, length, set}
 use Rattle.px_num.proofs.BitLaws.{pow_above}
 use Rattle.px_num.specs.Bits.{nat_bit}
 use Rattle.std.proofs.Math.Nat.{div-add-mod}
@@ -27,10 +27,7 @@ in_one_word (suc (suc (suc (suc (suc (suc k)))))) x w j within low =
 -- a word of a row that is moved down to a place
 pub moved_bit : (row : List ℕ) (place j : ℕ) → place % 64 + j < 64
     → nat_bit (get_or row (place / 64) 0 / 2 ^ (place % 64)) j ≡ row_bit row (place + j)
-moved_bit row place j low =
-    let word : (place + j) / 64 ≡ place / 64 = omega arith in
-    let bit : (place + j) % 64 ≡ place % 64 + j = omega arith in
-    bit_down (get_or row (place / 64) 0) (place % 64) j ∙ rw (word, bit) refl
+moved_bit row place j low = grind (arith, bit_down)
 
 -- words that are one are of one row, and one of it
 pub same_place : (each y c v d : ℕ) → c < each → d < each → y * each + c ≡ v * each + d → (y ≡ v) × (c ≡ d)
@@ -54,7 +51,4 @@ block_row nx ny b below =
 pub more_words : (Is : (k word : ℕ) → Type 0) (words : List ℕ) (k word : ℕ) → k < length words
     → ((i : ℕ) → i < k → Is i (get_or words i 0)) → Is k word
     → (i : ℕ) → i < k + 1 → Is i (get_or (set words k word) i 0)
-more_words Is words k word within before is i low = elim (cases_eq i k) [
-  | inl same ↦ rw same (subst (Is k) (sym (get_or-set_same words k word 0 within)) is)
-  | inr other ↦ subst (Is i) (sym (get_or-set_other words k i word 0 other)) (before i (omega (arith, low, other)))
-]
+more_words Is words k word within before is i low = grind (arith, get_or-set_same, get_or-set_other)

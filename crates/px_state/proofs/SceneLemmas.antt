@@ -1,13 +1,11 @@
 -- The operations of a scene as those of a listing.
-use Rattle.px_num.proofs.Basics.{◌≡◌, ℕ, ◌≤◌, Some, get_or, refl, ◌∙◌, arith}
-use Rattle.px_array.specs.Arrays.{Device, opened}
+use Rattle.px_num.proofs.Basics.{◌≡◌, ℕ, Some, refl, ◌∙◌, arith}
+use Rattle.px_array.specs.Arrays.{Device}
 use Rattle.px_asm.specs.Micros.{micro_at}
 use Rattle.px_array.specs.declared.micro.Micro.{Micro}
 use Rattle.px_macro.specs.Macros.{IsLawfulInMore}
 use Rattle.px_macro.specs.declared.operation.Macro.{Macro}
 use Rattle.px_model.specs.Scenes.{SceneView}
-use Rattle.px_sched.specs.Layouts.{layout_of, need_of}
-use Rattle.px_sched.specs.Passes.{passes}
 use Rattle.px_control.specs.Program.{IsAt, array_after, columns_of, program, rows_of}
 use Rattle.px_control.specs.Program as program
 use Rattle.px_control.specs.ProgramLaws.{IsGoodProgram}
@@ -23,18 +21,7 @@ unfolding program
 same_total scene = refl
 
 pub good_course : (scene : SceneView) → IsGoodProgram scene → IsLawfulInMore → IsGoodCourse (passes_listing scene)
-good_course scene good more = record {
-  grid = good.grid;
-  lawful = λ i d low. more (get_or (passes scene) i d) _ 256 (omega (arith, good.bits)) (good.lawful i d low);
-  few = omega (arith, good.operations, good.clocks);
-  clocks = omega (arith, good.clocks, same_total scene);
-}
-
--- a new array is one before the first broadcast
-pub at_start : (bits : ℕ) (scene : SceneView) (device : Device) → need_of (layout_of scene) ≤ bits
-    → device ≡ opened bits (columns_of scene) (rows_of scene) → IsAt bits scene 0 device
-unfolding array_after
-at_start bits scene device enough new = record { enough = enough; reached = new }
+good_course scene good more = grind (arith, same_total)
 
 pub device_is : (bits : ℕ) (scene : SceneView) (n : ℕ) (device : Device) → IsAt bits scene n device
     → device ≡ device_after bits (passes_listing scene) n

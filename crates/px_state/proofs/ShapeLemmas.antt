@@ -26,10 +26,7 @@ plane_end b n plane below =
     let more : (b + 1) * plane ≤ n * plane = mul-le-mul_right plane (omega arith) in omega (arith, more)
 
 pub apart : (b at plane j k : ℕ) → j < plane → k < plane → b ≢ at → b * plane + j ≢ at * plane + k
-apart b at plane j k one two other = elim (cases_lt b at) [
-  | inl low ↦ omega (arith, plane_end b at plane low)
-  | inr high ↦ omega (arith, plane_end at b plane (omega (arith, other)))
-]
+apart b at plane j k one two other = grind (arith, plane_end)
 
 pub beside : (b at plane j k : ℕ) → j < plane → k < plane → j ≢ k → b * plane + j ≢ at * plane + k
 beside b at plane j k one two other = elim (cases_eq b at) [

@@ -7,7 +7,6 @@ use Rattle.px_text.specs.declared.text.TheConstants.{MAX_TEXT_BYTES}
 use Rattle.px_text.specs.Text.{worded}
 use Rattle.px_scene.specs.Reading.{scene_of}
 use Rattle.px_scene.specs.Reading as reading
-use Rattle.px_show.specs.Judged.{SceneFault}
 use Rattle.px_show.specs.declared.fault.TextFault.TheVariants as text_fault
 use Rattle.px_listing.specs.PassesText.{passes_listing}
 use Rattle.px_listing.specs.Reading.{listing_of}
@@ -15,7 +14,6 @@ use Rattle.px_listing.specs.Reading as listing
 use Rattle.px_listing.specs.Reading.{ListFault}
 use Rattle.px_state.specs.Refusals.{IsRefusedBy, course_of, is_listing, refusal_by_bits}
 use Rattle.px_state.specs.Refusals.{list_fault, fault_of_scene, input_refusal, past_text_limit}
-use Rattle.px_state.specs.declared.fault.StateFault.{StateFault}
 
 pub long_text : (bits : ℕ) (text : List ℕ) → MAX_TEXT_BYTES < length text
     → IsRefusedBy past_text_limit (input_refusal bits text)
@@ -46,9 +44,3 @@ pub list_refused : (fault : ListFault) (refusal : Option ListFault) → (fault �
     → IsRefusedBy (list_fault fault) (option_map list_fault refusal)
 list_refused fault refusal (inl memory) = inl (ap list_fault memory)
 list_refused fault refusal (inr is) = inr (ap (option_map list_fault) is)
-
-pub scene_refused : (fault : SceneFault) (refusal : Option SceneFault) (job : Option StateFault)
-    → (fault ≡ text_fault.Memory want) ⊎ (refusal ≡ Some fault)
-    → IsRefusedBy (fault_of_scene fault) (option_or (option_map fault_of_scene refusal) job)
-scene_refused fault refusal job (inl memory) = inl (ap fault_of_scene memory)
-scene_refused fault refusal job (inr is) = inr (rw is refl)

@@ -1,5 +1,5 @@
 -- The shuffles by which a block is turned over.
-use Rattle.px_num.proofs.Basics.{◌≡◌, ℕ, ◌+◌, ◌*◌, ◌/◌, ◌%◌, ◌<◌, ◌==◌, cond, List, get_or, length, set, refl, sym, ap}
+use Rattle.px_num.proofs.Basics.{◌≡◌, ℕ, ◌+◌, ◌*◌, ◌/◌, ◌%◌, ◌<◌, ◌==◌, cond, List, get_or, length, set, sym, ap}
 use Rattle.px_num.proofs.Basics.{◌∙◌, arith, inl, inr, cases_lt, get_or-set_other, get_or-set_same, length-set}
 use Rattle.px_num.specs.Bits.{nat_bit}
 use Rattle.px_rows.specs.Rows.{row_bit}
@@ -18,18 +18,7 @@ pub merged_place : (block : List ℕ) (w h p : ℕ) → w < 32 → h < 2 → p /
     → cond (p % 64 % 2 == 1) (nat_bit (get_or block (32 + w) 0) (32 * h + p % 64 / 2))
     (nat_bit (get_or block w 0) (32 * h + p % 64 / 2))
     ≡ row_bit block (shuffled p)
-merged_place block w h p few two word = elim (cases_lt (p % 2) 1) [
-  | inl even ↦
-      let rest : p % 64 % 2 ≡ 0 = omega arith in
-      let place : shuffled p / 64 ≡ w = omega arith in
-      let bit : shuffled p % 64 ≡ 32 * h + p % 64 / 2 = omega arith in
-      rw (rest, place, bit) refl
-  | inr odd ↦
-      let rest : p % 64 % 2 ≡ 1 = omega arith in
-      let place : shuffled p / 64 ≡ 32 + w = omega arith in
-      let bit : shuffled p % 64 ≡ 32 * h + p % 64 / 2 = omega arith in
-      rw (rest, place, bit) refl
-]
+merged_place block w h p few two word = grind arith
 
 -- two words of a shuffle more
 pub shuffled_more : (block words : List ℕ) (w low high : ℕ) → w < 32 → length words ≡ 64
@@ -62,10 +51,7 @@ shuffled_more block words w low high few long before low_is high_is p below = el
 ]
 
 row_at : (words : List ℕ) (w b : ℕ) → b < 64 → row_bit words (64 * w + b) ≡ nat_bit (get_or words w 0) b
-row_at words w b within =
-    let word : (64 * w + b) / 64 ≡ w = omega arith in
-    let bit : (64 * w + b) % 64 ≡ b = omega arith in
-    rw (word, bit) refl
+row_at words w b within = grind arith
 
 -- a block that was turned over
 pub turned_in : (block turned : List ℕ)

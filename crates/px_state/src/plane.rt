@@ -8,10 +8,6 @@ use crate::shape::Shape;
 use crate::turning::turned_block;
 use crate::words::row_words;
 use px_num::power;
-use px_rows::bit_of_row;
-
-/// A tree of so many levels has enough leaves that 64 columns are turned over at once.
-const FEW_LEVELS: u32 = 10;
 
 /// Writes the plane that begins at word `first`, by a row of columns from its column `from` on.
 pub(crate) fn write_plane(words: &mut [u64], first: usize, shape: &Shape, row: &[u64], from: usize)
@@ -25,61 +21,9 @@ pub(crate) fn write_plane(words: &mut [u64], first: usize, shape: &Shape, row: &
 {
     let each = row_words(shape.nx);
     for b in 0..row_words(shape.ny) * each {
-        let block = rows_of(row, shape, from, b / each, b % each);
+        let block = turned_block(&block_of(row, shape, from, b / each, b % each));
         put_block(words, first, shape, b, &block);
     }
-}
-
-/// The bits of 64 columns from column `64 * c` on, in the rows from row `64 * w` on, a row in each word.
-fn rows_of(row: &[u64], shape: &Shape, from: usize, w: usize, c: usize) -> [u64; 64]
-    requires shape { IsShape shape.now }
-    requires from { from ≤ 2 ^ 9 }
-    requires row { (from + 2 ^ shape.now.nx) * 2 ^ shape.now.ny ≤ 64 * length row.now }
-    requires rows { 64 * w < 2 ^ shape.now.ny }
-    requires columns { c < row_words shape.now.nx }
-    ensures { (j i : ℕ) → j < 64 → i < 64 → 64 * w + j < 2 ^ shape.now.ny
-        → nat_bit (get_or result j 0) i ≡ placed shape.now row.now from (64 * c + i) (64 * w + j) }
-{
-    if shape.nx + shape.ny < FEW_LEVELS {
-        few_rows(row, shape, from, w, c)
-    } else {
-        turned_block(&block_of(row, shape, from, w, c))
-    }
-}
-
-/// The same bits, found one by one.
-fn few_rows(row: &[u64], shape: &Shape, from: usize, w: usize, c: usize) -> [u64; 64]
-    requires shape { IsShape shape.now }
-    requires from { from ≤ 2 ^ 9 }
-    requires row { (from + 2 ^ shape.now.nx) * 2 ^ shape.now.ny ≤ 64 * length row.now }
-    requires rows { 64 * w < 2 ^ shape.now.ny }
-    requires columns { c < row_words shape.now.nx }
-    ensures { (j i : ℕ) → j < 64 → i < 64 → 64 * w + j < 2 ^ shape.now.ny
-        → nat_bit (get_or result j 0) i ≡ placed shape.now row.now from (64 * c + i) (64 * w + j) }
-{
-    let mut rows = [0; 64];
-    for j in 0..(power(shape.ny) - 64 * w).min(64) {
-        rows[j] = row_word(row, shape, from, c, 64 * w + j);
-    }
-    rows
-}
-
-/// The bits of row `y` from column `64 * c` on.
-fn row_word(row: &[u64], shape: &Shape, from: usize, c: usize, y: usize) -> u64
-    requires shape { IsShape shape.now }
-    requires from { from ≤ 2 ^ 9 }
-    requires row { (from + 2 ^ shape.now.nx) * 2 ^ shape.now.ny ≤ 64 * length row.now }
-    requires row_at { y < 2 ^ shape.now.ny }
-    requires columns { c < row_words shape.now.nx }
-    ensures { (i : ℕ) → i < 64 → nat_bit result i ≡ placed shape.now row.now from (64 * c + i) y }
-{
-    let mut word = 0;
-    for i in 0..(power(shape.nx) - 64 * c).min(64) {
-        if bit_of_row(row, (from + (64 * c + i)) * power(shape.ny) + y) {
-            word |= 1 << i;
-        }
-    }
-    word
 }
 
 /// The bits of 64 columns from column `64 * c` on, in the rows from row `64 * w` on, a column in each word.

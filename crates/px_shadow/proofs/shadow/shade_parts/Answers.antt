@@ -1,7 +1,6 @@
 use Rattle.px_num.proofs.Basics.{◌≡◌, None, refl, rules}
 use Rattle.px_shadow.proofs.Words.{lights_fault, worded}
 use Rattle.px_shadow.proofs.ShadowLemmas.{lights_serve}
-use Rattle.px_commands.specs.declared.stop.SceneStop.TheVariants as halted
 use Rattle.px_shadow.proofs.shadow.shade_parts.Goals as goal
 
 pub returns-clause-serves : goal.returns-clause-serves

@@ -1,3 +1,4 @@
+use Rattle.std.proofs.lemmas.Grind.{common_steps}
 use Rattle.px_num.proofs.Basics.{◌≡◌, Some, sym, ◌∙◌, arith, slice_get}
 use Rattle.px_control.proofs.StepLemmas.{start_within}
 use Rattle.px_state.proofs.CourseLemmas.{begins}
@@ -6,14 +7,7 @@ use Rattle.px_state.proofs.PutLemmas.{put_next}
 use Rattle.px_state.proofs.micros.put_course.Goals as goal
 
 pub put_micros-start-requires-clause-start : goal.put_micros-start-requires-clause-start
-put_micros-start-requires-clause-start c =
-    let l = listing_in c.args.course.now in
-    omega (
-      arith,
-      c.loop-m.invariant.start,
-      start_within l.macros l.nx l.ny (given_by c.args.course.now c.loop-m.mark),
-      c.grid-nx.ensures.good.clocks,
-    )
+put_micros-start-requires-clause-start c = grind (arith, common_steps, start_within)
 
 pub returns-then-end-start-clause-micros : goal.returns-then-end-start-clause-micros
 returns-then-end-start-clause-micros c j within =

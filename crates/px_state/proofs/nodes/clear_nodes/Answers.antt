@@ -1,8 +1,7 @@
+use Rattle.std.proofs.lemmas.Grind.{common_steps}
 use Rattle.px_num.proofs.Basics.{arith}
 use Rattle.px_state.proofs.NodeLemmas.{cleared_nodes}
 use Rattle.px_state.proofs.nodes.clear_nodes.Goals as goal
 
 pub returns-clause-nodes : goal.returns-clause-nodes
-returns-clause-nodes c = λ tree size.
-    cleared_nodes c.args.shape.now tree size c.loop-k.words
-    (λ k low. c.loop-k.invariant.done k (omega (arith, low, c.loop-k-test.false)))
+returns-clause-nodes c = grind (arith, common_steps, cleared_nodes)

@@ -1,4 +1,5 @@
-use Rattle.px_num.proofs.Basics.{◌≡◌, ℕ, ◌+◌, ◌-◌, ◌*◌, ◌^◌, ◌<◌, ap, inl, inr, sym, ◌∙◌, arith, get_or, length, pow-add}
+use Rattle.std.proofs.lemmas.Grind.{common_steps}
+use Rattle.px_num.proofs.Basics.{◌≡◌, ℕ, ◌+◌, ◌-◌, ◌*◌, ◌^◌, ◌<◌, ap, sym, ◌∙◌, arith, get_or, length, pow-add}
 use Rattle.px_num.proofs.Basics.{get_or-append_right, get_or_append_left}
 use Rattle.px_num.proofs.TruthLaws.{power_grows}
 use Rattle.px_num.specs.Bits.{nat_bit}
@@ -9,21 +10,10 @@ use Rattle.px_state.specs.Words.{IsNodeWord, row_words}
 use Rattle.px_state.proofs.nodes.write_leaves.Goals as goal
 
 pub write_plane-requires-clause-from : goal.write_plane-requires-clause-from
-write_plane-requires-clause-from c =
-    rw c.power.ensures (power_grows c.args.shape.now.nx 9 c.requires.shape.grid.0.1)
+write_plane-requires-clause-from c = grind (arith, common_steps, power_grows)
 
 pub write_plane-requires-clause-row : goal.write_plane-requires-clause-row
-write_plane-requires-clause-row c =
-    let shape = c.args.shape.now in
-    rw c.power.ensures (omega (
-      arith,
-      pow-add 2 shape.nx shape.ny,
-      pow-add 2 (shape.nx + shape.ny) 1,
-      c.requires.shape.nodes,
-      c.requires.room,
-      c.start.ensures.start,
-      c.split_at_mut-planes.ensures.back_len,
-    ))
+write_plane-requires-clause-row c = grind (arith, common_steps, pow-add)
 
 pub returns-clause-leaves : goal.returns-clause-leaves
 returns-clause-leaves c = λ tree size held y k i row low bit.
@@ -48,23 +38,3 @@ returns-clause-leaves c = λ tree size held y k i row low bit.
     ap (λ w. nat_bit w i) (get_or_append_left new nodes 0 place inside)
     ∙ ((rw (c.start-first.ensures.start, c.power.ensures) at c.write_plane.ensures.plane) y k i row low bit
     ∙ leaf_law shape tree size nodes is outputs (64 * k + i) y row)
-
-pub returns-clause-others : goal.returns-clause-others
-returns-clause-others c = λ k out.
-    let shape = c.args.shape.now in
-    let cut = c.split_at_mut-planes in
-    let old = cut.result.0.now in
-    let new = c.write_plane.new.words in
-    let nodes = cut.result.1.now in
-    let long : length old ≡ nodes_at shape = cut.ensures.front_len ∙ c.start.ensures.start in
-    let same : length new ≡ nodes_at shape = c.write_plane.ensures.length ∙ long in
-    let value = ap (λ ws. get_or ws k 0) cut.ensures.value in
-    let others = rw c.start-first.ensures.start at c.write_plane.ensures.others in
-    elim out [
-      | inl low ↦
-          get_or_append_left new nodes 0 k (omega (arith, same, low)) ∙ (others k (inl low)
-          ∙ sym (value ∙ get_or_append_left old nodes 0 k (omega (arith, long, low))))
-      | inr past ↦
-          get_or-append_right new nodes (nodes_at shape) k 0 same past
-          ∙ sym (value ∙ get_or-append_right old nodes (nodes_at shape) k 0 long past)
-    ]

@@ -1,3 +1,5 @@
+use Rattle.std.proofs.lemmas.Grind.{common_steps}
+use Rattle.std.proofs.Common.{rules}
 use Rattle.px_num.proofs.Basics.{◌≡◌, ◌+◌, ◌<◌, length, refl, sym, subst, ap, ◌∙◌, arith}
 use Rattle.px_asm.specs.Micros.{cycles}
 use Rattle.px_control.proofs.StepLemmas.{start_within}
@@ -29,34 +31,10 @@ cycles-requires-clause-lawful c =
     c.operation-m.ensures is_lawful_in_more c.requires.good
 
 pub overflow_add-operation : goal.overflow_add-operation
-overflow_add-operation c =
-    let scene = c.args.scene.now in
-    let pass = c.args.purpose.now.pass in
-    let size = c.count-count.ensures.count (layout_of scene) in
-    omega (
-      arith,
-      c.loop-at-test.true,
-      size,
-      c.requires.operation,
-      before_more scene pass c.args.step c.requires.here,
-      before_within scene (pass + 1),
-      c.requires.good.operations,
-      c.requires.good.clocks,
-    )
+overflow_add-operation c = search (rules, before_within)
 
 pub overflow_add-clock : goal.overflow_add-clock
-overflow_add-clock c =
-    let scene = c.args.scene.now in
-    let l = passes_listing scene in
-    omega (
-      arith,
-      c.loop-at.invariant.clock,
-      start_within l.macros l.nx l.ny (c.args.begin.0 + c.loop-at.at),
-      same_total scene,
-      c.requires.good.clocks,
-      c.from-clock.ensures,
-      c.cycles.ensures.few,
-    )
+overflow_add-clock c = grind (arith, common_steps, start_within, same_total)
 
 pub loop-at-preserved : goal.loop-at-preserved
 loop-at-preserved c =
@@ -92,24 +70,7 @@ loop-at-preserved c =
     }
 
 pub overflow_add-result : goal.overflow_add-result
-overflow_add-result c =
-    let scene = c.args.scene.now in
-    let pass = c.args.purpose.now.pass in
-    omega (
-      arith,
-      c.count-count.ensures.count (layout_of scene),
-      c.requires.operation,
-      before_more scene pass c.args.step c.requires.here,
-      before_within scene (pass + 1),
-      c.requires.good.operations,
-      c.requires.good.clocks,
-    )
+overflow_add-result c = search (rules, before_within)
 
 pub returns-clause-operation : goal.returns-clause-operation
-returns-clause-operation c =
-    omega (
-      arith,
-      c.count-count.ensures.count (layout_of c.args.scene.now),
-      c.requires.operation,
-      before_more c.args.scene.now c.args.purpose.now.pass c.args.step c.requires.here,
-    )
+returns-clause-operation c = search (rules, before_more)

@@ -1,3 +1,4 @@
+use Rattle.std.proofs.lemmas.Grind.{common_steps}
 use Rattle.px_num.proofs.Basics.{ℕ, ◌+◌, ◌*◌, ◌^◌, ◌<◌, ◌≡◌, ◌∙◌, arith, length-set}
 use Rattle.px_num.proofs.TruthLaws.{power_grows}
 use Rattle.px_num.specs.Bits.{nat_bit}
@@ -6,9 +7,7 @@ use Rattle.px_state.specs.Cells.{placed}
 use Rattle.px_state.proofs.plane.block_of.Goals as goal
 
 pub column_word-requires-clause-column : goal.column_word-requires-clause-column
-column_word-requires-clause-column c =
-    let shape = c.args.shape.now in
-    omega (arith, c.requires.columns, c.loop-i-test.true, power_grows shape.nx 9 c.requires.shape.grid.0.1)
+column_word-requires-clause-column c = grind (arith, common_steps, power_grows)
 
 pub loop-i-preserved : goal.loop-i-preserved
 loop-i-preserved c =

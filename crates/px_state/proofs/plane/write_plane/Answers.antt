@@ -1,27 +1,16 @@
+use Rattle.std.proofs.lemmas.Grind.{common_steps}
 use Rattle.px_num.proofs.Basics.{◌≡◌, ◌+◌, ◌*◌, ◌/◌, ◌%◌, ◌^◌, ◌<◌, ap, sym, ◌∙◌, arith, inl, inr, cases_lt, mod-lt}
 use Rattle.px_num.proofs.Basics.{div-mul-add, mod-mul-add}
 use Rattle.px_num.specs.Bits.{nat_bit}
 use Rattle.px_state.proofs.PlaneLemmas.{block_is, block_row, same_place, some_words}
 use Rattle.px_state.proofs.ShapeLemmas.{plane_end}
+use Rattle.px_state.proofs.TurningLemmas.{turned_in}
 use Rattle.px_state.specs.Cells.{placed}
 use Rattle.px_state.specs.Words.{row_words, word_bit}
 use Rattle.px_state.proofs.plane.write_plane.Goals as goal
 
-pub rows_of-block-requires-clause-rows : goal.rows_of-block-requires-clause-rows
-rows_of-block-requires-clause-rows c =
-    let shape = c.args.shape.now in
-    rw c.row_words-each.ensures.words (block_row shape.nx shape.ny c.loop-b.b
-    (rw (c.row_words-each.ensures.words, c.row_words.ensures.words) at c.loop-b-test.true))
-
-pub rows_of-block-requires-clause-columns : goal.rows_of-block-requires-clause-columns
-rows_of-block-requires-clause-columns c =
-    rw c.row_words-each.ensures.words (mod-lt c.loop-b.b (some_words c.args.shape.now.nx))
-
 pub put_block-requires-clause-block : goal.put_block-requires-clause-block
-put_block-requires-clause-block c =
-    let shape = c.args.shape.now in
-    block_row shape.nx shape.ny c.loop-b.b
-    (rw (c.row_words-each.ensures.words, c.row_words.ensures.words) at c.loop-b-test.true)
+put_block-requires-clause-block c = grind (arith, common_steps, block_row)
 
 pub loop-b-preserved : goal.loop-b-preserved
 loop-b-preserved c =
@@ -31,7 +20,6 @@ loop-b-preserved c =
     let first = c.args.first in
     let before = c.loop-b.invariant in
     let put = c.put_block.ensures in
-    let rows = rw c.row_words-each.ensures.words at c.rows_of-block.ensures in
     let column : b % each < each = mod-lt b (some_words shape.nx) in
     let bit = placed shape c.args.row.now c.args.from in
     record {
@@ -48,7 +36,8 @@ loop-b-preserved c =
             let whole : 64 * (b / each) + y % 64 ≡ y = omega (arith, here) in
             ap (λ k. word_bit c.put_block.new.words (first + (y * each + k)) i) there
             ∙ (ap (λ n. nat_bit n i) (put.put y row here)
-            ∙ (rows (y % 64) i (omega arith) within (omega (arith, whole, row))
+            ∙ (turned_in c.block_of.result c.turned_block-block.result c.turned_block-block.ensures (y % 64) i (omega arith) within
+            ∙ (rw c.row_words-each.ensures.words at c.block_of.ensures) i (y % 64) within (omega arith) (omega (arith, whole, row))
             ∙ (ap (bit (64 * (b % each) + i)) whole ∙ ap (λ k. bit (64 * k + i) y) (sym there))))
       ];
       others = λ k out. put.others k (λ v in_plane here same.

@@ -1,14 +1,15 @@
+use Rattle.std.proofs.lemmas.Grind.{common_steps}
 use Rattle.px_num.proofs.Basics.{◌≡◌, arith}
-use Rattle.px_state.proofs.SceneLemmas.{at_start, device_is, same_total}
+use Rattle.px_control.proofs.StepLemmas.{at_opened}
+use Rattle.px_state.proofs.SceneLemmas.{device_is, same_total}
 use Rattle.px_state.proofs.running.draw_to.Goals as goal
 
 pub run_clocks-place-requires-clause-left : goal.run_clocks-place-requires-clause-left
-run_clocks-place-requires-clause-left g c =
-    omega (arith, c.requires.within, c.first.ensures.clock, same_total c.args.program.now)
+run_clocks-place-requires-clause-left g c = grind (arith, common_steps, same_total)
 
 pub run_clocks-place-requires-clause-at : goal.run_clocks-place-requires-clause-at
 run_clocks-place-requires-clause-at g c =
-    rw c.first.ensures.clock (at_start g.A.Array.BITS c.args.program.now _ c.requires.held c.requires.new)
+    rw c.first.ensures.clock (at_opened g.A.Array.BITS c.args.program.now _ c.requires.held c.requires.new)
 
 pub returns : goal.returns
 returns g c =

@@ -1,31 +1,16 @@
-use Rattle.px_num.proofs.Basics.{◌≡◌, ◌+◌, ◌<◌, length, get_or, subst, ap, ◌∙◌, arith}
+use Rattle.std.proofs.Common.{rules}
+use Rattle.px_num.proofs.Basics.{◌≡◌, ◌+◌, ◌<◌, length, get_or, ap, ◌∙◌, arith}
 use Rattle.px_asm.specs.Micros.{cycles}
 use Rattle.px_macro.specs.declared.operation.Macro.TheVariants as m
-use Rattle.px_listing.specs.Listings.{IsListing, ListingView}
+use Rattle.px_listing.specs.Listings.{ListingView}
 use Rattle.px_state.proofs.CourseLemmas.{begins, columns_are, goes_on, here_in, next_here, rows_are}
 use Rattle.px_state.proofs.running.play_to.Goals as goal
 
 pub make_micros-requires-clause-grid : goal.make_micros-requires-clause-grid
-make_micros-requires-clause-grid g c =
-    let l = c.args.listing.now in
-    let before = c.loop-operation.invariant in
-    let kept : IsListing l = subst IsListing c.listing.view_is c.listing.invariant in
-    let columns = columns_are g.A.Array.BITS l c.loop-operation.start _ before.at in
-    let rows = rows_are g.A.Array.BITS l c.loop-operation.start _ before.at in
-    rw (columns, rows) kept.grid
+make_micros-requires-clause-grid g c = search (rules, columns_are, rows_are)
 
 pub make_micros-requires-clause-within : goal.make_micros-requires-clause-within
-make_micros-requires-clause-within g c =
-    let l = c.args.listing.now in
-    let before = c.loop-operation.invariant in
-    let items = c.deref-m-items.ensures.value ∙ ap (λ (l : ListingView). l.macros) c.listing.view_is in
-    let nx : c.listing.inside.nx ≡ l.nx = ap (λ (l : ListingView). l.nx) c.listing.view_is in
-    let ny : c.listing.inside.ny ≡ l.ny = ap (λ (l : ListingView). l.ny) c.listing.view_is in
-    let columns = columns_are g.A.Array.BITS l c.loop-operation.start _ before.at in
-    let rows = rows_are g.A.Array.BITS l c.loop-operation.start _ before.at in
-    let count : c.from.result ≡ cycles (get_or l.macros c.loop-operation.operation m.All) l.nx l.ny =
-    c.from.ensures ∙ (rw (items, nx, ny) at c.cycles-cycles.ensures.value) in
-    rw (items, columns, rows) (omega (arith, count, c.min-made.ensures))
+make_micros-requires-clause-within g c = search (rules, columns_are, rows_are)
 
 pub returns-then-made-cycles : goal.returns-then-made-cycles
 returns-then-made-cycles g c =
