@@ -1,7 +1,6 @@
 -- The clocks of an operation are some, and few.
 use Rattle.px_num.proofs.Basics.{ℕ, ◌≤◌, arith}
 use Rattle.px_asm.proofs.Words.{cycles, IsGrid, IsLawful, Macro}
-use Rattle.px_macro.specs.declared.operation.Macro.TheVariants as m
 
 -- no operation takes more than 82 clocks
 pub few_cycles : (op : Macro) (nx ny : ℕ) → IsGrid nx ny → IsLawful op 256 → cycles op nx ny ≤ 82

@@ -1,4 +1,6 @@
 -- What the acts of the operations on a form leave of one pixel, to which the tree brings the bits of its value.
+use Rattle.std.proofs.Common.{tests}
+use Rattle.px_num.proofs.Basics.{rules}
 use Rattle.px_num.proofs.Basics.{◌≡◌, ℕ, zero, suc, ◌+◌, ◌<◌, ◌≤◌, ◌==◌, ℤ, pos, ◌+ℤ◌, Bool, true, false, not, length}
 use Rattle.px_num.proofs.Basics.{if◌then◌else◌, nat_le, refl, ap, ◌∙◌, arith, beq, is_negative, nat_tests, ints}
 use Rattle.px_asm.proofs.Words.{Act, act_at, after_act, beq_true, bit_at, bit_of, bits_of, BitsOfNumber, carry_from}
@@ -28,17 +30,18 @@ waiting levels first each tree (suc n) p low =
 pub after_bits : (levels count len : ℕ) (first : Act) (each : ℕ → Act) (tree : ℕ → Bool) (v : ℤ) (p : PixelState)
     → count ≡ 1 + levels + len → ((t : ℕ) → t < len → tree (suc (t + levels)) ≡ bit_of v t)
     → after_acts (act_at levels first each) tree count p ≡ after_acts each (bit_of v) len (after_act first (tree 0) p)
-after_bits levels count len first each tree v p total bits =
-    let whole : count ≡ suc levels + len = omega arith in
-    let q = after_act first (tree 0) p in
-    ap (λ i. after_acts (act_at levels first each) tree i p) whole
-    ∙ (after_acts-parts (act_at levels first each) tree (suc levels) len p
-    ∙ (ap (λ r. after_acts (λ i. act_at levels first each (suc levels + i)) (λ i. tree (suc levels + i)) len r)
-    (waiting levels first each tree levels p (omega arith))
-    ∙ after_acts-same (λ i. act_at levels first each (suc levels + i)) each (λ i. tree (suc levels + i)) (bit_of v)
-    len q (λ t low. bit_act levels first each t) (λ t low.
-    let place : suc levels + t ≡ suc (t + levels) = omega arith in
-    ap tree place ∙ bits t low)))
+after_bits levels count len first each tree v p total bits = search (
+  rules,
+  tests,
+  arith,
+  after_act,
+  act_at,
+  after_acts-parts,
+  waiting,
+  after_acts-same,
+  bit_of,
+  bit_act,
+) depth 8
 
 -- loading
 pub put_by_load : (levels count : ℕ) (f : Field) (tree : ℕ → Bool) (v : ℤ) (p : PixelState) → count ≡ 1 + levels

@@ -6,7 +6,6 @@ use Rattle.px_asm.proofs.Words.{LeavesTheRest, Macro, Micro, micro_at, micros, n
 use Rattle.px_asm.proofs.Words.{pixel_at-after_clock, PixelState, renewed, State}
 use Rattle.px_asm.proofs.StepLemmas.{grid_after_steps, run_is_steps, steps}
 use Rattle.px_array.specs.declared.act.Act.TheVariants as act
-use Rattle.px_macro.specs.declared.operation.Macro.TheVariants as m
 
 no : true ≡ false → ⊥
 no e = cc

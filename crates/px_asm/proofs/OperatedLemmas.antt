@@ -1,5 +1,5 @@
 -- Arrays on which operations were made at once, compared with those on which their micros were made.
-use Rattle.px_num.proofs.Basics.{◌≡◌, ℕ, ◌+◌, ◌*◌, ◌/◌, ◌%◌, ◌^◌, ◌<◌, ◌&&◌, not, Bool, true, false, refl, ap, ◌∙◌}
+use Rattle.px_num.proofs.Basics.{◌≡◌, ℕ, ◌+◌, ◌*◌, ◌/◌, ◌%◌, ◌^◌, ◌<◌, ◌&&◌, not, Bool, true, false, ap, ◌∙◌}
 use Rattle.px_num.proofs.Basics.{arith, one-le-pow, pow-add}
 use Rattle.px_asm.proofs.Words.{Agree, AgreeIn, BecomeTheSame, BecomeTheSameAgain, grid_after_clocks, Known}
 use Rattle.px_asm.proofs.Words.{LeaveTheMeaning, micros, none_known, pixel_at, pixel_of, PixelBits, State}
@@ -70,9 +70,7 @@ become_the_same_again bits nx ny ops lawful k s t h all =
     same_state bits nx ny _ _ (rw all at (all_micros_alike bits nx ny ops lawful k s t (alike_in bits nx ny k s t h)))
 
 known_and_left : (a b : Bool) → (a && not b) ≡ true → (a ≡ true) × (b ≡ false)
-known_and_left true true e = absurd (cc)
-known_and_left true false e = (refl, refl)
-known_and_left false b e = absurd (cc)
+known_and_left a b e = grind arith
 
 pub stay_known : LeaveTheMeaning → StayKnown
 stay_known law bits nx ny sizes op lawful k before now s h done =

@@ -1,10 +1,10 @@
 -- The places that micros name.
+use Rattle.px_num.proofs.Basics.{rules}
 use Rattle.px_num.proofs.Basics.{◌≡◌, ℕ, ◌+◌, ◌-◌, ◌<◌, ◌==◌, Bool, true, false, if◌then◌else◌, nat_lt, refl, arith}
 use Rattle.px_num.proofs.Basics.{nat_tests}
-use Rattle.px_asm.proofs.Words.{Act, act_at, AddLinear, Copy, cycles, get_or-tabulate, HasPlace, HaveTheirPlaces}
-use Rattle.px_asm.proofs.Words.{IsLawful, KeepAtMost, KeepLess, KeepSign, length-tabulate, LoadConst, LoadLinear}
+use Rattle.px_asm.proofs.Words.{Act, act_at, cycles, get_or-tabulate, HasPlace, HaveTheirPlaces}
+use Rattle.px_asm.proofs.Words.{IsLawful, length-tabulate}
 use Rattle.px_asm.proofs.Words.{Macro, Micro, micro_at}
-use Rattle.px_array.specs.declared.act.Act.TheVariants as act
 
 chosen : (bits : ℕ) (b : Bool) (p q : Act) → (b ≡ true → HasPlace bits p) → (b ≡ false → HasPlace bits q)
     → HasPlace bits (if b then p else q)
@@ -27,14 +27,7 @@ before_last i last low differs = grind (arith, nat_tests)
 
 pub has_place : (bits nx ny : ℕ) (m : Macro) → IsLawful m bits → (i : ℕ) → i < cycles m nx ny
     → HasPlace bits (micro_at m nx ny i).act
-has_place bits nx ny (KeepSign form) lawful i low = grind (arith, chosen)
-has_place bits nx ny (LoadLinear form f) lawful i low = grind (arith, for_each_bit)
-has_place bits nx ny (KeepAtMost form f) lawful i low = grind (arith, act_of_choice, chosen, for_each_bit, before_last)
-has_place bits nx ny (AddLinear form f) lawful i low = grind (arith, for_each_bit)
-has_place bits nx ny (LoadConst f c) lawful i low = omega (arith, lawful.0.within)
-has_place bits nx ny (Copy f g) lawful i low = grind (arith, chosen)
-has_place bits nx ny (KeepLess f g) lawful i low = grind (arith, chosen, before_last)
-has_place bits nx ny op lawful i low = lawful
+has_place bits nx ny m h i p = search rules
 
 pub have_their_places : HaveTheirPlaces
 have_their_places bits nx ny m lawful k d low = grind (arith, length-tabulate, get_or-tabulate, has_place)

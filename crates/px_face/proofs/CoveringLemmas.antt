@@ -218,22 +218,24 @@ module _ (s : SolidView) (end x y : ℕ) where
   number_front face low = grind (arith, get_or_append_left, length-map)
 
   pub covered_once : IsCoveredOnce s end x y
-  covered_once =
-      record {
-        fronts = grind (arith, lt_holds, front_is);
-        backs = grind (arith, lt_fails, back_is, nat_tests);
-        front = grind (
-          arith,
-          lt_true,
-          front_low,
-          plane_front,
-          front_value,
-          lt_holds,
-          number_front,
-          numbers_grow,
-          first_index,
-        );
-        back = grind (arith, back_low, lt_false, plane_back, back_value, least_index);
-        values = cells_are s end x y;
-        depths = depths_are s end x y;
-      }
+  covered_once = grind (
+    arith,
+    lt_holds,
+    front_is,
+    lt_fails,
+    back_is,
+    lt_true,
+    front_low,
+    plane_front,
+    front_value,
+    number_front,
+    numbers_grow,
+    first_index,
+    back_low,
+    lt_false,
+    plane_back,
+    back_value,
+    least_index,
+    cells_are,
+    depths_are,
+  )

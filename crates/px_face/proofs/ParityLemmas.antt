@@ -3,9 +3,9 @@ use Rattle.px_num.proofs.Basics.{nat_tests, common_steps, ◌≡◌, ◌<◌, �
 use Rattle.px_num.proofs.Basics.{◌&&◌, not, List, cond, length, eqb, count_by, refl, ap, sym, ◌∙◌, arith, inl, inr}
 use Rattle.px_num.proofs.Basics.{range_with_len, ints, cases_eq, sum_by-append}
 use Rattle.px_face.proofs.Words.{and_false, and_true, cell_is_first, covering_back, covering_front, Depths, end_of}
-use Rattle.px_face.proofs.Words.{enters_at, eqb_holds, eqb_itself, eqb_other, face_count, face_plane, is_inside_at}
+use Rattle.px_face.proofs.Words.{enters_at, eqb_holds, eqb_itself, eqb_other, face_count, is_inside_at}
 use Rattle.px_face.proofs.Words.{is_met, is_odd, is_passed_at, IsCoveredOnce, IsInsideByParity, le_z, leaves_at}
-use Rattle.px_face.proofs.Words.{lt_false, lt_holds, lt_is_not_le, lt_true, SolidView, value_at}
+use Rattle.px_face.proofs.Words.{lt_false, lt_holds, lt_is_not_le, SolidView}
 use Rattle.px_num.proofs.RangeLaws.{range_cut}
 use Rattle.px_face.proofs.ParityLaws.{count_by-cons}
 
@@ -42,12 +42,7 @@ odd_between met entered left first = grind arith
 module _ (s : SolidView) (end x y : ℕ) (law : IsCoveredOnce s end x y) where
   fronts_passed : (z i : ℕ) → i < length s.fronts + 1 → is_passed_at s end x y z i
       ≡ ((is_met s end x y && le_z (enters_at s x y) (pos z)) && eqb i (covering_front s x y))
-  fronts_passed z i low =
-      rw (law.fronts i (lt_true i (length s.fronts + 1) low))
-      (where_here (is_met s end x y) (eqb i (covering_front s x y)) (le_z (value_at (face_plane s end i) x y) (pos z))
-      (le_z (enters_at s x y) (pos z))
-      (λ e. ap (λ v. le_z v (pos z)) (ap (λ j. value_at (face_plane s end j) x y)
-      (eqb_holds i (covering_front s x y) e) ∙ law.front.value)))
+  fronts_passed z i low = grind (arith, nat_tests)
 
   pub odd_inside_at : ((v : ℕ) → is_inside_at s end x y v
       ≡ is_odd (count_by (is_passed_at s end x y v) (range_with_len 0 (face_count s))))

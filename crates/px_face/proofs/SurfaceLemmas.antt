@@ -1,11 +1,12 @@
 -- Where a solid begins it shows a front, and just after its end it hides a back; and so does a scene.
+use Rattle.px_num.proofs.Basics.{rules}
 use Rattle.px_num.proofs.Basics.{common_steps, ◌≡◌, ◌<◌, ◌&&◌, ℕ, zero, suc, ℤ, pos, Bool, true, false, nat_le, nat_lt}
 use Rattle.px_num.proofs.Basics.{List, [], ◌∷◌, ◌++◌, length, map, Option, Some, None, refl, sym, ◌∙◌, arith, inl, inr}
 use Rattle.px_num.proofs.Basics.{if◌then◌else◌, slice_get, option_map_or, int_eq, ints, nat_tests}
-use Rattle.px_face.proofs.Words.{backs_at, before_end, cell, Cell, cell_is_least, cell_of, Depths, depths_of, end_of}
+use Rattle.px_face.proofs.Words.{backs_at, cell, Cell, cell_of, Depths, depths_of, end_of}
 use Rattle.px_face.proofs.Words.{enters_at, Face, faces_at, far_of, fronts_at, greatest_fronts, HasSurface}
 use Rattle.px_face.proofs.Words.{int_same_true, is_inside, is_member, is_met, IsLawfulScene, leaf_cell, leaves_at}
-use Rattle.px_face.proofs.Words.{lt_of_ints, lt_true, no_cell, NoMemberBehind, same_true, scene_before, scene_cell}
+use Rattle.px_face.proofs.Words.{no_cell, NoMemberBehind, same_true, scene_before, scene_cell}
 use Rattle.px_face.proofs.Words.{ScenesHaveSurfaces, SceneView, solid_before, solid_cell, SolidView, value_at}
 use Rattle.std.specs.List.{Contains}
 use Rattle.std.proofs.lemmas.Int.{fold-int_max_reached, fold-int_min_reached}
@@ -74,9 +75,7 @@ module _ (s : SolidView) (d : Depths) (x y : ℕ) where
 
   -- the cell of the far limit's value is not before it
   not_limit : (z : ℕ) → z < d.far → leaves ≡ pos limit → last ≡ z → ⊥
-  not_limit z before is e =
-      let test : nat_lt z last ≡ true = grind (arith, cell_is_least, lt_of_ints, before_end, lt_true) in
-      absurd (grind (arith, nat_tests))
+  not_limit z before is e = search rules
 
   back_ends : (z : ℕ) → suc z < d.far → is_inside s d x y z ≡ true → is_inside s d x y (suc z) ≡ false
       → 0 < length (backs_at s d x y (suc z))

@@ -5,11 +5,10 @@ use Rattle.std.proofs.Math.Nat.{mul_comm}
 use Rattle.std.proofs.lemmas.Bool.{cases_lt}
 use Rattle.px_expr.specs.Tree.{Tree, join}
 use Rattle.px_expr.specs.declared.node.Op.{Op}
-use Rattle.px_expr.specs.Cells.{combination_of, complement_of, opposite}
+use Rattle.px_expr.specs.Cells.{combination_of, complement_of}
 use Rattle.px_expr.specs.declared.node.Sense.{Sense}
 use Rattle.px_expr.specs.declared.node.Sense.TheVariants.{Plain, Complement}
 use Rattle.px_expr.specs.declared.node.Combination.{Combination}
-use Rattle.px_expr.specs.declared.node.Combination.TheVariants.{Both, Either, EitherWay}
 use Rattle.px_normal.specs.declared.product.Product.{Product}
 use Rattle.px_normal.specs.Forms.{forms, crossed, sum_in, sum_when}
 use Rattle.px_normal.proofs.LengthLaws.{at_least, length-crossed}
@@ -57,20 +56,7 @@ count_in_is Complement tree = refl
 
 counts_when : (k : Combination) (left right : Tree) → capped (length (sum_when k (forms left) (forms right)))
     ≡ count_when k (counts_of left) (counts_of right)
-counts_when (Both s t) left right =
-    rw (count_in_is s left, count_in_is t right) (capped_crossed (sum_in s (forms left)) (sum_in t (forms right)))
-counts_when (Either s t) left right =
-    rw (count_in_is s left, count_in_is t right) (capped_append (sum_in s (forms left)) (sum_in t (forms right)))
-counts_when (EitherWay s) left right =
-    let x = forms left in let y = forms right
-    in capped_append (crossed x.products (sum_in s y)) (crossed x.complement (sum_in (opposite s) y))
-    ∙ rw (
-      capped_crossed x.products (sum_in s y),
-      capped_crossed x.complement (sum_in (opposite s) y),
-      count_in_is s right,
-      count_in_is (opposite s) right,
-    ) (capped_sum (capped (length x.products) * capped (length (sum_in s y)))
-    (capped (length x.complement) * capped (length (sum_in (opposite s) y))))
+counts_when k left right = grind (arith, capped_crossed, capped_append)
 
 counts_are : (a b c d : ℕ) → a ≡ c → b ≡ d → ◌≡◌ {A = Counts} (record { products = a; complement = b })
     (record { products = c; complement = d })

@@ -137,13 +137,19 @@ module _ (boxes : ℕ → Option CellBox) where
       → ((q : ℕ) → q < 256 → has p.barred q ≡ true → has more.barred q ≡ true)
       → is_live boxes more ≡ true → is_live boxes p ≡ true
   unfolding is_live
-  live_of_more p more plain barred live =
-      let apart : is_void p ≡ false = grind (arith, no_void, all-each, not_false)
-      in let some : has_some_cell (box_of_all boxes (solids p.plain)) ≡ true =
-      fewer_solids boxes (solids p.plain) (solids more.plain)
-      (λ test all. (all-each test p.plain).1 (λ q lt there. (all-each test more.plain).0 all q lt (plain q lt there)))
-      (and_right (not (is_void more)) (has_some_cell (box_of_all boxes (solids more.plain))) live)
-      in rw (apart, some) refl
+  live_of_more p more plain barred live = grind (
+    arith,
+    live,
+    is_void,
+    no_void,
+    all-each,
+    not_false,
+    box_of_all,
+    solids,
+    fewer_solids,
+    and_right,
+    not,
+  )
 
   live_left : (p q : Product) → is_live boxes (both p q) ≡ true → is_live boxes p ≡ true
   live_left p q = live_of_more p (both p q)

@@ -1,6 +1,7 @@
 -- Sets have a solid in common where their words have a bit in common.
-use Rattle.px_num.proofs.Basics.{ℕ, suc, zero, ◌≡◌, ◌<◌, ◌≤◌, ◌+◌, ◌*◌, ◌/◌, ◌%◌, ◌^◌, min, max, nat_eq, ◌==◌, ◌&&◌}
-use Rattle.px_num.proofs.Basics.{◌||◌, not, Bool, true, List, [], ◌∷◌, refl, ap, ◌∙◌, arith, slice_index, bit_and}
+use Rattle.px_num.proofs.Basics.{rules}
+use Rattle.px_num.proofs.Basics.{ℕ, ◌≡◌, ◌<◌, ◌≤◌, ◌+◌, ◌*◌, ◌/◌, ◌%◌, ◌^◌, min, max, nat_eq, ◌==◌, ◌&&◌}
+use Rattle.px_num.proofs.Basics.{◌||◌, not, Bool, true, List, [], ◌∷◌, refl, ap, arith, slice_index, bit_and}
 use Rattle.px_num.proofs.Basics.{bit_or, list_all, list_any, bit_at, bit_at_and, bit_at_or, bit_at-lt, bit_at-zero}
 use Rattle.std.proofs.lemmas.Nat.Bits.{same_from_bits_below}
 use Rattle.px_num.proofs.TruthLaws.{never}
@@ -32,11 +33,7 @@ module _ (a b : SolidSet) where
   some_shared i = grind (arith, bit_at_or, bit_or, bit_at_and, slice_index)
 
   at_most : (k i : ℕ) → k < 4 → shared k i ≤ bit_at all_common i
-  at_most zero i lt = rw (some_shared i) (omega arith)
-  at_most (suc zero) i lt = rw (some_shared i) (omega arith)
-  at_most (suc (suc zero)) i lt = rw (some_shared i) (omega arith)
-  at_most (suc (suc (suc zero))) i lt = rw (some_shared i) (omega arith)
-  at_most (suc (suc (suc (suc k)))) i lt = absurd (omega arith)
+  at_most k i lt = grind (arith, some_shared)
 
   none_shared : (u v : ℕ) → u < 2 → v < 2 → ((u == 1) ≡ true → not (v == 1) ≡ true) → min u v ≡ 0
   none_shared u v p q apart = grind arith
@@ -57,14 +54,7 @@ module _ (a b : SolidSet) where
       in grind (arith, none_shared, bit_at-lt, slice_index, place)
 
   no_word : all_common < 2 ^ 64 → AreApart → all_common ≡ 0
-  no_word small apart = same_from_bits_below 64 all_common 0 small (omega arith)
-      (λ i lt. some_shared i ∙ rw (
-        word_apart apart 0 i (omega arith) lt,
-        word_apart apart 1 i (omega arith) lt,
-        word_apart apart 2 i (omega arith) lt,
-        word_apart apart 3 i (omega arith) lt,
-        bit_at-zero i,
-      ) refl)
+  no_word small apart = search (rules, same_from_bits_below, some_shared, word_apart, bit_at-zero)
 
   are_apart : all_common ≡ 0 → AreApart
   are_apart none = (all-each (λ q. not (has b q)) a).1 (λ q lt there.

@@ -60,18 +60,7 @@ module _ (at : ℕ → Cell) (f g : Forms) (c d : Cell) (p : IsNormalForm at f c
 
   shows_when : (k : Combination) (n : ℕ) → list_any (λ x. holds at x && shows at n x) (sum_when k f g)
       ≡ truth_when k c.member d.member && has_face n (shown_when k c d)
-  shows_when x n =
-      grind (
-        arith,
-        shown_of_both,
-        shows_in,
-        members_in,
-        face_append,
-        list_any-append,
-        face_where,
-        shown_either_way,
-        face_own,
-      )
+  shows_when k n = grind (arith, shown_of_both, list_any-append)
 
   is_of_combined : (op : Op) → IsNormalForm at (combined_forms op f g) (cells_combined op c d)
   is_of_combined op = grind (arith, truth_of_complement, members_when, shows_when)

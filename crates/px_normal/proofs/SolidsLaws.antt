@@ -1,4 +1,5 @@
 -- All and some solids of a set.
+use Rattle.px_num.proofs.Basics.{rules}
 use Rattle.px_num.proofs.Basics.{ℕ, suc, zero, ◌≡◌, ◌<◌, ◌↔◌, ◌==◌, ◌||◌, ◌&&◌, not, Bool, true, false, List, [], ◌∷◌}
 use Rattle.px_num.proofs.Basics.{◌++◌, refl, ap, ◌∙◌, arith, inl, inr, list_all, list_any, filter, cases_eq}
 use Rattle.px_num.proofs.TruthLaws.{and_left, and_true, or_false, other_false, same_true}
@@ -125,12 +126,4 @@ module _ (P : ℕ → Bool) where
   any-one q lt = any_one P (has (one q)) 256 q lt (λ p. has-one q p lt)
 
 pub solids_laws : LawsOfSets
-solids_laws = record {
-  all_of_none = all-empty;
-  some_of_none = any-empty;
-  all_of_one = all-one;
-  some_of_one = any-one;
-  all_of_joined = all-joined;
-  some_of_joined = any-joined;
-  each = all-each;
-}
+solids_laws = search (rules, all-empty, any-empty, all-one, any-one, all-joined, any-joined, all-each)

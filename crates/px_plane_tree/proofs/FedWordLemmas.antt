@@ -1,4 +1,5 @@
 -- A heap of which every word was fed.
+use Rattle.px_num.proofs.Basics.{rules}
 use Rattle.px_num.proofs.Basics.{nat_tests, common_steps, ◌≡◌, ℕ, zero, suc, ◌+◌, ◌*◌, ◌/◌, ◌%◌, ◌<◌, ◌≤◌, Bool, true}
 use Rattle.px_num.proofs.Basics.{false, cond, ◌&&◌, eqb, nat_lt, List, length, get_or, refl, sym, ap, ◌∙◌, arith, inl}
 use Rattle.px_num.proofs.Basics.{inr, cases_lt, le-ltb, lt-ltb}
@@ -103,24 +104,26 @@ module _ (a b c : Bool) (first_b : ℕ) (outputs carries new_outputs new_carries
       skipped false y z = refl
 
   line_law : (p : ℕ) → 2 ≤ p → eqb (p % 2) 1 ≡ true → place_line a b first_b (p / 64) (p % 64) ≡ line_at a b first_b p
-  line_law p two odd =
-      let place : 64 * (p / 64) + p % 64 ≡ p = omega arith in
-      elim (cases_lt (p / 64) 4) [
-        | inl l ↦ rw (lt-ltb (p / 64) 4 l, place, le-ltb p 2 two, odd) refl
-        | inr g ↦ rw (le-ltb (p / 64) 4 g, place) refl
-      ]
+  line_law p two odd = search rules
 
   pub node_law : (p : ℕ) → p < 64 * length outputs → node_of new_outputs new_carries p ≡ next_row a b c first_b
       outputs carries p
-  node_law p h = elim (cases_lt p 2) [
-    | inl l ↦ rw (lt-ltb p 2 l) (low_law p l)
-    | inr g ↦
-        rw (le-ltb p 2 g)
-        (raw p h ∙ (ap (λ (q : Bool). next_node (eqb (p % 2) 1) q (place_line a b first_b (p / 64) (p % 64))
-        (row_bit carries p)) (parent_law p g)
-        ∙ line_free (eqb (p % 2) 1) (cond (nat_lt p 4) c (row_bit outputs (p / 2)))
-        (place_line a b first_b (p / 64) (p % 64)) (line_at a b first_b p) (row_bit carries p) (line_law p g)))
-  ]
+  node_law p h = search (
+    rules,
+    cases_lt,
+    lt-ltb,
+    low_law,
+    le-ltb,
+    raw,
+    eqb,
+    row_bit,
+    parent_law,
+    line_free,
+    cond,
+    nat_lt,
+    line_at,
+    line_law,
+  )
 
   pub still_heap : length new_outputs ≡ length outputs → length new_carries ≡ length carries
       → IsHeap new_outputs new_carries

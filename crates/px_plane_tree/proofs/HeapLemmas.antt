@@ -1,9 +1,11 @@
 -- Words of a heap that are fed two at a time.
+use Rattle.std.proofs.Common.{tests}
+use Rattle.px_num.proofs.Basics.{rules}
 use Rattle.px_num.proofs.Basics.{◌≡◌, ℕ, ◌+◌, ◌-◌, ◌*◌, ◌/◌, ◌%◌, ◌<◌, ◌≤◌, Bool, true, false, cond, ◌&&◌, eqb, nat_lt}
 use Rattle.px_num.proofs.Basics.{List, get_or, refl, sym, ap, subst, ◌∙◌, arith, inl, inr, bit_and, bit_or, cases_lt}
 use Rattle.px_num.proofs.Basics.{agree_below_at}
 use Rattle.px_plane_tree.proofs.Words.{and_at, or_at, IsDoubled, IsFed, IsFedFirst, IsFedTwo, IsFedWord, IsPart}
-use Rattle.px_plane_tree.proofs.Words.{IsSameBut, nat_bit, next_node, parent_bit, rows}
+use Rattle.px_plane_tree.proofs.Words.{IsSameBut, nat_bit, parent_bit, rows}
 
 pub moved : (line parent : ℕ → Bool) (w a b c x y z : ℕ) → a ≡ x → b ≡ y → c ≡ z → IsFedWord line parent w a b c
     → IsFedWord line parent w x y z
@@ -16,28 +18,7 @@ module _ (line : ℕ → ℕ → Bool) (at : ℕ) (both outputs carries new_outp
       ≡ parent (32 * i + j / 2))
       → (w : ℕ) → at ≤ w → w < at + 2 → IsFedWord (line (w - at)) parent w (get_or carries w 0)
       (get_or new_outputs w 0) (get_or new_carries w 0)
-  two_words parent even bits w low high =
-      let e : at + (w - at) ≡ w = omega arith in
-      let two : w - at < 2 = omega arith in
-      let odd : w - at ≡ w % 2 = omega arith in
-      record {
-        output_bit = λ j l.
-            let same : nat_bit (get_or both (w - at) 0) j ≡ parent (32 * (w % 2) + j / 2) =
-            bits (w - at) j two l ∙ ap (λ n. parent (32 * n + j / 2)) odd in
-            ap (λ n. nat_bit (get_or new_outputs n 0) j) (sym e) ∙ (t.output_bit (w - at) j two l
-            ∙ (ap (λ n. (next_node (eqb (j % 2) 1) (nat_bit (get_or both (w - at) 0) j) (line (w - at) j)
-            (nat_bit (get_or carries n 0) j)).output) e
-            ∙ ap (λ (p : Bool).
-            (next_node (eqb (j % 2) 1) p (line (w - at) j) (nat_bit (get_or carries w 0) j)).output) same));
-        carry_bit = λ j l.
-            let same : nat_bit (get_or both (w - at) 0) j ≡ parent (32 * (w % 2) + j / 2) =
-            bits (w - at) j two l ∙ ap (λ n. parent (32 * n + j / 2)) odd in
-            ap (λ n. nat_bit (get_or new_carries n 0) j) (sym e) ∙ (t.carry_bit (w - at) j two l
-            ∙ (ap (λ n. (next_node (eqb (j % 2) 1) (nat_bit (get_or both (w - at) 0) j) (line (w - at) j)
-            (nat_bit (get_or carries n 0) j)).carry) e
-            ∙ ap (λ (p : Bool).
-            (next_node (eqb (j % 2) 1) p (line (w - at) j) (nat_bit (get_or carries w 0) j)).carry) same));
-      }
+  two_words parent even bits w low high = search (rules, tests, arith) depth 8
 
 pub pair_law : (line : Bool) (h : ℕ) (outputs carries parents first second o k new_outputs new_carries : List ℕ)
     → IsPart h outputs parents → IsDoubled (get_or parents 0 0) first → IsDoubled (get_or parents 1 0) second

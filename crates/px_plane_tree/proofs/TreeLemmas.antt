@@ -1,8 +1,9 @@
 -- Trees of rows: their levels of less than a word, and what a clear and a feed make of them.
+use Rattle.px_num.proofs.Basics.{rules}
 use Rattle.px_num.proofs.Basics.{◌≡◌, ℕ, ◌+◌, ◌-◌, ◌*◌, ◌/◌, ◌^◌, ◌<◌, ◌≤◌, Bool, true, false, cond, nat_lt, List}
-use Rattle.px_num.proofs.Basics.{length, get_or, replicate, refl, sym, ap, subst, ◌∙◌, arith, inl, inr, bit_and}
+use Rattle.px_num.proofs.Basics.{length, get_or, replicate, refl, sym, ap, subst, ◌∙◌, arith, bit_and}
 use Rattle.px_num.proofs.Basics.{cases_lt, le-ltb, lt-ltb, and_mask, mod_below, pow-add, bit_at_above, bit_at-zero}
-use Rattle.px_num.proofs.Basics.{one-le-pow, pow-le-pow_right, get_or_past}
+use Rattle.px_num.proofs.Basics.{pow-le-pow_right, get_or_past}
 use Rattle.px_plane_tree.proofs.Words.{after_feed, AreStill, bit_down, bit_of_low, cleared, heights, IsFedHeap, IsGrid}
 use Rattle.px_plane_tree.proofs.Words.{IsTree, Lines, nat_bit, next_at, next_node, Node, node_of, power_grows, row_bit}
 use Rattle.px_plane_tree.proofs.Words.{rows, seen_tree, zero_node}
@@ -12,11 +13,18 @@ use Rattle.px_num.specs.Lists.{tabulate}
 
 pub level_law : (word m j : ℕ) → nat_bit (bit_and (word / 2 ^ m) (2 ^ m - 1)) j
     ≡ cond (nat_lt j m) (nat_bit word (m + j)) false
-level_law word m j = ap (λ n. nat_bit n j) (and_mask (word / 2 ^ m) m) ∙ elim (cases_lt j m) [
-  | inl l ↦ rw (lt-ltb j m l) (bit_of_low (word / 2 ^ m) m j l ∙ bit_down word m j)
-  | inr g ↦
-      grind (arith, one-le-pow, le-ltb, bit_at_above, mod_below)
-]
+level_law word m j = search (
+  rules,
+  nat_bit,
+  and_mask,
+  cases_lt,
+  lt-ltb,
+  bit_of_low,
+  bit_down,
+  le-ltb,
+  bit_at_above,
+  mod_below,
+)
 
 pub small_power : (k : ℕ) → k < 6 → 2 ^ k ≤ 32
 small_power k h = let le : k ≤ 5 = omega arith in pow-le-pow_right {n = 2} (omega arith) le

@@ -53,15 +53,11 @@ module _ (b : Block) (form : Linear) where
 
     pub least_bounds : least_in b form ≤ℤ value_at form x y
     unfolding least_in
-    least_bounds = sums _ _ _ _ form.c
-        (low form.a b.x0 b.x1 x from_left to_right)
-        (low form.b b.y0 b.y1 y from_top to_bottom)
+    least_bounds = grind (arith, sums, low, to_right, from_top, to_bottom)
 
     pub greatest_bounds : value_at form x y ≤ℤ greatest_in b form
     unfolding greatest_in
-    greatest_bounds = sums _ _ _ _ form.c
-        (high form.a b.x0 b.x1 x from_left to_right)
-        (high form.b b.y0 b.y1 y from_top to_bottom)
+    greatest_bounds = grind (arith, sums, high, to_right, from_top, to_bottom)
 
   module _ (one : is_one_pixel b ≡ true) where
     pub least_at_pixel : least_in b form ≡ value_at form b.x0 b.y0

@@ -1,4 +1,5 @@
 -- Boxes of cells that are joined to one.
+use Rattle.px_num.proofs.Basics.{rules}
 use Rattle.px_num.proofs.Basics.{ℕ, ◌≡◌, ◌<◌, ◌≤◌, ◌+◌, ◌-◌, ◌==◌, ◌||◌, ◌&&◌, nat_le, nat_lt, Bool, true, false, refl}
 use Rattle.px_num.proofs.Basics.{sym, ◌∙◌, arith, inl, inr, Option, Some, None}
 use Rattle.px_prune.proofs.Words.{CellBox, hull, in_rows, is_in_box, is_part, IsBoxOf, lies_in, or_cases, or_left}
@@ -12,19 +13,13 @@ abbrev pub in_row : (ℕ → ℕ → ℕ → Bool) → ℕ → ℕ → ℕ → �
 in_row cells width y a b z = nat_lt a width && (b == y) && cells a b z
 
 in_hull_left : (x y z : ℕ) (o u : Option CellBox) → is_in_box o x y z ≡ true → is_in_box (hull o u) x y z ≡ true
-in_hull_left x y z None u p = grind arith
-in_hull_left x y z (Some a) None p = p
-in_hull_left x y z (Some a) (Some b) p = grind arith
+in_hull_left x y z o u p = search rules
 
 in_hull_right : (x y z : ℕ) (o u : Option CellBox) → is_in_box u x y z ≡ true → is_in_box (hull o u) x y z ≡ true
-in_hull_right x y z None u p = p
-in_hull_right x y z (Some a) None p = grind arith
-in_hull_right x y z (Some a) (Some b) p = grind arith
+in_hull_right x y z o u p = search rules
 
 part_hull : (b : CellBox) (o u : Option CellBox) → is_part o b ≡ true → is_part u b ≡ true → is_part (hull o u) b ≡ true
-part_hull b None u p q = q
-part_hull b (Some a) None p q = p
-part_hull b (Some a) (Some c) p q = grind arith
+part_hull b o u p q = search rules
 
 within_ends : (b : CellBox) (x y z : ℕ) → b.x0 ≤ x → x ≤ b.x1 → b.y0 ≤ y → y ≤ b.y1 → b.z0 ≤ z → z ≤ b.z1
     → lies_in b x y z ≡ true

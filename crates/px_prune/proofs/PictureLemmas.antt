@@ -1,4 +1,5 @@
 -- The bounding boxes of a scene's solids at the cells of its picture.
+use Rattle.px_num.proofs.Basics.{rules}
 use Rattle.px_num.proofs.Basics.{ℕ, suc, zero, ◌≡◌, ◌<◌, ◌≤◌, ◌-◌, ◌^◌, ◌&&◌, Bool, true, false, List, [], nat_lt}
 use Rattle.px_num.proofs.Basics.{refl, arith, Option, Some, None, ◌+◌, ◌∷◌, ◌++◌, length, get_or, slice_index_or, inl}
 use Rattle.px_num.proofs.Basics.{inr, ap, ◌∙◌, if◌then◌else◌, slice_get, option_map_or, pow_mono, get_or-append_seam}
@@ -41,9 +42,7 @@ module _ (scene : SceneView) (boxes : ℕ → Option CellBox) (bounding : (q : �
     (x y : ℕ) (left : x < scene.width) (up : y < scene.height) where
   member_in : (z q : ℕ) → (leaf_cell scene.solids (depths_of scene) x y z q).member ≡ true
       → is_in_box (boxes q) x y z ≡ true
-  member_in z q h =
-      (bounding q).holds x y z (in_picture x y scene.width scene.height (leaf_cell scene.solids (depths_of scene) x y
-      z q).member left up h)
+  member_in z q h = search rules
 
   hidden_in : (z q n : ℕ) → has_face n (leaf_cell scene.solids (depths_of scene) x y z q).hidden ≡ true
       → is_in_or_behind (boxes q) x y z ≡ true

@@ -1,8 +1,9 @@
 -- Cells in boxes, and solids of filtered sets.
+use Rattle.px_num.proofs.Basics.{rules}
 use Rattle.px_num.proofs.Basics.{ℕ, ◌≡◌, ◌<◌, ◌||◌, ◌&&◌, not, nat_lt, Bool, true, false, List, [], ◌∷◌, refl, sym}
 use Rattle.px_num.proofs.Basics.{◌∙◌, arith, Option, Some, None, fold, list_all, list_any, filter}
-use Rattle.px_prune.proofs.Words.{and_both, and_left, and_right, and_true, CellBox, common_part, empty, has, has_cell}
-use Rattle.px_prune.proofs.Words.{in_common_part, in_narrowed, is_in_box, LawsOfSets, lies_in, meets, narrowed}
+use Rattle.px_prune.proofs.Words.{and_both, and_left, and_right, and_true, CellBox, empty, has, has_cell}
+use Rattle.px_prune.proofs.Words.{in_narrowed, is_in_box, LawsOfSets, lies_in, meets, narrowed}
 use Rattle.px_prune.proofs.Words.{not_both, one, or_false, set_of, sets_joined, solids, SolidSet, with_cells_behind}
 use Rattle.px_prune.proofs.BehindLemmas.{is_in_or_behind}
 
@@ -29,9 +30,7 @@ module _ (x y z : ℕ) where
 
   pub meets_cell : (o : Option CellBox) (c : CellBox) → is_in_or_behind o x y z ≡ true → lies_in c x y z ≡ true
       → meets o c ≡ true
-  meets_cell None c p q = p
-  meets_cell (Some b) c p q =
-      inside_has (common_part (with_cells_behind b) c) (in_common_part x y z (with_cells_behind b) c p q)
+  meets_cell o c p q = search rules
 
 pub all_filter : (P f : ℕ → Bool) → ((q : ℕ) → f q ≡ false → P q ≡ true) → (qs : List ℕ) → list_all P (filter f qs)
     ≡ list_all P qs

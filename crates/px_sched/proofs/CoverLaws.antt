@@ -1,4 +1,5 @@
 -- The value of a face that covers a pixel: it is a depth, and the bits of one keep it.
+use Rattle.px_num.proofs.Basics.{rules}
 use Rattle.px_num.proofs.Basics.{common_steps, ◌≡◌, ◌<◌, ◌≤◌, ◌≤ℤ◌, ◌+◌, ◌*◌, ◌%◌, ◌^◌, ℕ, ℤ, pos, Bool, true, false}
 use Rattle.px_num.proofs.Basics.{◌&&◌, nat_le, refl, ap, sym, ◌∙◌, arith, nat_tests, ints, mod-mul-add}
 use Rattle.px_sched.proofs.Words.{and_left, and_right, CoveringLaw, covers, enters_at, eqb_holds, face_count}
@@ -33,14 +34,10 @@ at_most_is v end bits z big d = rw (modulo_is v end bits big d, d.is) (le_same d
 
 module _ (covering : CoveringLaw) (end : ℕ) (s : SolidView) (x y : ℕ) where
   pub enters_depth : is_met s end x y ≡ true → IsDepth (enters_at s x y) end
-  enters_depth met =
-      let d = (covering s end x y).depths met in
-      depth_of (enters_at s x y) end d.0 (omega (arith, ints, d.1, d.2))
+  enters_depth met = search (rules, depth_of, ints)
 
   pub leaves_depth : is_met s end x y ≡ true → IsDepth (leaves_at s end x y) end
-  leaves_depth met =
-      let d = (covering s end x y).depths met in
-      depth_of (leaves_at s end x y) end (omega (arith, ints, d.0, d.1)) d.2
+  leaves_depth met = search (rules, depth_of, ints)
 
   -- the value of a face that covers is a depth
   pub covering_value : (i : ℕ) → i < face_count s → covers s end i x y ≡ true

@@ -1,4 +1,5 @@
 -- What holds of the passes of every scene, by the laws of the lower crates.
+use Rattle.px_num.proofs.Basics.{rules}
 use Rattle.std.proofs.Common.{}
 use Rattle.px_face.proofs.BackgroundLemmas.{first_cells}
 use Rattle.px_face.proofs.CellLemmas.{has_cells}
@@ -65,13 +66,16 @@ the_picture_is_shown = numbers_show_the_picture (record {
 })
 
 pub passes_leave_the_picture : PassesLaw
-passes_leave_the_picture = passes_law (record {
-  below = number_is_below;
-  read = number_is_read;
-  kept = number_is_kept;
-  bit_beside = bit_beside_is_kept;
-  number_beside = number_beside_is_kept;
-  parts = number_of_two_parts;
-  size = memory_stays_long;
-  join = meanings_join;
-}) the_picture_is_shown
+passes_leave_the_picture = search (
+  rules,
+  passes_law,
+  number_is_below,
+  number_is_read,
+  number_is_kept,
+  bit_beside_is_kept,
+  number_beside_is_kept,
+  number_of_two_parts,
+  memory_stays_long,
+  meanings_join,
+  the_picture_is_shown,
+)

@@ -2,7 +2,7 @@
 use Rattle.px_num.proofs.Basics.{nat_tests, common_steps, ◌≡◌, ℕ, ◌+◌, ◌-◌, ◌^◌, ◌<◌, ◌≤◌, Bool, List, [], ◌∷◌, ◌++◌}
 use Rattle.px_num.proofs.Basics.{drop, filter, get_or, IfSome, length, slice_get, take, Some, None, ap, sym, ◌∙◌, arith}
 use Rattle.px_num.proofs.Basics.{cond, length-append, unwrap_or, flat_map, drop_more, count_by-le-length, length-filter}
-use Rattle.px_num.proofs.Basics.{slice_get-get_or, slice_get_past, drop_all, get_or_append_left, subst}
+use Rattle.px_num.proofs.Basics.{slice_get-get_or, slice_get_past, get_or_append_left}
 use Rattle.px_sched.proofs.Words.{behind_stage, from_stage, IsStage, layout_of, length-drop, length-take, Macro}
 use Rattle.px_sched.proofs.Words.{operations, passes, plan_of, Product, SceneView, Stage, Step, step_of}
 use Rattle.std.proofs.Math.Seq.{drop-append_seam}
@@ -83,9 +83,7 @@ module _ (scene : SceneView) where
 
   pub none_found : (c : StepCursor) → StandsAtStep scene c → None ≡ step_of c.stage
       → None ≡ slice_get (steps scene) c.given
-  none_found c stands here =
-      sym (slice_get_past (steps scene) c.given (ended (steps scene) c.given (stands.left
-      ∙ end_from scene (plan_of scene) c.stage here)))
+  none_found c stands here = grind (arith, slice_get_past, ended)
 
   abbrev ops_from : Stage → List Macro
   ops_from st = flat_map ops (from_stage scene (plan_of scene) st)
@@ -138,20 +136,21 @@ module _ (scene : SceneView) where
     pub stands_onward : (d : Cursor) → d.given ≡ c.given + 1 → d.at ≡ 0 → length (ops s) ≡ c.at + 1
         → behind c.stage ≡ from_stage scene (plan_of scene) d.stage → IsStage scene (plan_of scene) d.stage
         → Stands scene d
-    stands_onward d given at last next is = record {
-      stage = is;
-      place = subst (λ n. IfSome (step_of d.stage) (λ step. n < length (ops step))) (sym at) (first_place d.stage);
-      left = rw (given, at) (more_left ∙ ap (λ k. drop k (ops s ++ rest)) (sym last) ∙ drop-append_seam (ops s) rest
-          ∙ ap (flat_map ops) next);
-      within = omega (arith, given, few_given, below);
-      few = stands.few;
-    }
+    stands_onward d given at last next is = grind (
+      arith,
+      step_of,
+      length,
+      left,
+      more_left,
+      drop,
+      drop-append_seam,
+      flat_map,
+      few_given,
+      below,
+    )
 
   pub all_given : (c : Cursor) → Stands scene c → None ≡ step_of c.stage → c.given ≡ length (passes scene)
-  all_given c stands here =
-      let left = ended (passes scene) c.given (stands.left ∙ ap (λ steps. drop c.at (flat_map ops steps))
-      (end_from scene (plan_of scene) c.stage here) ∙ drop_all c.at [] (omega arith)) in
-      omega (arith, left, stands.within)
+  all_given c stands here = grind (arith, left, ended)
 
   pub none_left : (c : Cursor) → Stands scene c → None ≡ step_of c.stage → None ≡ slice_get (passes scene) c.given
   none_left c stands here = sym (slice_get_past (passes scene) c.given (omega (arith, all_given c stands here)))

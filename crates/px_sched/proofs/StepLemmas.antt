@@ -1,6 +1,6 @@
 -- What comes after a step, of a literal or of a group, begins with the next one.
 use Rattle.px_num.proofs.Basics.{◌≡◌, ◌+◌, ◌-◌, ◌^◌, ◌<◌, ◌≤◌, ◌==◌, ◌++◌, ◌∙◌, ℕ, true, not, List, [], ◌∷◌, All, drop}
-use Rattle.px_num.proofs.Basics.{get_or, length, map, flat_map, refl, ap, sym, subst, arith, nat_tests, common_steps}
+use Rattle.px_num.proofs.Basics.{get_or, length, map, flat_map, refl, ap, sym, subst, arith, common_steps}
 use Rattle.px_num.proofs.Basics.{append_assoc, length-append, length-map, drop_more, get_or-map, get_or-append_right}
 use Rattle.px_num.proofs.Basics.{get_or_append_left, All-filter, All-get_or}
 use Rattle.px_sched.proofs.Words.{AreKnown, At, Begin, BeginAt, BeginWith, behind_step, deep_part, Depths, end_of}
@@ -66,10 +66,7 @@ module _ (scene : SceneView) (products : List Product) where
   pub literal_opens : (product literal : ℕ) → literal < length (literals (product_at products product))
       → product < length products
       → BeginAt scene products (literals_from scene products product literal) (At (opening product literal))
-  literal_opens product literal more there = record {
-    left = grind (arith, nat_tests, common_steps, opens, append_assoc);
-    stage = record { product = there; literal = more; step = tt; faces = tt };
-  }
+  literal_opens product literal more there = grind (arith, common_steps, opens)
 
   pub product_opens : (product : ℕ) → product < length products → All (HasKnownLiterals scene) products
       → BeginAt scene products (products_from scene products product) (At (opening product 0))

@@ -1,3 +1,4 @@
+use Rattle.std.proofs.Common.{rules}
 use Rattle.px_num.proofs.Basics.{◌++◌}
 use Rattle.px_asm.proofs.Words.{grid_after_clocks, micros_on}
 use Rattle.px_asm.proofs.OperationsLemmas.{clocked_first, overtaken}
@@ -10,9 +11,7 @@ returns-then-is_overtaken-clause-device g c =
     c.operate.ensures.operated c.if-is_overtaken.ensures
 
 pub returns-else-is_overtaken-clause-device : goal.returns-else-is_overtaken-clause-device
-returns-else-is_overtaken-clause-device g c =
-    clocked_first g.A.Array.BITS c.args.m.now (c.args.rest.now ++ c.args.behind.now)
-    (g.A.Array.view c.args.array.now).device _ c.requires.can c.make_operation.ensures.device
+returns-else-is_overtaken-clause-device g c = search (rules, clocked_first)
 
 pub returns-else-is_overtaken-clause-pixels : goal.returns-else-is_overtaken-clause-pixels
 returns-else-is_overtaken-clause-pixels g c =

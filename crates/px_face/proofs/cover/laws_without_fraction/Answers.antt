@@ -1,8 +1,5 @@
-use Rattle.px_face.proofs.WholeLemmas.{inside_whole, whole_backs, whole_fronts}
+use Rattle.px_face.proofs.WholeLemmas.{whole_backs, whole_fronts}
 use Rattle.px_face.proofs.cover.laws_without_fraction.Goals as goal
-
-pub returns-clause-inside : goal.returns-clause-inside
-returns-clause-inside c = inside_whole
 
 pub returns-clause-fronts : goal.returns-clause-fronts
 returns-clause-fronts c = whole_fronts

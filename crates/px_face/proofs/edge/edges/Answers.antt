@@ -1,6 +1,6 @@
 use Rattle.px_num.proofs.Basics.{arith, All-push}
 use Rattle.px_num.specs.Forms.{IsInTreeRange}
-use Rattle.px_face.proofs.EdgeLemmas.{all_edges, edges_more}
+use Rattle.px_face.proofs.EdgeLemmas.{edges_more}
 use Rattle.px_face.proofs.edge.edges.Goals as goal
 
 pub loop-place-preserved : goal.loop-place-preserved
@@ -10,6 +10,3 @@ loop-place-preserved c = record {
   range = rw c.push.ensures.items (All-push IsInTreeRange c.loop-place.buf.items c.edge_at.result
       c.loop-place.invariant.range c.edge_at.ensures.range);
 }
-
-pub returns-clause-forms : goal.returns-clause-forms
-returns-clause-forms c = grind (arith, all_edges)

@@ -1,9 +1,6 @@
-use Rattle.px_face.proofs.EdgeLemmas.{edges_count, edges_range}
+use Rattle.px_face.proofs.EdgeLemmas.{edges_range}
 use Rattle.px_face.proofs.RangeLemmas.{plane_of_range}
 use Rattle.px_face.proofs.edge.laws_of_edges.Goals as goal
-
-pub returns-clause-count : goal.returns-clause-count
-returns-clause-count c = edges_count
 
 pub returns-clause-range : goal.returns-clause-range
 returns-clause-range c = λ s lawful end face small there. edges_range s lawful end small face there

@@ -1,3 +1,4 @@
+use Rattle.std.proofs.lemmas.Grind.{common_steps}
 use Rattle.px_num.proofs.Basics.{◌∙◌, arith}
 use Rattle.px_plane_tree.proofs.OutputLemmas.{small_words, small_bits, large_words, large_bits, large_fits}
 use Rattle.px_plane_tree.proofs.plane_tree.PlaneTree.outputs.Goals as goal
@@ -15,8 +16,7 @@ pub returns-then-level-lt6-clause-bits : goal.returns-then-level-lt6-clause-bits
 returns-then-level-lt6-clause-bits c = grind (arith, small_bits)
 
 pub returns-else-level-lt6-clause-words : goal.returns-else-level-lt6-clause-words
-returns-else-level-lt6-clause-words c =
-    c.part-else-level-lt6.ensures.words ∙ large_words c.args.level c.power-at.result (omega arith) c.power-at.ensures
+returns-else-level-lt6-clause-words c = grind (arith, common_steps, large_words)
 
 pub returns-else-level-lt6-clause-bits : goal.returns-else-level-lt6-clause-bits
 returns-else-level-lt6-clause-bits c = grind (arith, large_bits)

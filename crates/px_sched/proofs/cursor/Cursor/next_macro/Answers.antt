@@ -1,11 +1,8 @@
 use Rattle.px_num.proofs.Basics.{◌+◌, ◌<◌, arith, length, refl, sym, ◌∙◌}
 use Rattle.px_sched.proofs.Words.{layout_of, operations}
 use Rattle.px_sched.proofs.DrawnLaws.{kept_drawn}
-use Rattle.px_sched.proofs.StandingLemmas.{few_given, inside, none_left, operation_found, stands_along, stands_onward}
+use Rattle.px_sched.proofs.StandingLemmas.{inside, none_left, operation_found, stands_along, stands_onward}
 use Rattle.px_sched.proofs.cursor.Cursor.next_macro.Goals as goal
-
-pub overflow_add-self-in-Some : goal.overflow_add-self-in-Some
-overflow_add-self-in-Some c = grind (arith, few_given)
 
 pub next-self-requires-clause-drawn : goal.next-self-requires-clause-drawn
 next-self-requires-clause-drawn c = grind (arith, kept_drawn)

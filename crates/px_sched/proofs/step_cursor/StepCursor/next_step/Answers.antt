@@ -11,8 +11,7 @@ pub next-self-requires-clause-drawn : goal.next-self-requires-clause-drawn
 next-self-requires-clause-drawn c = grind (arith, kept_drawn)
 
 pub returns-in-Some-clause-step : goal.returns-in-Some-clause-step
-returns-in-Some-clause-step c =
-    step_found c.args.scene.now c.args.self.now c.in-Some.step c.requires.stands (sym c.in-Some.is ∙ c.step.ensures)
+returns-in-Some-clause-step c = search (rules, step_found)
 
 pub returns-in-Some-clause-others : goal.returns-in-Some-clause-others
 returns-in-Some-clause-others c = grind (arith, others_here)
