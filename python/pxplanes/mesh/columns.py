@@ -419,8 +419,8 @@ def shown_by(scene: Any) -> Array:
     limit = scene.far() << scene.fraction_bits
     planes = [[np.array([(0, 0, least), *(face.plane for face in faces)], float) for faces, least in (
         (solid.fronts, 0), (solid.backs, limit), (solid.sides, 0))] for solid in scene.solids]
-    return np.concatenate([np.concatenate([shown_in(scene, planes, (left, top)) for left in range(0, scene.width, TILE)],
-                                          axis=1) for top in range(0, scene.height, TILE)])
+    return np.block([[shown_in(scene, planes, (left, top)) for left in range(0, scene.width, TILE)]
+                     for top in range(0, scene.height, TILE)])
 
 
 def may_meet(planes: Sequence[Array], corners: Array) -> bool:

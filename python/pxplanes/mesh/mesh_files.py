@@ -94,10 +94,9 @@ def read_obj(data: bytes) -> Any:
     return merged(*checked(points, facets))
 
 
-PLY_FORMS = {"char": "b", "uchar": "B", "short": "h", "ushort": "H", "int": "i", "uint": "I", "float": "f",
-             "double": "d",
-             "int8": "b", "uint8": "B", "int16": "h", "uint16": "H", "int32": "i", "uint32": "I", "float32": "f",
-             "float64": "d"}
+PLY_FORMS = {name: form for form, names in zip("bBhHiIfd", (
+    "char int8", "uchar uint8", "short int16", "ushort uint16", "int int32", "uint uint32", "float float32", "double float64"))
+             for name in names.split()}
 
 
 def read_ply(data: bytes) -> Any:
@@ -282,8 +281,7 @@ def read_gltf(data: bytes, folder: Optional[str] = None) -> Any:
 
 
 READERS: dict[str, Callable[..., Any]] = {
-    "off": read_off, "stl": read_stl, "obj": read_obj, "ply": read_ply, "3mf": read_3mf, "glb": read_gltf,
-                                          "gltf": read_gltf}
+    "off": read_off, "stl": read_stl, "obj": read_obj, "ply": read_ply, "3mf": read_3mf, "glb": read_gltf, "gltf": read_gltf}
 ENDINGS = ".off, .stl, .obj, .ply, .3mf, .glb and .gltf"
 
 

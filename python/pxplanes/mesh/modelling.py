@@ -389,8 +389,7 @@ def wanted_bits(size: Sequence[int], faces: int) -> list[int]:
 def before_camera(choices: Any, bits: Any, tree: kinds.Tree) -> Any:
     """The view of the perspective camera that is choices, or of one that has the whole model."""
     numbers = choices.camera or perspective.around(choices.view, choices.fov, choices.size, tree)
-    reach = choices.near, choices.far
-    return perspective.of_camera(numbers, choices.fov, choices.size, 2 ** bits[0] - 1, reach, tree)
+    return perspective.of_camera(numbers, choices.fov, choices.size, 2 ** bits[0] - 1, (choices.near, choices.far), tree)
 
 
 def in_perspective(choices: Any, tree: kinds.Tree) -> Any:
