@@ -151,6 +151,20 @@ def test_gltf_of_another_version_or_packed_is_refused_as_that(more, why):
         mesh_files.read("gltf", json.dumps({**json.loads(content), **more}).encode())
 
 
+@pytest.mark.parametrize("node, mesh, why", [
+    ({"skin": 0}, {}, "skins, which"), ({"weights": [0, 0.5]}, {}, "weighted morph targets"), ({}, {"weights": [1]}, "weighted morph targets"),
+    ({"extensions": {"EXT_mesh_gpu_instancing": {}}}, {}, "EXT_mesh_gpu_instancing, which"), ({"weights": [0, 0]}, {"weights": [0]}, None)])
+def test_gltf_whose_shapes_are_posed_or_repeated_is_refused(node, mesh, why):
+    said = json.loads(gltf("data:application/octet-stream;base64,%s")[0])
+    said["nodes"] = [{**said["nodes"][0], **node}, *said["nodes"][1:]]
+    said["meshes"] = [{**said["meshes"][0], **mesh}]
+    if why is None:
+        assert len(mesh_files.read("gltf", json.dumps(said).encode())[1]) == 4
+    else:
+        with pytest.raises(Trouble, match=why):
+            mesh_files.read("gltf", json.dumps(said).encode())
+
+
 def test_gltf_places_its_nodes_and_reads_strips():
     # A quarter turn about the file's y axis takes z to x and x to -z; then twice as large in x, and 1 metre up.
     half = 0.5 ** 0.5

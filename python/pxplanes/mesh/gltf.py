@@ -16,6 +16,7 @@ WIDTHS = {"SCALAR": 1, "VEC3": 3}
 DEEPEST = 64
 # How the names of extensions begin that leave the shapes as they are.
 SHAPELESS = ("KHR_materials_", "KHR_texture_", "KHR_lights_", "EXT_texture_", "EXT_lights_")
+INSTANCES = "EXT_mesh_gpu_instancing"
 MILLIMETRES = [[1000.0, 0.0, 0.0, 0.0], [0.0, 0.0, -1000.0, 0.0], [0.0, 1000.0, 0.0, 0.0]]
 
 
@@ -47,6 +48,13 @@ def understood(said: dict[str, Any]) -> dict[str, Any]:
     unread = [name for name in said.get("extensionsRequired", ()) if not name.startswith(SHAPELESS)]
     if unread:
         raise Trouble("the glTF file requires %s, which is not read" % unread[0])
+    nodes = said.get("nodes", [])
+    posed = [what for what, is_there in (
+        ("skins", any("skin" in node for node in nodes)),
+        ("weighted morph targets", any(any(each.get("weights", ())) for each in (*nodes, *said.get("meshes", ())))),
+        (INSTANCES, any(INSTANCES in node.get("extensions", {}) for node in nodes))) if is_there]
+    if posed:
+        raise Trouble("the glTF file has %s, which are not read: write its meshes as they are seen" % " and ".join(posed))
     return said
 
 
