@@ -129,3 +129,10 @@ def test_a_shell_completes_words_and_options():
         done = subprocess.run(["bash", "-c", '"$0" 8>&1 >/dev/null', os.path.join(TOP, "pxplanes")], capture_output=True, text=True,
                               env=dict(os.environ, **settings))
         assert sorted(done.stdout.split()) == expected
+
+
+@pytest.mark.parametrize("words, is_so", [
+    (["view", "a.stl", "-o", "a.png"], True), (["view", "a.scene"], False), (["convert", "a.csg", "--draw", "maps"], True),
+    (["convert", "a.csg", "--draw=maps"], True), (["convert", "a.csg", "-o", "a.scene"], False), (["compare", "a", "b"], True)])
+def test_words_go_on_in_a_python_with_numpy_if_they_need_it(words, is_so):
+    assert frame.is_by_numpy(words) is is_so

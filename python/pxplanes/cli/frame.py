@@ -174,6 +174,14 @@ def need_numpy(words: Sequence[str], command: Sequence[str] = ("-m", "pxplanes")
         raise Trouble("%s needs NumPy: install Debian's python3-numpy, or `pip install numpy`" % words[0])
 
 
+def is_by_numpy(words: Sequence[str]) -> bool:
+    """Whether NumPy alone does what the words ask for: pixels are compared, or a model is drawn undivided."""
+    if words[0] == "view":
+        from pxplanes.mesh import modelling
+        return any(map(modelling.is_model, words[1:]))
+    return words[0] in OF_PIXELS or words[0] == "convert" and any(each.partition("=")[0] == "--draw" for each in words)
+
+
 def complete(parser: argparse.ArgumentParser) -> None:
     """Answers the shell's question for completions, if it asks and argcomplete is installed."""
     if importlib.util.find_spec("argcomplete"):
@@ -211,7 +219,7 @@ def answered(words: list[str]) -> int:
     if words[0] not in WORDS:
         parsed(whole_parser(), words)
         raise Trouble("%s is no word; `pxplanes --help` lists them" % words[0])
-    if words[0] in OF_PIXELS and "-h" not in words and "--help" not in words:
+    if is_by_numpy(words) and "-h" not in words and "--help" not in words:
         need_numpy(words)
     if words[0] == "view" and any(os.path.isfile(each) and os.path.getsize(each) > LARGE_MAPS for each in words):
         has_numpy(words)
