@@ -1,6 +1,4 @@
 """What a call raises."""
-from __future__ import annotations
-
 
 class NoLibrary(OSError):
     """There is no libpxplanes.so where one is looked for; or it is another one than this module was made for."""

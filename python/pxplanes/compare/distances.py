@@ -1,7 +1,5 @@
 """Depths from a renderer's distances, by a perspective camera whose near and far distances are known
 (docs/MODELLING.md)."""
-from __future__ import annotations
-
 import math
 
 import numpy as np

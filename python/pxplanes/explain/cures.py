@@ -1,7 +1,5 @@
 """What to write in place of a scene's first bad line, as people come to write it: what `explain`
 adds to a refusal. `of` gives a cure, or None where it knows none that is better than the reader's."""
-from __future__ import annotations
-
 import re
 import unicodedata
 from typing import Optional

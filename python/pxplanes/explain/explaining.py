@@ -1,8 +1,6 @@
 """What there is to say of a scene's text: why it is refused and what to write, or what it looks like.
 
 Whoever judges texts and draws them is a `Judge`: the program, the library, or nobody."""
-from __future__ import annotations
-
 import re
 from typing import Any, NamedTuple, Optional, Sequence
 

@@ -2,8 +2,6 @@
 
 A reading is the scene that such a text means. A line is mended only if its nearest readings are one and the same scene, and the
 mended line keeps every number, sign and name that the written one has. Otherwise they are candidates."""
-from __future__ import annotations
-
 import copy
 import re
 import unicodedata

@@ -1,6 +1,4 @@
 """The pictures of show.py in NumPy, for maps of any size."""
-from __future__ import annotations
-
 from typing import Any, Callable, Iterable, Sequence
 
 import numpy as np

@@ -1,7 +1,5 @@
 """Reads a scene's text as docs/SCENES.md says, and reports all that there is to say of its first bad
 line: the word, what was expected there, the limit, the cure. What `explain` and `compare` share."""
-from __future__ import annotations
-
 import difflib
 import re
 from typing import Any, Iterable, Optional, Sequence, Union

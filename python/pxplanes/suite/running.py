@@ -1,7 +1,5 @@
 """Tries a renderer on the scenes of the suite: what it draws of each, whether that is right, and the cause of all that
 is not."""
-from __future__ import annotations
-
 import concurrent.futures
 import fnmatch
 import os

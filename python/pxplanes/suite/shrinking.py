@@ -1,7 +1,5 @@
 """Finds the smallest scene on which a renderer still differs: smaller windows, then solids, planes, rows, bits and
 numbers."""
-from __future__ import annotations
-
 import itertools
 import pickle
 import time
