@@ -3,8 +3,6 @@
 A module of this folder that is a word has three things: HELP, one line for the list of words; `add_options`, which gives a
 parser its options; and `run`, which does the work and returns the exit status: 0 for success, 1 for "differs" or "refused",
 and it raises `Trouble` or `OSError` for anything else, which ends with 2."""
-from __future__ import annotations
-
 import argparse
 import difflib
 import errno
@@ -38,6 +36,23 @@ LARGE_MAPS = 1 << 23
 DEBIAN_PYTHON = "/usr/bin/python3"
 SUCCESS, DIFFERS, TROUBLE, INTERRUPTED = 0, 1, 2, 130
 DESCRIPTION = "Draws scenes of convex solids on Pixel-Planes 4, the graphics machine whose frame buffer computes."
+EPILOG = "`pxplanes WORD --help` says what a word does, and lists its options."
+# What ./pxplanes takes in a checkout, as its first word.
+OF_CHECKOUT = """first words in a checkout:
+  --unproved     builds without proofs, once, for a first look
+  --as-built     draws with the program that is built, whatever the sources are
+  --all          proves and builds the program and the library together, if they have changed
+  --build        proves and builds the program, and draws nothing
+  --library      proves and builds the library for C and Python, in package/, if it has changed
+  --version      the version and the commit that this is
+
+Without a file standard input is read. Images are raw pixel maps; -o FILE.png after a word of the program makes PNG
+pictures of them. docs/SCENES.md has the language, man/pxplanes.1 what the words of the program end with."""
+FIRST_WORDS = re.findall(r"(?m)^  (--\S+)", OF_CHECKOUT)
+# The least share of letters that a word has in common with the one that may have been meant.
+NEAR = 0.75
+# What people write for a word.
+MEANT = {"draw": "render", "image": "render", "picture": "render", "maps": "render", "depths": "render", "step": "debug", "debugger": "debug"}
 
 
 class Word(Protocol):
@@ -58,7 +73,7 @@ class Parser(argparse.ArgumentParser):
     def error(self, message: str) -> NoReturn:
         unknown = re.match(r"unrecognized arguments: (--\S+)", message)
         known = [option for action in self._actions for option in action.option_strings]
-        near = difflib.get_close_matches(unknown.group(1).split("=")[0], known, 1, 0.75) if unknown else []
+        near = difflib.get_close_matches(unknown.group(1).split("=")[0], known, 1, NEAR) if unknown else []
         raise Trouble("%s%s; `%s --help` lists the options" % (message, " (did you mean %s?)" % near[0] if near else "", self.prog))
 
 
@@ -95,8 +110,9 @@ def parser_of(name: str) -> argparse.ArgumentParser:
 
 def whole_parser() -> argparse.ArgumentParser:
     """The parser of all words, which the list of words and completion are made of."""
+    is_checkout = os.path.isfile(os.path.join(ends.TOP, "crates.txt"))
     parser = Parser(prog="pxplanes", description=DESCRIPTION, formatter_class=Help, allow_abbrev=False,
-                    epilog="`pxplanes WORD --help` says what a word does, and lists its options.")
+                    epilog="%s\n\n%s" % (EPILOG, OF_CHECKOUT) if is_checkout else EPILOG)
     words = parser.add_subparsers(metavar="WORD", dest="word", title="words")
     for name in WORDS:
         module = word(name)
@@ -105,6 +121,19 @@ def whole_parser() -> argparse.ArgumentParser:
     for name, own in program_words.OWN.items():
         program_words.add_options(words.add_parser(name, help="writes " + own.writes, formatter_class=Help, allow_abbrev=False), name)
     return parser
+
+
+def unknown(words: Sequence[str]) -> str:
+    """What to say of words that begin with no command: the one that may have been meant, or the right order."""
+    first = words[0]
+    if os.path.isfile(first):
+        if words[1] in PROGRAM_WORDS:
+            return "the command comes before the scene: pxplanes %s" % " ".join([*words[1:], first])
+        return "%s is a file and no command: write the command first, then one scene" % first
+    known = [*WORDS, *PROGRAM_WORDS, *(FIRST_WORDS if first.startswith("-") else ())]
+    name = first.lower().lstrip("-")
+    near = [MEANT[name]] if name in MEANT else [found for each in (first.lower(), name) for found in difflib.get_close_matches(each, known, 1, NEAR)]
+    return "%s is no command and no file%s; pxplanes --help lists the commands" % (first, " (is it %s?)" % near[0] if near else "")
 
 
 def whole_number(least: int, most: int) -> type[int]:
@@ -125,7 +154,7 @@ def draw_into(words: list[str]) -> int:
         raise Trouble("a file is expected after -o")
     out, others = words[at + 1], words[:at] + words[at + 2:]
     with tempfile.NamedTemporaryFile(suffix=".ppm") as drawn:
-        done = subprocess.run([sys.executable, "-m", "pxplanes", *others], stdout=drawn)
+        done = subprocess.run([sys.executable, "-B", "-m", "pxplanes", *others], stdout=drawn)
         if done.returncode != SUCCESS:
             return done.returncode
         if out.lower().endswith(".png"):
@@ -142,6 +171,8 @@ def run_program(words: list[str]) -> int:
     if words and words[-1] not in PROGRAM_WORDS and os.path.isfile(words[-1]):
         with open(words.pop(), "rb") as scene:
             os.dup2(scene.fileno(), sys.stdin.fileno())
+    elif words and ("/" in words[-1] or "." in words[-1]):
+        raise Trouble("%s: no such file" % words[-1])
     if sys.stdout.isatty() and (words[0] if words else "render") in BINARY_WORDS:
         raise Trouble("no terminal shows raw pixels: send them to a file, or to `pxplanes view -o PNG -`")
     built = program.find(None)
@@ -204,13 +235,14 @@ def answered(words: list[str]) -> int:
         raise Trouble("standard output is closed")
     if "_ARGCOMPLETE" in os.environ:
         complete(whole_parser())
-    if not words or words[0] in PROGRAM_WORDS or os.path.isfile(words[0]):
+    if not words or words[0] in PROGRAM_WORDS or os.path.isfile(words[0]) and (len(words) == 1 or words[1] in ("-o", "-h", "--help")):
         if words and {"-h", "--help"}.intersection(words[1:]):
             parsed(parser_of(words[0] if words[0] in PROGRAM_WORDS else "render"), ["--help"])
         return run_program(words)
-    if words[0] not in WORDS:
+    if words[0] in ("-h", "--help"):
         parsed(whole_parser(), words)
-        raise Trouble("%s is no word; `pxplanes --help` lists them" % words[0])
+    if words[0] not in WORDS:
+        raise Trouble(unknown(words))
     if words[0] in OF_PIXELS and "-h" not in words and "--help" not in words:
         need_numpy(words)
     if words[0] == "view" and any(os.path.isfile(each) and os.path.getsize(each) > LARGE_MAPS for each in words):
