@@ -5,19 +5,15 @@ parser its options; and `run`, which does the work and returns the exit status: 
 and it raises `Trouble` or `OSError` for anything else, which ends with 2."""
 import argparse
 import difflib
-import errno
 import importlib
 import importlib.util
-import io
 import os
 import re
 import shutil
-import stat
 import subprocess
 import sys
 import tempfile
-import traceback
-from typing import IO, Any, NoReturn, Optional, Protocol, Sequence
+from typing import IO, Any, Optional, Protocol, Sequence
 
 from pxplanes import ends, errors, program, running
 from pxplanes.cli import program_words
@@ -27,14 +23,12 @@ WORDS = ("view", "explain", "trace", "convert", "compare", "suite", "batch")
 PROGRAM_WORDS = tuple(program_words.OWN)
 # Those that write raw pixels, which no terminal shows.
 BINARY_WORDS = ("render", "colour", "shadow", "tile", "refine")
-# What the system answers if no more can be written.
-NO_ROOM = (errno.ENOSPC, errno.EDQUOT, errno.EFBIG)
 # The words whose work is on pixels, which NumPy does.
 OF_PIXELS = ("compare", "suite")
 # Maps of more bytes than these are shown by NumPy if there is one, in a tenth of the time.
 LARGE_MAPS = 1 << 23
 DEBIAN_PYTHON = "/usr/bin/python3"
-SUCCESS, DIFFERS, TROUBLE, INTERRUPTED = 0, 1, 2, 130
+SUCCESS, DIFFERS, TROUBLE = 0, 1, ends.TROUBLE
 DESCRIPTION = "Draws scenes of convex solids on Pixel-Planes 4, the graphics machine whose frame buffer computes."
 EPILOG = "`pxplanes WORD --help` says what a word does, and lists its options."
 # What ./pxplanes takes in a checkout, as its first word.
@@ -49,8 +43,6 @@ OF_CHECKOUT = """first words in a checkout:
 Without a file standard input is read. Images are raw pixel maps; -o FILE.png after a word of the program makes PNG
 pictures of them. docs/SCENES.md has the language, man/pxplanes.1 what the words of the program end with."""
 FIRST_WORDS = re.findall(r"(?m)^  (--\S+)", OF_CHECKOUT)
-# The least share of letters that a word has in common with the one that may have been meant.
-NEAR = 0.75
 # What people write for a word.
 MEANT = {"draw": "render", "image": "render", "picture": "render", "maps": "render", "depths": "render", "step": "debug", "debugger": "debug"}
 
@@ -67,15 +59,10 @@ class Word(Protocol):
         """Does the work, and returns the exit status."""
 
 
-class Parser(argparse.ArgumentParser):
-    """A parser whose messages are one line, with the option that may have been meant."""
+class Parser(ends.Words):
+    """A parser whose messages name the option that may have been meant, and how to list all."""
 
-    def error(self, message: str) -> NoReturn:
-        unknown = re.match(r"unrecognized arguments: (--\S+)", message)
-        known = [option for action in self._actions for option in action.option_strings]
-        near = difflib.get_close_matches(unknown.group(1).split("=")[0], known, 1, NEAR) if unknown else []
-        raise Trouble("%s%s; `%s --help` lists the options" % (message, " (did you mean %s?)" % near[0] if near else "", self.prog))
-
+    meant, more = " (did you mean %s?)", "; `PROG --help` lists the options"
 
     def _print_message(self, message: str, file: Optional[IO[str]] = None) -> None:
         """Writes a message; a disk that is full is no silence."""
@@ -132,7 +119,7 @@ def unknown(words: Sequence[str]) -> str:
         return "%s is a file and no command: write the command first, then one scene" % first
     known = [*WORDS, *PROGRAM_WORDS, *(FIRST_WORDS if first.startswith("-") else ())]
     name = first.lower().lstrip("-")
-    near = [MEANT[name]] if name in MEANT else [found for each in (first.lower(), name) for found in difflib.get_close_matches(each, known, 1, NEAR)]
+    near = [MEANT[name]] if name in MEANT else [found for each in (first.lower(), name) for found in difflib.get_close_matches(each, known, 1, ends.NEAR)]
     return "%s is no command and no file%s; pxplanes --help lists the commands" % (first, " (is it %s?)" % near[0] if near else "")
 
 
@@ -252,37 +239,11 @@ def answered(words: list[str]) -> int:
     return status
 
 
-def unwritten(error: OSError) -> str:
-    """The file that a failed call meant, as `name: `. A write does not say: then it is the file that the innermost function holds, and
-    otherwise standard output, if that is a file or a device."""
-    if error.filename is not None or error.errno not in NO_ROOM:
-        return "" if error.filename is None else "%s: " % os.fsdecode(error.filename)
-    for frame, _ in reversed(list(traceback.walk_tb(error.__traceback__))):
-        for each in (*frame.f_locals.values(), *vars(frame.f_locals.get("self", error)).values()):
-            name = getattr(each, "name", None) if isinstance(each, io.IOBase) else None
-            if isinstance(name, str) and each is not sys.stdout and getattr(each, "mode", "r") not in ("r", "rb"):
-                return "%s: " % name
-    mode = os.fstat(1).st_mode
-    return "standard output: " if stat.S_ISREG(mode) or stat.S_ISCHR(mode) else ""
-
-
 def main(words: Optional[list[str]] = None) -> int:
     """Runs the command line; trouble is one line on standard error and status 2, and never a traceback."""
-    words = sys.argv[1:] if words is None else words
-    name = "pxplanes" + (" " + words[0] if words and words[0] in WORDS else "")
+    own = sys.argv[1:] if words is None else words
+    name = "pxplanes" + (" " + own[0] if own and own[0] in WORDS else "")
     try:
-        return answered(words)
-    except (Trouble, errors.NoLibrary) as trouble:
-        print("%s: %s" % (name, trouble), file=sys.stderr)
-    except BrokenPipeError:
-        ends.drop_output()
-    except OSError as error:
-        file = unwritten(error)
-        if error.errno in NO_ROOM:
-            ends.drop_output()
-        print("%s: %s%s" % (name, file, error.strerror or error), file=sys.stderr)
+        return ends.status_of(name, lambda: answered(own))
     except SystemExit as ended:
         return int(ended.code or SUCCESS)
-    except KeyboardInterrupt:
-        return INTERRUPTED
-    return TROUBLE
