@@ -44,7 +44,8 @@ Without a file standard input is read. Images are raw pixel maps; -o FILE.png af
 pictures of them. docs/SCENES.md has the language, man/pxplanes.1 what the words of the program end with."""
 FIRST_WORDS = re.findall(r"(?m)^  (--\S+)", OF_CHECKOUT)
 # What people write for a word.
-MEANT = {"draw": "render", "image": "render", "picture": "render", "maps": "render", "depths": "render", "step": "debug", "debugger": "debug"}
+MEANT = {**dict.fromkeys(("draw", "image", "picture", "maps", "depth", "depths"), "render"),
+         **dict.fromkeys(("step", "debugger"), "debug")}
 
 
 class Word(Protocol):
@@ -119,8 +120,10 @@ def unknown(words: Sequence[str]) -> str:
         return "%s is a file and no command: write the command first, then one scene" % first
     known = [*WORDS, *PROGRAM_WORDS, *(FIRST_WORDS if first.startswith("-") else ())]
     name = first.lower().lstrip("-")
-    near = [MEANT[name]] if name in MEANT else [found for each in (first.lower(), name) for found in difflib.get_close_matches(each, known, 1, ends.NEAR)]
-    return "%s is no command and no file%s; pxplanes --help lists the commands" % (first, " (is it %s?)" % near[0] if near else "")
+    near = [MEANT[name]] if name in MEANT else [
+        found for each in (first.lower(), name) for found in difflib.get_close_matches(each, known, 1, ends.NEAR)]
+    hint = " (is it %s?)" % near[0] if near else ""
+    return "%s is no command and no file%s; pxplanes --help lists the commands" % (first, hint)
 
 
 def whole_number(least: int, most: int) -> type[int]:
@@ -158,8 +161,6 @@ def run_program(words: list[str]) -> int:
     if words and words[-1] not in PROGRAM_WORDS and os.path.isfile(words[-1]):
         with open(words.pop(), "rb") as scene:
             os.dup2(scene.fileno(), sys.stdin.fileno())
-    elif words and ("/" in words[-1] or "." in words[-1]):
-        raise Trouble("%s: no such file" % words[-1])
     if sys.stdout.isatty() and (words[0] if words else "render") in BINARY_WORDS:
         raise Trouble("no terminal shows raw pixels: send them to a file, or to `pxplanes view -o PNG -`")
     built = program.find(None)
@@ -222,7 +223,8 @@ def answered(words: list[str]) -> int:
         raise Trouble("standard output is closed")
     if "_ARGCOMPLETE" in os.environ:
         complete(whole_parser())
-    if not words or words[0] in PROGRAM_WORDS or os.path.isfile(words[0]) and (len(words) == 1 or words[1] in ("-o", "-h", "--help")):
+    is_a_file = words[:1] and os.path.isfile(words[0]) and (len(words) == 1 or words[1] in ("-o", "-h", "--help"))
+    if not words or words[0] in PROGRAM_WORDS or is_a_file:
         if words and {"-h", "--help"}.intersection(words[1:]):
             parsed(parser_of(words[0] if words[0] in PROGRAM_WORDS else "render"), ["--help"])
         return run_program(words)
