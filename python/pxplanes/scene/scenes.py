@@ -53,6 +53,16 @@ class Refusal(Exception):
         self.note, self.span = note, span
         self.due, self.limit, self.cure = due, limit, cure
 
+    @property
+    def number(self) -> int:
+        """The number of its line, from 1; 0 for the whole text."""
+        return int(self.note.split(":")[0].split(" ")[-1])
+
+    @property
+    def cause(self) -> str:
+        """The word of the language for what is wrong."""
+        return self.note.split(": ")[1].split(" ")[0]
+
 
 class Face:
     def __init__(self, number: int, plane: Plane, colour: Colour, line: int):
