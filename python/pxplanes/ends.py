@@ -99,8 +99,8 @@ def ended(help_text: str, main: Callable[[list[str]], int]) -> int:
 
 
 def unwritten(error: OSError) -> str:
-    """The file that a failed call meant, as `name: `. A write does not say: then it is the file that the innermost function holds, and
-    otherwise standard output, if that is a file or a device."""
+    """The file that a failed call meant, as `name: `. A write does not say: then it is the file that the innermost
+    function holds, and otherwise standard output, if that is a file or a device."""
     if error.filename is not None or error.errno not in NO_ROOM:
         return "" if error.filename is None else "%s: " % os.fsdecode(error.filename)
     for frame, _ in reversed(list(traceback.walk_tb(error.__traceback__))):
@@ -166,19 +166,10 @@ class Words(argparse.ArgumentParser):
         raise Trouble(message + (self.meant % near[0] if near else "") + self.more.replace("PROG", self.prog))
 
 
-def glued(words: list[str], with_word: Sequence[str]) -> list[str]:
-    """The words with a number below 0 after its option in one word, so that it is no option itself."""
-    for at in range(len(words) - 2, -1, -1):
-        if words[at] in with_word and re.match(r"-[.\d]", words[at + 1]):
-            words[at:at + 2] = ["%s=%s" % (words[at], words[at + 1])]
-    return words
-
-
 def options(words: Iterable[str], flags: Sequence[str], with_word: Sequence[str],
             repeated: Sequence[str] = ()) -> tuple[list[str], dict[str, Any]]:
     """Splits words into the others and what the options say; `with_word` take the word after them, and so do those
     that may be repeated, which give a list."""
-    words = glued(list(words), (*with_word, *repeated))
     parser = Words(add_help=False, allow_abbrev=False, argument_default=argparse.SUPPRESS)
     for flag in flags:
         parser.add_argument(flag, dest=flag, action="store_true")
@@ -187,5 +178,5 @@ def options(words: Iterable[str], flags: Sequence[str], with_word: Sequence[str]
     for option in repeated:
         parser.add_argument(option, dest=option, metavar="WORD", action="append")
     parser.add_argument("others", nargs="*")
-    said = vars(parser.parse_intermixed_args(words))
+    said = vars(parser.parse_intermixed_args(list(words)))
     return said.pop("others", []), said

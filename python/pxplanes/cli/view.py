@@ -142,7 +142,8 @@ def of_both(width: int, height: int, depths: Sequence[int], faces: Sequence[int]
     """The pictures of depths and faces: of what is asked, or both."""
     if what not in (None, "depths", "faces"):
         raise Trouble("two maps have no %s: they are depths and faces" % what)
-    makers = {"depths": lambda: show.greys_of_depths(depths, [face != 0 for face in faces]), "faces": lambda: show.colours_of_faces(faces)}
+    makers = {"depths": lambda: show.greys_of_depths(depths, [face != 0 for face in faces]),
+              "faces": lambda: show.colours_of_faces(faces)}
     return [Picture(width, height, make(), name) for name, make in makers.items() if what in (None, name)]
 
 

@@ -14,8 +14,7 @@ from pxplanes.errors import Trouble
 from pxplanes.mesh import mesh_files, modelling, verifying
 from pxplanes.mesh.verifying import ALIKE, MISSING, ROUNDING, TOO_MUCH
 
-MOST_SIDES, MOST_CUTS, COUNTS = 100, 100, (ALIKE, ROUNDING, MISSING, TOO_MUCH)
-LEAST_SIDE, MOST_SIDE = 8, 512
+COUNTS = (ALIKE, ROUNDING, MISSING, TOO_MUCH)
 
 
 def kind_of(path: str) -> str:
