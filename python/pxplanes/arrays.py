@@ -1,6 +1,4 @@
 """Buffers that the library fills, as arrays of NumPy where it is there, and as memoryviews otherwise."""
-from __future__ import annotations
-
 import ctypes
 import importlib
 import struct

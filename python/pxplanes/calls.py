@@ -1,6 +1,4 @@
 """The library's calls as C has them (include/pxplanes.h), and what their statuses raise."""
-from __future__ import annotations
-
 import ctypes
 import functools
 import os

@@ -2,8 +2,6 @@
 
 Refusals are those of the commands. A budget of clocks is compared with what the library says of each picture that a
 command draws."""
-from __future__ import annotations
-
 import contextlib
 import operator
 from typing import Any, Iterator, Optional

@@ -3,22 +3,30 @@ import argparse
 import contextlib
 import contextvars
 import difflib
+import errno
 import importlib.machinery
 import importlib.util
+import io
 import os
 import re
+import stat
 import sys
 import tempfile
+import traceback
 from collections.abc import Callable, Iterable, Iterator, Sequence
 from typing import Any, NoReturn
 
-from pxplanes.errors import Trouble
+from pxplanes.errors import NoLibrary, Trouble
 
 HERE = os.path.dirname(os.path.abspath(__file__))
 TOP = os.path.dirname(os.path.dirname(HERE))
 # The page: next to these modules in a wheel, otherwise in the checkout or where it is installed.
 PAGE = next(filter(os.path.isfile, [os.path.join(HERE, "pxplanes.html")]), os.path.join(TOP, "page", "pxplanes.html"))
-TROUBLE = 2
+TROUBLE, INTERRUPTED = 2, 130
+# The least share of letters that a word has in common with the one that may have been meant.
+NEAR = 0.75
+# What the system answers if no more can be written.
+NO_ROOM = (errno.ENOSPC, errno.EDQUOT, errno.EFBIG)
 HEARD: contextvars.ContextVar[list[str] | None] = contextvars.ContextVar("heard", default=None)
 
 
@@ -90,24 +98,41 @@ def ended(help_text: str, main: Callable[[list[str]], int]) -> int:
     return status
 
 
-def run(tool: str, help_text: str | None, main: Callable[[list[str]], int]) -> NoReturn:
-    """Ends with what `main` gives for the words; trouble is one line and no traceback."""
+def unwritten(error: OSError) -> str:
+    """The file that a failed call meant, as `name: `. A write does not say: then it is the file that the innermost
+    function holds, and otherwise standard output, if that is a file or a device."""
+    if error.filename is not None or error.errno not in NO_ROOM:
+        return "" if error.filename is None else "%s: " % os.fsdecode(error.filename)
+    for frame, _ in reversed(list(traceback.walk_tb(error.__traceback__))):
+        for each in (*frame.f_locals.values(), *vars(frame.f_locals.get("self", error)).values()):
+            name = getattr(each, "name", None) if isinstance(each, io.IOBase) else None
+            if isinstance(name, str) and each is not sys.stdout and getattr(each, "mode", "r") not in ("r", "rb"):
+                return "%s: " % name
+    mode = os.fstat(1).st_mode
+    return "standard output: " if stat.S_ISREG(mode) or stat.S_ISCHR(mode) else ""
+
+
+def status_of(tool: str, work: Callable[[], int]) -> int:
+    """The status of some work; trouble is one line and no traceback."""
     try:
-        status = ended(help_text or "", main)
-    except Trouble as bad:
-        say(tool, bad)
-        status = TROUBLE
+        return work()
+    except (Trouble, NoLibrary) as trouble:
+        say(tool, trouble)
     except BrokenPipeError:
         drop_output()
-        status = TROUBLE
     except OSError as error:
-        drop_output()
-        name = "" if error.filename is None else "%s: " % error.filename
-        say(tool, name + (error.strerror or "cannot be read"))
-        status = TROUBLE
+        file = unwritten(error)
+        if error.errno in NO_ROOM:
+            drop_output()
+        say(tool, "%s%s" % (file, error.strerror or error))
     except KeyboardInterrupt:
-        status = 130
-    sys.exit(status)
+        return INTERRUPTED
+    return TROUBLE
+
+
+def run(tool: str, help_text: str | None, main: Callable[[list[str]], int]) -> NoReturn:
+    """Ends with what `main` gives for the words."""
+    sys.exit(status_of(tool, lambda: ended(help_text or "", main)))
 
 
 def script(leaf: str) -> Any:
@@ -132,26 +157,19 @@ def jobs(word: str | None) -> int:
 class Words(argparse.ArgumentParser):
     """The words of a tool; bad ones are reported in one line, as everything that goes wrong."""
 
+    meant, more = " (is it %s?)", "; --help says more"
+
     def error(self, message: str) -> NoReturn:
         unknown = re.match(r"unrecognized arguments: (--\S+)", message)
         known = [option for action in self._actions for option in action.option_strings]
-        near = difflib.get_close_matches(unknown.group(1).split("=")[0], known, 1, 0.75) if unknown else []
-        raise Trouble("%s%s; --help says more" % (message, " (is it %s?)" % near[0] if near else ""))
-
-
-def glued(words: list[str], with_word: Sequence[str]) -> list[str]:
-    """The words with a number below 0 after its option in one word, so that it is no option itself."""
-    for at in range(len(words) - 2, -1, -1):
-        if words[at] in with_word and re.match(r"-[.\d]", words[at + 1]):
-            words[at:at + 2] = ["%s=%s" % (words[at], words[at + 1])]
-    return words
+        near = difflib.get_close_matches(unknown.group(1).split("=")[0], known, 1, NEAR) if unknown else []
+        raise Trouble(message + (self.meant % near[0] if near else "") + self.more.replace("PROG", self.prog))
 
 
 def options(words: Iterable[str], flags: Sequence[str], with_word: Sequence[str],
             repeated: Sequence[str] = ()) -> tuple[list[str], dict[str, Any]]:
     """Splits words into the others and what the options say; `with_word` take the word after them, and so do those
     that may be repeated, which give a list."""
-    words = glued(list(words), (*with_word, *repeated))
     parser = Words(add_help=False, allow_abbrev=False, argument_default=argparse.SUPPRESS)
     for flag in flags:
         parser.add_argument(flag, dest=flag, action="store_true")
@@ -160,5 +178,5 @@ def options(words: Iterable[str], flags: Sequence[str], with_word: Sequence[str]
     for option in repeated:
         parser.add_argument(option, dest=option, metavar="WORD", action="append")
     parser.add_argument("others", nargs="*")
-    said = vars(parser.parse_intermixed_args(words))
+    said = vars(parser.parse_intermixed_args(list(words)))
     return said.pop("others", []), said

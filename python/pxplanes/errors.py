@@ -1,5 +1,5 @@
 """What a call raises."""
-from __future__ import annotations
+from typing import Any
 
 
 class NoLibrary(OSError):
@@ -7,9 +7,14 @@ class NoLibrary(OSError):
 
 
 class Made(Exception):
-    """An error that pickle makes again of its fields, which are what it was made of."""
+    """An error that is made of its fields, in the order in which its line says them; pickle makes it again of them."""
 
     _fields: tuple[str, ...] = ()
+    _said = ""
+
+    def __init__(self, *values: Any) -> None:
+        super().__init__(self._said % values)
+        vars(self).update(zip(self._fields, values))
 
     def __reduce__(self) -> tuple[type, tuple[object, ...]]:
         return type(self), tuple(getattr(self, field) for field in self._fields)
@@ -32,9 +37,7 @@ class NoCommand(Refused):
     """Words that name no command of the program."""
 
     status = 2
-
-    def __init__(self) -> None:
-        super().__init__("usage: pxplanes [render|colour|tidy|plan|cost|debug|sample N|shadow|tile W H|refine K|list|play]")
+    _said = "usage: pxplanes [render|colour|tidy|plan|cost|debug|sample N|shadow|tile W H|refine K|list|play]"
 
 
 class Malformed(Refused):
@@ -46,7 +49,7 @@ class Malformed(Refused):
     status = 3
 
     def __init__(self, line: int, cause: str, hint: str = ""):
-        super().__init__("malformed line %d: %s" % (line, cause) + (hint and "; " + hint))
+        Exception.__init__(self, "malformed line %d: %s" % (line, cause) + (hint and "; " + hint))
         self.line, self.cause = line, cause
         if hint:
             self.hint = hint
@@ -59,52 +62,39 @@ class Malformed(Refused):
 class Limit(Refused):
     """More than there may be. `kind` is the word of docs/SCENES.md, "Limits", as `pixel-memory`; `found` how many."""
 
-    _fields = ("line", "kind", "found")
+    _fields, _said = ("line", "kind", "found"), "limit line %d: %s %d"
     status = 4
-
-    def __init__(self, line: int, kind: str, found: int):
-        super().__init__("limit line %d: %s %d" % (line, kind, found))
-        self.line, self.kind, self.found = line, kind, found
+    kind: str
+    found: int
 
 
 class NoClock(Made, IndexError):
     """A clock lies past the last. `clocks` is how many there are."""
 
-    _fields = ("clocks",)
-
-    def __init__(self, clocks: int):
-        super().__init__("there are %d clocks" % clocks)
-        self.clocks = clocks
+    _fields, _said = ("clocks",), "there are %d clocks"
+    clocks: int
 
 
 class NoOperation(Made, IndexError):
     """An operation lies past the last. `operations` is how many there are."""
 
-    _fields = ("operations",)
-
-    def __init__(self, operations: int):
-        super().__init__("there are %d operations" % operations)
-        self.operations = operations
+    _fields, _said = ("operations",), "there are %d operations"
+    operations: int
 
 
 class OverBudget(Made, RuntimeError):
     """A picture takes more clocks than it may. `clocks` is how many it takes, and `budget` how many it may."""
 
-    _fields = ("clocks", "budget")
-
-    def __init__(self, clocks: int, budget: int):
-        super().__init__("%d clocks are more than %d" % (clocks, budget))
-        self.clocks, self.budget = clocks, budget
+    _fields, _said = ("clocks", "budget"), "%d clocks are more than %d"
+    clocks: int
+    budget: int
 
 
 class NoMicro(Made, ValueError):
     """An element is no microinstruction, or names a place past the memory. `index` is the first such one's."""
 
-    _fields = ("index",)
-
-    def __init__(self, index: int):
-        super().__init__("element %d is no microinstruction" % index)
-        self.index = index
+    _fields, _said = ("index",), "element %d is no microinstruction"
+    index: int
 
 
 class NoModel(ValueError):

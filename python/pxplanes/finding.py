@@ -1,6 +1,4 @@
 """Where the library is."""
-from __future__ import annotations
-
 import ctypes
 import ctypes.util
 import os

@@ -1,8 +1,6 @@
 """Scenes of models: OpenSCAD's .csg and .scad, and solids as OFF, STL, OBJ, PLY, 3MF or glTF, as `pxplanes convert` makes them (docs/MODELLING.md).
 
 Not proved: planes are rounded to whole numbers. Hulls need scipy or OpenSCAD, and .scad OpenSCAD."""
-from __future__ import annotations
-
 import os
 from typing import NamedTuple, Optional, Sequence, Union
 

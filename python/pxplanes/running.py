@@ -1,7 +1,5 @@
 """Calls of a text that fill buffers, and the program's commands by one of them. Long calls are made in threads, so that
 Ctrl-C and `progress` are heard meanwhile."""
-from __future__ import annotations
-
 import collections
 import contextlib
 import os

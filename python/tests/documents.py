@@ -275,18 +275,17 @@ def wrong_commands():
     """The commands as the usage line, the words of the program, the tables, the manual and the wrapper have them."""
     due = [words.split()[0] for words in re.search(r"\[(.*)\]", usage()).group(1).split("|")]
     first = [SPAN.findall(row[0])[0].split()[0] for row in rows(SCENES, "Commands")]
-    listed = re.search(r"(?s)Use: pxplanes.*?\n\n(.*?)\n\n", content(WRAPPER)).group(1)
+    readers = re.findall(r"(?m)^    ([a-z |]+)\) following=\d", content(WRAPPER))
     manual = re.search(r"(?m)^\.Op Cm (.*)$", content(MAN)).group(1)
     found = (("crates/px_commands", re.findall(r'word == b"([a-z]+)"', content("crates/px_commands/src/command_words.rt"))),
              (SCENES, first + ["sample"] * bool(re.search(r"(?m)^`sample N`", content(SCENES)))),
              (MAN, re.findall(r"(?m)^\.It Cm (\w+)", content(MAN))),
              (MAN + ", synopsis", [each.split()[0] for each in manual.split(" | ")]),
-             (WRAPPER + " --help", [word for line in listed.split("\n") for word in re.match(
-                 r" *((?:\w+, )*\w+)", line).group(1).split(", ")]),
-             (WRAPPER, re.search(r"for command in (.*); do", content(WRAPPER)).group(1).split()))
+             (WRAPPER + " --help", frame.PROGRAM_WORDS),
+             (WRAPPER, ["sample", *(word for each in readers for word in each.split(" | "))]))
     for what, has in found:
         yield from difference(what, has, due)
-    words = re.findall(r"(?m)^  (--[\w-]+)", content(WRAPPER))
+    words = [*frame.FIRST_WORDS, "--help"]
     yield from difference(MAN + ", options", ["-" + each for each in re.findall(r"Fl (-[\w-]+)", content(MAN))], words)
 
 
@@ -337,7 +336,7 @@ LIMITS = (
     (SCENES, '"Sums of products") | {MAX_PRODUCTS} |'), (SCENES, "more than {MAX_TILES};"), (SCENES, "and {WIDE_BITS} bits in a pixel"),
     (SCENES, "each from 1 to {MAX_WIDE_PICTURE_SIZE} without"), (SCENES, "from 1 to {MAX_BLOCKS}, reads no input"),
     (MAN, "1 to {MAX_PICTURE_SIZE} pixels each"), (MAN, "1 to {MAX_DEPTH_BITS} bits;"), (MAN, "N blocks, 1 to {MAX_BLOCKS}, with"),
-    (MAN, "each from 1 to {MAX_WIDE_PICTURE_SIZE}, tile by tile"), (WRAPPER, "each up to {MAX_WIDE_PICTURE_SIZE}, tile by tile"),
+    (MAN, "each from 1 to {MAX_WIDE_PICTURE_SIZE}, tile by tile"),
     ("docs/PICTURE.md", "is more than {MAX_PICTURE_SIZE};"), ("docs/PICTURE.md", "have more than {MAX_FRACTION_BITS} bits,"),
     ("docs/SCALE.md", "ends at {MAX_WIDE_PICTURE_SIZE} by {MAX_WIDE_PICTURE_SIZE}"),
     ("docs/LISTINGS.md", "greater than 2^{FORM} in size, or C greater than 2^{FORM_C} |"),

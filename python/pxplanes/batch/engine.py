@@ -1,6 +1,4 @@
 """The program on many texts, in so many processes side by side, and how far they are. All of them end with this process."""
-from __future__ import annotations
-
 import ctypes
 import fcntl
 import os

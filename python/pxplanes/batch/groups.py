@@ -1,6 +1,4 @@
 """Ends processes with all that they began, each in a session of its own, and breaks a run off once."""
-from __future__ import annotations
-
 import os
 import signal
 import time

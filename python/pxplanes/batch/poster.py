@@ -4,8 +4,6 @@ The file gets the two maps that `pxplanes tile W H` writes, the depths and then 
 a scene of its own, whose planes have the values that the scene's have there, and is drawn by `tile`. It is written into its place in
 the file as it comes, so that memory does not grow with the picture; the file has its name once it is whole. Until then it is
 FILE.part, and FILE.done has the pieces that are in it: the same call goes on where it was broken off."""
-from __future__ import annotations
-
 import hashlib
 import os
 import re

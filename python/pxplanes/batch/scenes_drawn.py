@@ -3,8 +3,6 @@
 The folder gets NAME.ppm, NAME.png of view, or NAME.txt of a word that writes text. A picture is there whole or not at all. `many.tsv`
 keeps what came of each scene: one of the same text, command and program that is there already, and compared with the
 same picture or with none, is not drawn again. One run at a time works in the folder."""
-from __future__ import annotations
-
 import collections
 import hashlib
 import os

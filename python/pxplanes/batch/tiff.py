@@ -1,6 +1,4 @@
 """Tiled TIFF files, whose tiles come in any order, each compressed by itself: what every reader of TIFF 6.0 takes."""
-from __future__ import annotations
-
 import struct
 import zlib
 from typing import IO, Any, Sequence

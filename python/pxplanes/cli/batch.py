@@ -6,8 +6,6 @@ compares each picture with the one of the same name in the folder --against. SCE
 scene to W by H pixels, also over 4096, and writes its depths and faces into the file -o, as `pxplanes tile` does; or, if that is
 NAME.tif, its colours there, and its depths and faces into NAME-depth.tif and NAME-faces.tif. Status: 0 if all were drawn and none differs,
 otherwise 1; 2 for trouble."""
-from __future__ import annotations
-
 import argparse
 import os
 import sys

@@ -4,8 +4,6 @@ A model is OpenSCAD's .csg or .scad (which OpenSCAD itself reads first), or a me
 which each closed part is a solid; what is not convex becomes several solids. A scene becomes a text for POV-Ray (pov),
 OpenSCAD (scad), a mesh of each solid (obj, glb), or JSON. Standard error says by how many cells the worst plane was rounded,
 what is cut off, and what a form has no words for. docs/MODELLING.md explains each step."""
-from __future__ import annotations
-
 import argparse
 import os
 import signal

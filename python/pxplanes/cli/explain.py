@@ -4,8 +4,6 @@ The refusal is the program's own; below it stand the line with the word marked, 
 then the other mistakes, each found with those before it mended. Of an accepted scene it lists the solids, with their columns,
 rows, depths and visible pixels, and the faces. A listing is read too. Without a built program the answer is the tool's own
 reading, and it says so. Status: 0 for an accepted text or one that --fix mended, 1 for a refused one, 2 for trouble."""
-from __future__ import annotations
-
 import argparse
 import difflib
 import json

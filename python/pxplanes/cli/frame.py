@@ -3,23 +3,17 @@
 A module of this folder that is a word has three things: HELP, one line for the list of words; `add_options`, which gives a
 parser its options; and `run`, which does the work and returns the exit status: 0 for success, 1 for "differs" or "refused",
 and it raises `Trouble` or `OSError` for anything else, which ends with 2."""
-from __future__ import annotations
-
 import argparse
 import difflib
-import errno
 import importlib
 import importlib.util
-import io
 import os
 import re
 import shutil
-import stat
 import subprocess
 import sys
 import tempfile
-import traceback
-from typing import IO, Any, NoReturn, Optional, Protocol, Sequence
+from typing import IO, Any, Optional, Protocol, Sequence
 
 from pxplanes import ends, errors, program, running
 from pxplanes.cli import program_words
@@ -29,15 +23,29 @@ WORDS = ("view", "explain", "trace", "convert", "compare", "suite", "batch")
 PROGRAM_WORDS = tuple(program_words.OWN)
 # Those that write raw pixels, which no terminal shows.
 BINARY_WORDS = ("render", "colour", "shadow", "tile", "refine")
-# What the system answers if no more can be written.
-NO_ROOM = (errno.ENOSPC, errno.EDQUOT, errno.EFBIG)
 # The words whose work is on pixels, which NumPy does.
 OF_PIXELS = ("compare", "suite")
 # Maps of more bytes than these are shown by NumPy if there is one, in a tenth of the time.
 LARGE_MAPS = 1 << 23
 DEBIAN_PYTHON = "/usr/bin/python3"
-SUCCESS, DIFFERS, TROUBLE, INTERRUPTED = 0, 1, 2, 130
+SUCCESS, DIFFERS, TROUBLE = 0, 1, ends.TROUBLE
 DESCRIPTION = "Draws scenes of convex solids on Pixel-Planes 4, the graphics machine whose frame buffer computes."
+EPILOG = "`pxplanes WORD --help` says what a word does, and lists its options."
+# What ./pxplanes takes in a checkout, as its first word.
+OF_CHECKOUT = """first words in a checkout:
+  --unproved     builds without proofs, once, for a first look
+  --as-built     draws with the program that is built, whatever the sources are
+  --all          proves and builds the program and the library together, if they have changed
+  --build        proves and builds the program, and draws nothing
+  --library      proves and builds the library for C and Python, in package/, if it has changed
+  --version      the version and the commit that this is
+
+Without a file standard input is read. Images are raw pixel maps; -o FILE.png after a word of the program makes PNG
+pictures of them. docs/SCENES.md has the language, man/pxplanes.1 what the words of the program end with."""
+FIRST_WORDS = re.findall(r"(?m)^  (--\S+)", OF_CHECKOUT)
+# What people write for a word.
+MEANT = {**dict.fromkeys(("draw", "image", "picture", "maps", "depth", "depths"), "render"),
+         **dict.fromkeys(("step", "debugger"), "debug")}
 
 
 class Word(Protocol):
@@ -52,15 +60,10 @@ class Word(Protocol):
         """Does the work, and returns the exit status."""
 
 
-class Parser(argparse.ArgumentParser):
-    """A parser whose messages are one line, with the option that may have been meant."""
+class Parser(ends.Words):
+    """A parser whose messages name the option that may have been meant, and how to list all."""
 
-    def error(self, message: str) -> NoReturn:
-        unknown = re.match(r"unrecognized arguments: (--\S+)", message)
-        known = [option for action in self._actions for option in action.option_strings]
-        near = difflib.get_close_matches(unknown.group(1).split("=")[0], known, 1, 0.75) if unknown else []
-        raise Trouble("%s%s; `%s --help` lists the options" % (message, " (did you mean %s?)" % near[0] if near else "", self.prog))
-
+    meant, more = " (did you mean %s?)", "; `PROG --help` lists the options"
 
     def _print_message(self, message: str, file: Optional[IO[str]] = None) -> None:
         """Writes a message; a disk that is full is no silence."""
@@ -95,8 +98,9 @@ def parser_of(name: str) -> argparse.ArgumentParser:
 
 def whole_parser() -> argparse.ArgumentParser:
     """The parser of all words, which the list of words and completion are made of."""
+    is_checkout = os.path.isfile(os.path.join(ends.TOP, "crates.txt"))
     parser = Parser(prog="pxplanes", description=DESCRIPTION, formatter_class=Help, allow_abbrev=False,
-                    epilog="`pxplanes WORD --help` says what a word does, and lists its options.")
+                    epilog="%s\n\n%s" % (EPILOG, OF_CHECKOUT) if is_checkout else EPILOG)
     words = parser.add_subparsers(metavar="WORD", dest="word", title="words")
     for name in WORDS:
         module = word(name)
@@ -105,6 +109,21 @@ def whole_parser() -> argparse.ArgumentParser:
     for name, own in program_words.OWN.items():
         program_words.add_options(words.add_parser(name, help="writes " + own.writes, formatter_class=Help, allow_abbrev=False), name)
     return parser
+
+
+def unknown(words: Sequence[str]) -> str:
+    """What to say of words that begin with no command: the one that may have been meant, or the right order."""
+    first = words[0]
+    if os.path.isfile(first):
+        if words[1] in PROGRAM_WORDS:
+            return "the command comes before the scene: pxplanes %s" % " ".join([*words[1:], first])
+        return "%s is a file and no command: write the command first, then one scene" % first
+    known = [*WORDS, *PROGRAM_WORDS, *(FIRST_WORDS if first.startswith("-") else ())]
+    name = first.lower().lstrip("-")
+    near = [MEANT[name]] if name in MEANT else [
+        found for each in (first.lower(), name) for found in difflib.get_close_matches(each, known, 1, ends.NEAR)]
+    hint = " (is it %s?)" % near[0] if near else ""
+    return "%s is no command and no file%s; pxplanes --help lists the commands" % (first, hint)
 
 
 def whole_number(least: int, most: int) -> type[int]:
@@ -125,7 +144,7 @@ def draw_into(words: list[str]) -> int:
         raise Trouble("a file is expected after -o")
     out, others = words[at + 1], words[:at] + words[at + 2:]
     with tempfile.NamedTemporaryFile(suffix=".ppm") as drawn:
-        done = subprocess.run([sys.executable, "-m", "pxplanes", *others], stdout=drawn)
+        done = subprocess.run([sys.executable, "-B", "-m", "pxplanes", *others], stdout=drawn)
         if done.returncode != SUCCESS:
             return done.returncode
         if out.lower().endswith(".png"):
@@ -212,13 +231,15 @@ def answered(words: list[str]) -> int:
         raise Trouble("standard output is closed")
     if "_ARGCOMPLETE" in os.environ:
         complete(whole_parser())
-    if not words or words[0] in PROGRAM_WORDS or os.path.isfile(words[0]):
+    is_a_file = words[:1] and os.path.isfile(words[0]) and (len(words) == 1 or words[1] in ("-o", "-h", "--help"))
+    if not words or words[0] in PROGRAM_WORDS or is_a_file:
         if words and {"-h", "--help"}.intersection(words[1:]):
             parsed(parser_of(words[0] if words[0] in PROGRAM_WORDS else "render"), ["--help"])
         return run_program(words)
-    if words[0] not in WORDS:
+    if words[0] in ("-h", "--help"):
         parsed(whole_parser(), words)
-        raise Trouble("%s is no word; `pxplanes --help` lists them" % words[0])
+    if words[0] not in WORDS:
+        raise Trouble(unknown(words))
     if is_by_numpy(words) and "-h" not in words and "--help" not in words:
         need_numpy(words)
     if words[0] == "view" and any(os.path.isfile(each) and os.path.getsize(each) > LARGE_MAPS for each in words):
@@ -228,37 +249,11 @@ def answered(words: list[str]) -> int:
     return status
 
 
-def unwritten(error: OSError) -> str:
-    """The file that a failed call meant, as `name: `. A write does not say: then it is the file that the innermost function holds, and
-    otherwise standard output, if that is a file or a device."""
-    if error.filename is not None or error.errno not in NO_ROOM:
-        return "" if error.filename is None else "%s: " % os.fsdecode(error.filename)
-    for frame, _ in reversed(list(traceback.walk_tb(error.__traceback__))):
-        for each in (*frame.f_locals.values(), *vars(frame.f_locals.get("self", error)).values()):
-            name = getattr(each, "name", None) if isinstance(each, io.IOBase) else None
-            if isinstance(name, str) and each is not sys.stdout and getattr(each, "mode", "r") not in ("r", "rb"):
-                return "%s: " % name
-    mode = os.fstat(1).st_mode
-    return "standard output: " if stat.S_ISREG(mode) or stat.S_ISCHR(mode) else ""
-
-
 def main(words: Optional[list[str]] = None) -> int:
     """Runs the command line; trouble is one line on standard error and status 2, and never a traceback."""
-    words = sys.argv[1:] if words is None else words
-    name = "pxplanes" + (" " + words[0] if words and words[0] in WORDS else "")
+    own = sys.argv[1:] if words is None else words
+    name = "pxplanes" + (" " + own[0] if own and own[0] in WORDS else "")
     try:
-        return answered(words)
-    except (Trouble, errors.NoLibrary) as trouble:
-        print("%s: %s" % (name, trouble), file=sys.stderr)
-    except BrokenPipeError:
-        ends.drop_output()
-    except OSError as error:
-        file = unwritten(error)
-        if error.errno in NO_ROOM:
-            ends.drop_output()
-        print("%s: %s%s" % (name, file, error.strerror or error), file=sys.stderr)
+        return ends.status_of(name, lambda: answered(own))
     except SystemExit as ended:
         return int(ended.code or SUCCESS)
-    except KeyboardInterrupt:
-        return INTERRUPTED
-    return TROUBLE

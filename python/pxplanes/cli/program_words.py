@@ -1,6 +1,4 @@
 """The words that the program has itself: their numbers, what they read and write, and their help."""
-from __future__ import annotations
-
 import argparse
 from typing import NamedTuple
 

@@ -3,8 +3,6 @@
 With command lines after the line `end` of FILE (docs/DEBUGGER.md) it prints each line and its answer. Without command lines in FILE it
 takes lines from standard input, on a terminal with a prompt, and says in words where the machine is; `help` there lists them. --vcd and
 --chart show pixels over the clocks --from to --to."""
-from __future__ import annotations
-
 import argparse
 import sys
 

@@ -117,25 +117,34 @@ def of_maps(data: bytes, what: Optional[str], scene: Optional[str] = None) -> li
         from pxplanes.image import maps
         return of_arrays(maps.maps_of(data), what)
     found = netpbm.images(data)
-    first = found[0]
-    size = first.width, first.height
     if what == "distances":
         if scene is None:
             raise Trouble("--show distances needs --scene, whose camera gives them")
-        return [of_distances(first, ends.content(scene), scene)]
-    if len(found) == 2 and what in (None, "depths", "faces"):
-        depths, faces = found[0].numbers(), found[1].numbers()
-        both = [Picture(*size, show.greys_of_depths(depths, [face != 0 for face in faces]), "depths"),
-                Picture(*size, show.colours_of_faces(faces), "faces")]
-        return [each for each in both if what in (None, each.what)]
+        return [of_distances(found[0], ends.content(scene), scene)]
+    return of_images(found, what)
+
+
+def of_images(found: Sequence[netpbm.Image], what: Optional[str]) -> list[Picture]:
+    """The pictures of one or two maps, without NumPy."""
+    first = found[0]
+    size = first.width, first.height
     if len(found) == 2:
-        raise Trouble("two maps have no %s: they are depths and faces" % what)
+        return of_both(*size, first.numbers(), found[1].numbers(), what)
     if what is None or what == "colours":
         return [Picture(*size, first.colours(), "colours")]
     numbers = first.numbers()
     if what == "depths":
         return [Picture(*size, show.greys_of_depths(numbers, [depth != max(numbers) for depth in numbers]), what)]
     return [Picture(*size, (show.colours_of_faces if what == "faces" else show.colours_of_lights)(numbers), what)]
+
+
+def of_both(width: int, height: int, depths: Sequence[int], faces: Sequence[int], what: Optional[str]) -> list[Picture]:
+    """The pictures of depths and faces: of what is asked, or both."""
+    if what not in (None, "depths", "faces"):
+        raise Trouble("two maps have no %s: they are depths and faces" % what)
+    makers = {"depths": lambda: show.greys_of_depths(depths, [face != 0 for face in faces]),
+              "faces": lambda: show.colours_of_faces(faces)}
+    return [Picture(width, height, make(), name) for name, make in makers.items() if what in (None, name)]
 
 
 def of_arrays(found: Sequence[Map], what: Optional[str]) -> list[Picture]:
@@ -159,17 +168,7 @@ def of_scene(data: bytes, options: argparse.Namespace) -> Picture:
     if options.lights:
         return lit(data, options)
     found = drawn(COMMANDS[what], data, options.file)
-    size = found[0].width, found[0].height
-    if what == "distances":
-        return of_distances(found[0], data, options.file)
-    if what == "colours":
-        return Picture(*size, found[0].colours(), what)
-    if what == "lights":
-        return Picture(*size, show.colours_of_lights(found[0].numbers()), what)
-    faces = found[1].numbers()
-    if what == "faces":
-        return Picture(*size, show.colours_of_faces(faces), what)
-    return Picture(*size, show.greys_of_depths(found[0].numbers(), [face != 0 for face in faces]), what)
+    return of_distances(found[0], data, options.file) if what == "distances" else of_images(found, what)[0]
 
 
 def drawn(word: str, data: bytes, name: str) -> Any:
@@ -201,10 +200,7 @@ def of_model(options: argparse.Namespace) -> Picture:
     height, width = drawing.depths.shape
     if what == "colours":
         return Picture(width, height, drawing.colours(colours), what)
-    faces = (drawing.shown.ravel() + 1).tolist()
-    if what == "faces":
-        return Picture(width, height, show.colours_of_faces(faces), what)
-    return Picture(width, height, show.greys_of_depths(drawing.depths.ravel().tolist(), [face != 0 for face in faces]), what)
+    return of_both(width, height, drawing.depths.ravel().tolist(), (drawing.shown.ravel() + 1).tolist(), what)[0]
 
 
 def of_distances(depths: Any, text: bytes, name: str) -> Picture:

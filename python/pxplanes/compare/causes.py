@@ -451,8 +451,7 @@ def looked_up(new: dict[int, int], faces: Whole) -> Whole:
     """New numbers of faces, 0 for those that have none."""
     table = np.zeros(FACES, np.int64)
     table[list(new)] = list(new.values())
-    found: Whole = np.where(faces < FACES, table[np.clip(faces, 0, FACES - 1)], 0)
-    return found
+    return np.where(faces < FACES, table[np.clip(faces, 0, FACES - 1)], 0)
 
 
 def renumbered(order: Callable[[list[tuple[int, int, int]]], Any]) -> Write:

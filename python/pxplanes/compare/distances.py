@@ -1,7 +1,5 @@
 """Depths from a renderer's distances, by a perspective camera whose near and far distances are known
 (docs/MODELLING.md)."""
-from __future__ import annotations
-
 import math
 
 import numpy as np
@@ -30,8 +28,7 @@ def depths_of(word: str, numbers: Reals, far: int) -> Reals:
             focal = cameras.focal_of(fov, (wide, high))
             numbers = numbers / np.sqrt(1 + ((x - (wide - 1) / 2) ** 2 + (y - (high - 1) / 2) ** 2) / focal ** 2)
         depths = ends.scale * (1 / near - 1 / numbers)
-    found: Reals = np.where((numbers > 0) & (numbers < limit), depths, np.inf)
-    return found
+    return np.where((numbers > 0) & (numbers < limit), depths, np.inf)
 
 
 def parted(word: str) -> tuple[float, float, str, float]:

@@ -3,8 +3,6 @@
 The expression is a model (.csg, .scad or a mesh) or a scene; the result is a mesh in the same axes; of a scene in those of
 `pxplanes convert`. The program draws the expression from several sides, whole and through cuts across the axis; rays pass through
 the mesh at each pixel. How much is inside along all rays is compared too. What is smaller than a pixel of every picture is not seen."""
-from __future__ import annotations
-
 import os
 from typing import Any, NamedTuple, Optional
 
@@ -16,8 +14,7 @@ from pxplanes.errors import Trouble
 from pxplanes.mesh import mesh_files, modelling, verifying
 from pxplanes.mesh.verifying import ALIKE, MISSING, ROUNDING, TOO_MUCH
 
-MOST_SIDES, MOST_CUTS, COUNTS = 100, 100, (ALIKE, ROUNDING, MISSING, TOO_MUCH)
-LEAST_SIDE, MOST_SIDE = 8, 512
+COUNTS = (ALIKE, ROUNDING, MISSING, TOO_MUCH)
 
 
 def kind_of(path: str) -> str:

@@ -21,8 +21,6 @@ Node = int | str                      # the index of a solid, or a sign, in post
 NONE, BEFORE = 1 << 20, -(1 << 50)    # no face; before all depths
 KINDS = ("front", "back", "side")
 PIECE = 1 << 19                       # so many planes and ends of solids, times samples, are drawn at once
-read_text: Callable[[bytes], Any] = scenes.read
-pixel_memory: Callable[[Any], None] = scenes.pixel_memory
 
 
 @dataclass(frozen=True)
@@ -132,8 +130,8 @@ def of_text(text: bytes, name: str) -> tuple[Scene, Any]:
     """The scene of a text as numbers, and with its names and lines. Raises `Trouble`, with the line, if the text is
     refused."""
     try:
-        found = read_text(text)
-        pixel_memory(found)
+        found = scenes.read(text)
+        scenes.pixel_memory(found)
     except scenes.Refusal as refusal:
         raise Trouble("%s: %s" % (name, refusal.note)) from None
     return of_scene(found, name), found

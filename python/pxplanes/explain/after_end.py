@@ -1,8 +1,6 @@
 """The lines after a scene's `end`: light lines, which `pxplanes shadow` takes, or command lines, which `pxplanes debug` answers.
 
 Each line is judged by itself. It is mended if one line alone that is taken is within one or two keys, and keeps every digit and name."""
-from __future__ import annotations
-
 import re
 from collections import Counter
 from itertools import chain

@@ -1,7 +1,5 @@
 """What to write in place of a scene's first bad line, as people come to write it: what `explain`
 adds to a refusal. `of` gives a cure, or None where it knows none that is better than the reader's."""
-from __future__ import annotations
-
 import re
 import unicodedata
 from typing import Optional
@@ -24,13 +22,11 @@ def of(text: bytes, refusal: scenes.Refusal) -> Optional[str]:
     """A cure for the first bad line of a text."""
     if refusal.note.startswith("limit line 0") or refusal.span is None:
         return None
-    number = int(refusal.note.split(":")[0].split(" ")[-1])
-    line = scenes.cut_lines(text)[number - 1]
+    line = scenes.cut_lines(text)[refusal.number - 1]
     word = line[refusal.span[0]:refusal.span[1]]
-    cause = refusal.note.split(": ")[1].split(" ")[0]
-    found = "a NUL byte stands here: leave it out" if b"\0" in word else of_comment(line, word, cause)
-    maker = MAKERS.get(cause)
-    return found or (maker and maker(text, number, readable(line), readable(word)))
+    found = "a NUL byte stands here: leave it out" if b"\0" in word else of_comment(line, word, refusal.cause)
+    maker = MAKERS.get(refusal.cause)
+    return found or (maker and maker(text, refusal.number, readable(line), readable(word)))
 
 
 def readable(word: bytes) -> str:

@@ -1,6 +1,4 @@
 """What there is to say of a scene's text, and of the ray of a pixel: what pxplanes explain says, judged and drawn by the library."""
-from __future__ import annotations
-
 import operator
 from typing import Any, NamedTuple, Optional
 

@@ -1,8 +1,6 @@
 """What there is to say of a scene's text: why it is refused and what to write, or what it looks like.
 
 Whoever judges texts and draws them is a `Judge`: the program, the library, or nobody."""
-from __future__ import annotations
-
 import re
 from typing import Any, NamedTuple, Optional, Sequence
 
@@ -88,7 +86,7 @@ def meant(old: bytes, changes: list[readings.Change]) -> str:
 def place_of(text: bytes, note: str, known: scenes.Refusal, number: int, mistake: Optional[readings.Mistake], other: Optional[str]) -> Place:
     """A mistake as the answer has it: the program's line, the line of the text with marks, what is expected there, and what to write."""
     is_answer = isinstance(known, after_end.Unanswered)
-    cause, own = (note, number) if is_answer else (readings.cause_of(known), int(note.split(":")[0].split(" ")[-1]))
+    cause, own = (note, number) if is_answer else (known.cause, known.number)
     lines = scenes.cut_lines(text)
     line = lines[own - 1] if 0 < own <= len(lines) else b""
     start, stop = known.span or (0, 0)
@@ -112,7 +110,7 @@ def place_of(text: bytes, note: str, known: scenes.Refusal, number: int, mistake
 
 def refused(judge: Judge, text: bytes, note: str, known: scenes.Refusal) -> list[Place]:
     """The mistakes of a refused text, each in the text with those before it mended or left out."""
-    number, other = int(note.split(":")[0].split(" ")[-1]), kinds.cure(text)
+    number, other = known.number, kinds.cure(text)
     mending = None if other else readings.mended(text)
     found = mending.mistakes if mending else []
     places = []

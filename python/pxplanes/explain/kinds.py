@@ -1,6 +1,4 @@
 """Names a file that is no scene, and the word of the command that takes it, by how it begins."""
-from __future__ import annotations
-
 import re
 import struct
 from typing import Optional

@@ -1,7 +1,5 @@
 """What was expected in the first bad line of a listing, or what its limit is: what `explain` adds to a refusal. It is no tool itself.
 The forms and limits are those of docs/LISTINGS.md."""
-from __future__ import annotations
-
 import difflib
 from typing import Any
 

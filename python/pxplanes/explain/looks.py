@@ -3,8 +3,6 @@ wrong with it. What `explain` reports; docs/PICTURE.md has the meaning that it u
 
 A hint is a pair of a heading, LIKELY or LOOK, and a sentence. LIKELY is said where hardly anybody means what is written,
 LOOK where a good scene may have it too."""
-from __future__ import annotations
-
 import copy
 import textwrap
 from typing import Any, Callable, Iterable, Iterator, Optional

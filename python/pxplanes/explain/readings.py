@@ -2,8 +2,6 @@
 
 A reading is the scene that such a text means. A line is mended only if its nearest readings are one and the same scene, and the
 mended line keeps every number, sign and name that the written one has. Otherwise they are candidates."""
-from __future__ import annotations
-
 import copy
 import re
 import unicodedata
@@ -96,13 +94,7 @@ def first_mistake(lines: Lines) -> tuple[Optional[scenes.Refusal], int]:
         scenes.pixel_memory(scenes.read(joined(lines)))
         return None, len(lines)
     except scenes.Refusal as refusal:
-        number = int(refusal.note.split(":")[0].split(" ")[-1])
-        return refusal, len(lines) if number == 0 or cause_of(refusal) == "missing-end" else number - 1
-
-
-def cause_of(refusal: scenes.Refusal) -> str:
-    """The word of the language for what is wrong."""
-    return str(refusal.note.split(": ")[1].split(" ")[0])
+        return refusal, len(lines) if refusal.number == 0 or refusal.cause == "missing-end" else refusal.number - 1
 
 
 def distance(one: str, other: str) -> int:
@@ -190,7 +182,7 @@ class Search:
     """Finds the readings of one refused line."""
 
     def __init__(self, lines: Lines, refusal: scenes.Refusal, at: int, has_order: bool):
-        self.lines, self.refusal, self.at, self.cause, self.has_order = lines, refusal, at, cause_of(refusal), has_order
+        self.lines, self.refusal, self.at, self.cause, self.has_order = lines, refusal, at, refusal.cause, has_order
         self.before = Judge().after(lines[:at])
         self.statements = [place for place, line in enumerate(lines) if words_of(line)]
 
@@ -353,7 +345,7 @@ def version_of(lines: Lines) -> bytes:
 
 def stand_in(lines: Lines, refusal: scenes.Refusal, at: int) -> Optional[bytes]:
     """A line that stands for a refused one, so that what follows can be read; None if it does not say what may follow."""
-    if at == len(lines) or cause_of(refusal) not in OWN_LINE and not refusal.note.startswith("limit"):
+    if at == len(lines) or refusal.cause not in OWN_LINE and not refusal.note.startswith("limit"):
         return None
     before, words = Judge().after(lines[:at]), words_of(lines[at])
     if words[0] == "solid":

@@ -1,6 +1,4 @@
 """The libraries that work on pixels. If one is missing, a line names its package."""
-from __future__ import annotations
-
 import importlib
 from typing import Any
 

@@ -2,8 +2,6 @@
 
 OpenImageIO reads EXR, TIFF, HDR, PNG and many more. Netpbm with two images in one file, NPY, text and bare floats are
 read here."""
-from __future__ import annotations
-
 import fnmatch
 import io
 import mmap

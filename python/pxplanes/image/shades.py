@@ -1,6 +1,4 @@
 """The pictures of show.py in NumPy, for maps of any size."""
-from __future__ import annotations
-
 from typing import Any, Callable, Iterable, Sequence
 
 import numpy as np
@@ -59,12 +57,10 @@ def by_table(numbers: Numbers, colours: Callable[[list[int]], list[show.Colour]]
     found = np.flatnonzero(is_there)
     table = np.zeros((is_there.size, 3), np.uint8)
     table[found] = [colours([int(number)])[0] for number in found]
-    pixels: Pixels = table[numbers]
-    return pixels
+    return table[numbers]
 
 
 def enlarged(pixels: Pixels, wanted_side: int = 512) -> Pixels:
     """A small picture enlarged by a whole factor, up to the wanted side."""
     factor = wanted_side // max(pixels.shape[:2])
-    large: Pixels = pixels.repeat(factor, 0).repeat(factor, 1) if factor > 1 else pixels
-    return large
+    return pixels.repeat(factor, 0).repeat(factor, 1) if factor > 1 else pixels

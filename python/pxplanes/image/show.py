@@ -1,6 +1,4 @@
 """Colours for maps of numbers: depths, faces, lights and distances as pictures that a person can look at."""
-from __future__ import annotations
-
 import colorsys
 import math
 import os

@@ -1,8 +1,6 @@
 """A debugger for people, over the broadcasts of a scene or a listing: it says in words where the machine is, and what changed.
 
 The answers come from `pxplanes debug`, which runs as long as the debugger does, or for a listing from the library."""
-from __future__ import annotations
-
 import bisect
 import difflib
 import subprocess

@@ -2,8 +2,6 @@
 
 `pxplanes debug` holds sessions over scenes. Over a listing `held` answers the same lines in the same words, by what the
 library says of its states and microinstructions; all but `field`, as a listing has no keys."""
-from __future__ import annotations
-
 import bisect
 import itertools
 from typing import Callable, Optional, Sequence

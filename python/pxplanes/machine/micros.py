@@ -1,7 +1,5 @@
 """The microinstructions of broadcast operations, by the tables of docs/MACHINE.md, and what each act makes of a pixel.
 It is no tool itself. It reads listings (docs/LISTINGS.md) that the program wrote or accepts."""
-from __future__ import annotations
-
 from typing import Any, Callable, Iterator, Sequence
 
 from pxplanes.errors import Trouble

@@ -1,6 +1,4 @@
 """The operations of a text, each with what it is for."""
-from __future__ import annotations
-
 import ctypes
 import operator
 from typing import NamedTuple, Optional

@@ -1,8 +1,6 @@
 """What the operations of a text are for, in words: docs/PASSES.md, step by step.
 
 words.json has the words, which the page reads too, and the forms of operations by the letters of docs/LISTINGS.md."""
-from __future__ import annotations
-
 import itertools
 import json
 import os

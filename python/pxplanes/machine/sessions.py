@@ -1,7 +1,5 @@
 """Sessions of `pxplanes debug` for the tools: how a text is cut, and which lines answer which command.
 It is no tool itself."""
-from __future__ import annotations
-
 import re
 from typing import Callable, NamedTuple, Optional, Sequence
 

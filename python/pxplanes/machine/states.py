@@ -1,6 +1,4 @@
 """The machine at any of its clocks."""
-from __future__ import annotations
-
 import array
 import copy
 import ctypes

@@ -1,6 +1,4 @@
 """Waveforms as VCD, the form of IEEE 1364 that GTKWave and others read. Strings are as GTKWave added them to it."""
-from __future__ import annotations
-
 from typing import Any, Iterable, Optional, Sequence, Union
 
 FIRST, LAST = 33, 126

@@ -4,8 +4,6 @@ A VCD file has a clock of 10 ns; the number of the clock, of the operation (`mac
 of the operation; the operation, and what is broadcast, as the tree's operation and the act, with the lines c, a and
 b while the tree is fed; of each pixel enable, carry, latch and the bit of its leaf; both keys as numbers, and the bits alive and
 par, which a listing does not have. At time 10 n clock n begins: a value is that of the clock, before it is over."""
-from __future__ import annotations
-
 import re
 from typing import Any, Iterable, Iterator, Optional, Sequence
 

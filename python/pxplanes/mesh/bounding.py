@@ -1,7 +1,5 @@
 """Which planes of a solid bound it at the pixels of a picture: by those alone it has the same cells and the same faces
 at each of them, as docs/PICTURE.md has these. What `model` draws a solid by that has very many facets."""
-from __future__ import annotations
-
 from typing import Any
 
 from pxplanes.scene import rays

@@ -4,8 +4,6 @@ that, or two distances, and turn depths into distances along the axis.
 
 A depth is K (1/near - 1/Z), with K cells from near to far: in it a plane of the model is linear on
 the screen, so that the machine draws it as it is (docs/MODELLING.md, "Perspective")."""
-from __future__ import annotations
-
 import math
 import re
 from typing import Any, Optional, Sequence

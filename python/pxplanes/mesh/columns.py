@@ -4,8 +4,6 @@
 A column is a triangle's plane as a front and its edges in the picture as sides: what is behind the triangle. 255 of
 them make a scene, whose picture is a window around the pixels at which they are seen; the nearer depth of all windows
 is the picture. Needs NumPy."""
-from __future__ import annotations
-
 import concurrent.futures
 import itertools
 import math

@@ -1,7 +1,5 @@
 """Where the rays of a picture meet the triangles of a mesh, clean or not, in double precision: what a
 kernel's result has at a pixel. It knows nothing of half-spaces or of the expression."""
-from __future__ import annotations
-
 import math
 from typing import Any
 

@@ -1,7 +1,5 @@
 """The scene in other programs' words: POV-Ray, OpenSCAD, a mesh of each solid as OBJ or glTF, and JSON. Each gives
 the text or the bytes, and what of the scene it does not say. What `convert` writes of a scene."""
-from __future__ import annotations
-
 import itertools
 import json
 import operator

@@ -1,8 +1,6 @@
 """From points and facets to convex solids: the planes of a convex one, and the convex parts of one
 that is not. A facet is a list of the numbers of its points; a plane is the normal, of length 1 and
 out of the solid, and its distance from the origin. Points are as exact as the digits that their file has."""
-from __future__ import annotations
-
 import collections
 import math
 from fractions import Fraction

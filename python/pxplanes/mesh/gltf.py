@@ -1,7 +1,5 @@
 """Reads glTF 2.0: .glb, and .gltf with its buffers embedded or in files next to it. Its metres and its y axis upwards
 become millimetres and a z axis upwards."""
-from __future__ import annotations
-
 import base64
 import json
 import os

@@ -1,6 +1,4 @@
 """What the modules of this folder pass to one another, by name."""
-from __future__ import annotations
-
 from fractions import Fraction
 from typing import Any, Optional, Sequence, Union
 

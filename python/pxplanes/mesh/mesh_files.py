@@ -1,7 +1,5 @@
 """Reads the files OFF, STL, OBJ, PLY, 3MF and glTF: what `convert` draws from. A mesh is points, and facets as lists of
 the numbers of their points. Only 3MF and glTF say their unit: they become millimetres."""
-from __future__ import annotations
-
 import io
 import re
 import struct

@@ -1,6 +1,4 @@
 """Has OpenSCAD make what `model` cannot: a .csg of a .scad, and a mesh of a node of a .csg."""
-from __future__ import annotations
-
 import os
 import re
 import shutil

@@ -1,7 +1,5 @@
 """Lays a model before a perspective camera, where each plane is rounded to be true in the middle of its
 faces in the picture. What `model --projection p` draws by; cameras.py has the formulas."""
-from __future__ import annotations
-
 import math
 from typing import Any, Optional, Sequence
 

@@ -1,7 +1,5 @@
 """OpenSCAD's primitives as points and facets: what `model` draws from. A facet is a list of the
 numbers of its points."""
-from __future__ import annotations
-
 import math
 from typing import Any, Sequence
 

@@ -1,7 +1,5 @@
 """What OpenSCAD makes of other shapes, where the outcome is convex: hulls, sums, prisms and turned
 profiles. Convex flat shapes are their corners in order; convex solids are points and planes."""
-from __future__ import annotations
-
 import math
 from typing import Any
 

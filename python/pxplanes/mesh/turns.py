@@ -1,7 +1,5 @@
 """Turns of a model, as OpenSCAD's $vpr has them: three rows, the picture's right, away and up in
 the model's axes."""
-from __future__ import annotations
-
 import math
 
 from pxplanes.mesh import kinds

@@ -1,7 +1,5 @@
 """Compares a mesh with the expression that it was made of: the program's pictures of the expression, from several sides
 and through cuts, with rays through the mesh. `pxplanes compare` and `tools/dev/league` judge by it."""
-from __future__ import annotations
-
 import collections
 import math
 import os

@@ -1,6 +1,4 @@
 """A film: the page with one scene or listing in it, which plays the machine's broadcasts."""
-from __future__ import annotations
-
 import json
 import re
 

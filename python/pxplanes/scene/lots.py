@@ -1,6 +1,4 @@
 """Random scenes: one seed gives the same scene each time. What `conform` tries in addition to its suite."""
-from __future__ import annotations
-
 import random
 
 SIGNS = "+++**--^"

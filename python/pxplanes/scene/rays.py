@@ -1,7 +1,5 @@
 """The rays of a scene, as docs/PICTURE.md has them: where each solid begins and ends at a pixel, and
 what the shown expression shows there. It is no part of the program, and judges no scene."""
-from __future__ import annotations
-
 import operator
 from typing import Any, Callable, Optional, TypeVar
 

@@ -1,7 +1,5 @@
 """Reads a scene's text as docs/SCENES.md says, and reports all that there is to say of its first bad
 line: the word, what was expected there, the limit, the cure. What `explain` and `compare` share."""
-from __future__ import annotations
-
 import difflib
 import re
 from typing import Any, Iterable, Optional, Sequence, Union
@@ -54,6 +52,16 @@ class Refusal(Exception):
         Exception.__init__(self, note)
         self.note, self.span = note, span
         self.due, self.limit, self.cure = due, limit, cure
+
+    @property
+    def number(self) -> int:
+        """The number of its line, from 1; 0 for the whole text."""
+        return int(self.note.split(":")[0].split(" ")[-1])
+
+    @property
+    def cause(self) -> str:
+        """The word of the language for what is wrong."""
+        return self.note.split(": ")[1].split(" ")[0]
 
 
 class Face:

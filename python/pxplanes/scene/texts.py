@@ -1,7 +1,5 @@
 """Writes the text of a scene, and of scenes made of one: coarser, finer, or a tile of it. A plane
 keeps its values where the pixels are the same (docs/PICTURE.md, "Refinement" and "Tiles")."""
-from __future__ import annotations
-
 import copy
 from typing import Callable
 

@@ -2,8 +2,6 @@
 `copy` copies the suite.
 
 All three need NumPy, and OpenImageIO to read the golden maps (docs/COMPARE.md)."""
-from __future__ import annotations
-
 from typing import TYPE_CHECKING, Any
 
 if TYPE_CHECKING:

@@ -1,6 +1,4 @@
 """Copies the suite into a renderer's own repository, with a README and examples for CI."""
-from __future__ import annotations
-
 import os
 import shutil
 

@@ -1,6 +1,4 @@
 """The suite: its scenes, its manifest and its golden maps."""
-from __future__ import annotations
-
 import json
 import os
 from dataclasses import dataclass

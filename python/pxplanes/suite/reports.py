@@ -1,6 +1,4 @@
 """The outcome of a run in files: JSON for programs, JUnit for CI, and a page with the pictures that differ."""
-from __future__ import annotations
-
 import base64
 import html
 import json

@@ -1,7 +1,5 @@
 """Tries a renderer on the scenes of the suite: what it draws of each, whether that is right, and the cause of all that
 is not."""
-from __future__ import annotations
-
 import concurrent.futures
 import fnmatch
 import os
@@ -29,9 +27,6 @@ from pxplanes.suite.golden import Case
 ALIKE, DIFFERS, NOT_COMPARED = "alike", "differs", "not compared"
 NOT_STARTED = (126, 127)      # what a shell ends with if it finds no program, or may not run it
 LONGEST, HALF_A_CELL = 150, 0.5
-answer: Callable[..., Any] = program.answer
-needed: Callable[[Optional[str]], str] = program.needed
-random_scene: Callable[[int], str] = lots.scene_of
 
 
 @dataclass(frozen=True)
@@ -128,7 +123,7 @@ def run(renderer: str, settings: Settings = Settings(), expected: Sequence[str] 
     cases = [case for case in all_cases(settings) if is_chosen(case, settings)]
     if not cases:
         raise Trouble("no scene is chosen: --scenes takes KIND/NAME, where * stands for any, or a level (%s)" % ", ".join(golden.LEVELS))
-    built = None if settings.golden else needed(None)
+    built = None if settings.golden else program.needed(None)
     rows: list[Row] = []
 
     def add(row: Row) -> None:
@@ -157,7 +152,7 @@ def all_cases(settings: Settings) -> Iterator[Case]:
     if settings.suite == golden.SUITE and os.path.isdir(golden.GALLERY):
         yield from golden.scenes_in(golden.GALLERY, "gallery")
     for seed in range(settings.seed, settings.seed + settings.random):
-        yield golden.case("random", "seed_%d" % seed, random_scene(seed).encode())
+        yield golden.case("random", "seed_%d" % seed, lots.scene_of(seed).encode())
 
 
 def is_chosen(case: Case, settings: Settings) -> bool:
@@ -188,7 +183,7 @@ def ours_of(case: Case, settings: Settings, built: Optional[str]) -> Maps:
         shown = picture(case.scene, RIGHT, *grid(case.scene))
         size = case.scene.height, case.scene.width
         return Maps(shown.depths.reshape(size), shown.faces.reshape(size))
-    status, output, note = answer(built, [], case.text)
+    status, output, note = program.answer(built, [], case.text)
     if status != 0:
         raise Trouble("the program does not draw %s: %s" % (case.title, note))
     depths, faces = maps.maps_of(output)

@@ -1,7 +1,5 @@
 """Finds the smallest scene on which a renderer still differs: smaller windows, then solids, planes, rows, bits and
 numbers."""
-from __future__ import annotations
-
 import itertools
 import pickle
 import time
@@ -15,16 +13,12 @@ from pxplanes.suite.running import DIFFERS, Row, Settings
 
 WINDOWS = (1, 2, 4, 8, 16, 32, 64, 128, 256)
 KINDS = ("sides", "fronts", "backs")
-folded: Callable[..., Any] = rays.folded
-tile: Callable[..., Any] = texts.tile
-text_of: Callable[[Any], str] = texts.text_of
-find_program: Callable[[Optional[str]], Optional[str]] = program.find
 
 
 def plain(scene: Any) -> str:
     """The text of a scene, each face in the colour of its solid, which takes no words."""
     return "\n".join(" ".join(words[:4]) if words[:1] in (["front"], ["back"]) else " ".join(words)
-                     for words in (line.split() for line in text_of(scene).split("\n")))
+                     for words in (line.split() for line in texts.text_of(scene).split("\n")))
 
 
 def without_unused(scene: Any) -> Any:
@@ -41,7 +35,7 @@ def parts(show: list[Any]) -> list[list[Any]]:
         smaller = [left[0], right[0]] + [each + right[0] + [sign] for each in left[1]] + [left[0] + each + [sign] for each in right[1]]
         return left[0] + right[0] + [sign], smaller
 
-    found: list[list[Any]] = folded(show, lambda at: ([at], []), join)[1]
+    found: list[list[Any]] = rays.folded(show, lambda at: ([at], []), join)[1]
     return found
 
 
@@ -73,15 +67,16 @@ def windows(scene: Any, x: int, y: int) -> Iterator[Any]:
         wide, high = min(size, scene.width), min(size, scene.height)
         if (wide, high) != (scene.width, scene.height):
             for left, top in dict.fromkeys(((x - wide // 2, y - high // 2), (x - wide + 1, y - high + 1), (x, y))):
-                yield tile(scene, max(0, min(left, scene.width - wide)), max(0, min(top, scene.height - high)), wide, high)
+                x, y = max(0, min(left, scene.width - wide)), max(0, min(top, scene.height - high))
+                yield texts.tile(scene, x, y, wide, high)
 
 
 def fewer_rows(scene: Any) -> Iterator[Any]:
     for wide, high in ((1, 0), (0, 1)):
         if (scene.width, scene.height)[high] > 1:
             size = scene.width - wide, scene.height - high
-            yield tile(scene, wide, high, *size)
-            yield tile(scene, 0, 0, *size)
+            yield texts.tile(scene, wide, high, *size)
+            yield texts.tile(scene, 0, 0, *size)
 
 
 def fewer_bits(scene: Any) -> Iterator[Any]:
@@ -120,7 +115,7 @@ class Shrinker:
 
     def __init__(self, renderer: str, settings: Settings, seconds: float, say: Callable[[str], None]):
         self.renderer, self.settings, self.say = renderer, settings, say
-        self.program, self.end = find_program(None), time.monotonic() + seconds
+        self.program, self.end = program.find(None), time.monotonic() + seconds
         self.tried, self.has_map = 0, True
         self.lost: set[str] = set()      # the texts that do not differ so
 
@@ -188,7 +183,7 @@ def shrink(text: bytes, renderer: str, settings: Settings = Settings(), seconds:
         raise Trouble("the renderer is one command line with {scene} and {out}, as './mine {scene} {out}'")
     scene = without_unused(golden.case("scene", "small", text).named)
     shrinker = Shrinker(renderer, settings, seconds, say)
-    row = shrinker.row(text_of(scene))
+    row = shrinker.row(texts.text_of(scene))
     if row.status != DIFFERS:
         return None
     shrinker.has_map = row.found is not None
