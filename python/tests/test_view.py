@@ -1,5 +1,6 @@
 """The pictures that `pxplanes view` makes: NumPy's are those of plain Python, and small maps have the colours worked out by hand."""
 import random
+import tracemalloc
 
 import numpy as np
 import pytest
@@ -39,6 +40,15 @@ def test_a_large_file_is_read_in_bands_into_the_same_picture(what, tmp_path, mon
     made = sorted(tmp_path.glob("banded*.png"))
     assert len(made) == (1 if what else 2)
     assert [each.read_bytes() for each in made] == [each.read_bytes() for each in sorted(tmp_path.glob("whole*.png"))]
+
+
+def test_greys_of_two_pixels_need_the_memory_of_two():
+    """The nearest depth is 240, the farthest 60, and no table has all depths between."""
+    tracemalloc.start()
+    greys = shades.greys_of_depths(np.array([[5, 2 ** 24 - 1, 0]], np.uint32), np.array([[True, True, False]]), 5, 2 ** 24 - 1)
+    peak = tracemalloc.get_traced_memory()[1]
+    tracemalloc.stop()
+    assert greys.tolist() == [[[240] * 3, [60] * 3, [24, 24, 64]]] and peak < 1 << 20
 
 
 def test_a_small_map_by_hand():
