@@ -131,7 +131,7 @@ def test_windows_by_hand():
 @pytest.mark.parametrize("wide, high", [(1, 1), (1, 130), (131, 1), (67, 65), (30, 200)])
 def test_pictures_of_windows_are_whole(wide, high):
     """No window is missing, or in another's place, and the share that is drawn grows to 1."""
-    text, shares = "pxscene 1\npicture %d %d\ndepth 16\nsolid a 1 2 3\nfront 100 170 9\nsolid b 4 5 6\nside 3 -2 0\nshow (b + a)\nend\n" % (wide, high), []
+    text, shares = "pxscene 2\npicture %d %d\ndepth 24\nsolid a 1 2 3\nfront 1000 7000 90000\nsolid b 4 5 6\nside 3 -2 0\nshow (b + a)\nend\n" % (wide, high), []
     assert pxplanes.render(text, threads=3, progress=shares.append).maps() == pxplanes.run(text)
     assert shares == sorted(shares) and shares[-1] == 1
 
