@@ -311,6 +311,15 @@ def test_no_lines_of_a_command(lines):
     assert after_end.cut((WALLS + lines).encode()) is None
 
 
+def test_lines_are_counted_from_the_scenes_first():
+    """A scene of 13 lines: its second line after `end` is line 15 of the text."""
+    tail = after_end.cut((WALLS + "step 3\nat # where\nrun # on\n").encode())
+    assert after_end.notes(tail) == ["`pxplanes debug` takes the 3 lines after the scene", "worth a look: line 15 has a comment: `pxplanes trace` drops it, "
+                                     "and `pxplanes debug` answers `? line 2`"]
+    assert after_end.notes(after_end.cut((WALLS + "light a # b\n").encode())) == ["`pxplanes shadow` takes the 1 line after the scene"]
+    assert after_end.mended((WALLS + "light a\nligth roof\n").encode()).changes == [(15, "write light roof")]
+
+
 def test_half_of_the_lines_are_enough():
     for lines, word in (("light wall\nhello you\n", "shadow"), ("\nhello\n\nstpe 3\n", "debug")):
         assert after_end.cut((WALLS + lines).encode()).word == word
