@@ -5,6 +5,8 @@ import sys
 
 import pytest
 import support
+from pxplanes.batch import tiff
+from pxplanes.errors import Trouble
 
 FIRST = os.path.join(support.TOP, "docs", "scenes", "first.scene")
 TRIANGLE = os.path.join(support.TOP, "docs", "scenes", "triangle.scene")
@@ -42,7 +44,7 @@ def test_words_with_numbers(built, batch, tmp_path):
     assert "is none of" in batch("draw", FIRST, "-o", tmp_path).stderr
 
 
-@pytest.mark.parametrize("word, wanted", [("view", ["view"]), ("view --show depths", ["view", "--show", "depths"])])
+@pytest.mark.parametrize("word, wanted", [("view", ["view"]), *(("view --show " + what, ["view", "--show", what]) for what in ("depths", "faces"))])
 def test_view(built, batch, tmp_path, word, wanted):
     """PNG pictures, which are those of `pxplanes view`; of a refused scene none."""
     bad = tmp_path / "bad.scene"
@@ -151,3 +153,50 @@ def test_poster_as_tiff(built, batch, tmp_path):
     assert read("p.tif").tobytes() == colours[-3 * 48 * 32:]
     assert "multiples of 16" in batch("poster", FIRST, 96, 64, "--tile", 50, "-o", tmp_path / "q.tif").stderr
     assert not list(tmp_path.glob("q*"))
+
+
+def test_poster_as_tiff_of_many_faces(built, batch, tmp_path):
+    """Another reader of TIFF has depths of more than 16 bits, faces of more than 8, and tiles past the edges, of which no side is like another."""
+    oiio = pytest.importorskip("OpenImageIO")
+    solids = "".join("solid s%d %d 7 200\n%sfront 900 5000 %d\nside 1 0 %d\nside -1 0 %d\n" % (
+        at, 20 * at, "front 0 0 0\n" * 31, 60000 + 9 * at, -4 * at, 4 * at + 3) for at in range(10))
+    shown = "s0"
+    for at in range(1, 10):
+        shown = "(%s + s%d)" % (shown, at)
+    text = "pxscene 2\npicture 40 20\ndepth 20\n%sshow %s\nend\n" % (solids, shown)
+    (tmp_path / "many.scene").write_text(text)
+    done = batch("poster", tmp_path / "many.scene", 40, 20, "--tile", 16, "--jobs", 1, "-o", tmp_path / "p.TIFF")
+    assert done.returncode == 0, done.stderr
+    render, colour = (subprocess.run([built, word], input=text.encode(), capture_output=True).stdout for word in ("render", "colour"))
+    depths, faces = numbers(render)
+    assert max(map(max, depths)) > 65535 + 5000 * 19 and max(map(max, faces)) == 330
+
+    def read(name):
+        file = oiio.ImageInput.open(str(tmp_path / name))
+        return file.read_image(file.spec().format)
+
+    assert read("p-depth.TIFF")[:, :, 0].tolist() == depths and read("p-faces.TIFF")[:, :, 0].tolist() == faces
+    assert read("p.TIFF").tobytes() == colour[-3 * 40 * 20:]
+    assert sorted(path.name for path in tmp_path.iterdir()) == ["many.scene", "p-depth.TIFF", "p-faces.TIFF", "p.TIFF"]
+
+
+def test_refused_poster_leaves_no_tiff(built, batch, tmp_path):
+    pytest.importorskip("numpy")
+    refusing = tmp_path / "refusing"
+    refusing.write_text("#!/bin/sh\n[ \"$1\" = tile ] && echo 'limit line 0: products 9' >&2 && exit 4\nexec %s \"$@\"\n" % built)
+    refusing.chmod(0o755)
+    done = batch("poster", FIRST, 96, 64, "--tile", 48, "-o", tmp_path / "p.tif", PXPLANES_PROGRAM=str(refusing))
+    assert done.returncode == 1 and "products 9" in done.stderr and [path.name for path in tmp_path.iterdir()] == ["refusing"]
+
+
+def test_a_tiff_file_has_an_end(tmp_path, monkeypatch):
+    """What would reach over 4 GiB is refused before it is written; a tile is put after all others, wherever the file was read."""
+    monkeypatch.setattr(tiff, "LARGEST", 20)
+    with open(tmp_path / "a.tif", "w+b") as file:
+        file.write(bytes(8))
+        assert tiff.put(file, b"12345") == (8, 5)
+        file.seek(2)
+        assert tiff.put(file, b"123456") == (13, 6)
+        with pytest.raises(Trouble, match="ends at 4 GiB"):
+            tiff.put(file, b"1")
+    assert content(tmp_path / "a.tif") == bytes(8) + b"12345123456"

@@ -17,7 +17,7 @@ import pytest
 
 import support
 import pxplanes
-from pxplanes import running
+from pxplanes import pictures, running
 from pxplanes.scene import scenes
 
 FIRST = pxplanes.from_file(os.path.join(support.TOP, "docs", "scenes", "first.scene"))
@@ -120,6 +120,20 @@ def test_runs_share_a_buffer_and_keep_their_answers(monkeypatch):
     assert answers[1] == pxplanes.tidy(house).encode() and answers[8] == pxplanes.tidy(FIRST).encode() != answers[1]
     pxplanes.run(house, "list")
     assert running.KEPT["out"].count >= len(answers[0]) > running.ROOM and pxplanes.run(FIRST, "sample 3") == answers[12]
+
+
+def test_windows_by_hand():
+    """Windows are 64 rows high and half as wide as the picture, and all pixels are in one."""
+    assert pictures.windows_of(1, 1) == [(0, 0, 1, 1)] and pictures.windows_of(2, 64) == [(0, 0, 1, 64), (1, 0, 1, 64)]
+    assert pictures.windows_of(7, 65) == [(0, 0, 4, 64), (4, 0, 3, 64), (0, 64, 4, 1), (4, 64, 3, 1)]
+
+
+@pytest.mark.parametrize("wide, high", [(1, 1), (1, 130), (131, 1), (67, 65), (30, 200)])
+def test_pictures_of_windows_are_whole(wide, high):
+    """No window is missing, or in another's place, and the share that is drawn grows to 1."""
+    text, shares = "pxscene 2\npicture %d %d\ndepth 24\nsolid a 1 2 3\nfront 1000 7000 90000\nsolid b 4 5 6\nside 3 -2 0\nshow (b + a)\nend\n" % (wide, high), []
+    assert pxplanes.render(text, threads=3, progress=shares.append).maps() == pxplanes.run(text)
+    assert shares == sorted(shares) and shares[-1] == 1
 
 
 def test_threads_are_kept_and_a_forked_child_has_its_own():

@@ -7,6 +7,8 @@ import time
 
 import pytest
 from support import TOP
+import building
+from pxplanes.errors import Trouble
 
 PROGRAM = os.path.join("crates", "px_program", "out", "px_program")
 TEST = '''import os
@@ -93,3 +95,29 @@ def test_an_interrupt_leaves_nothing(tree, number):
     process.send_signal(number)
     assert process.wait() == 130
     assert subprocess.run(["pgrep", "-f", "^sleep " + seconds], capture_output=True).returncode != 0
+
+
+def test_libraries_of_other_sources_are_refused(tmp_path, monkeypatch):
+    """What `rt ci` made is used only with a note of these very sources, if no `rt check` has touched a crate since."""
+    (tmp_path / "crates.txt").write_text("px_low:\npx_top staticlib: px_low\n")
+    note, stamp = tmp_path / "proved-of", tmp_path / "crates" / "px_top" / "out" / "rlib" / "stamp"
+    stamp.parent.mkdir(parents=True)
+    monkeypatch.setattr(building.ends, "TOP", str(tmp_path))
+    monkeypatch.setattr(building, "PROVED_OF", str(note))
+
+    def is_refused(sum_of, call, *words):
+        monkeypatch.setattr(building.gate, "sum_crates", lambda: sum_of)
+        try:
+            call(*words)
+        except Trouble:
+            return True
+        return False
+
+    assert is_refused("one", building.need_proved)
+    assert is_refused("one", building.note_proved, "two") and not note.exists()
+    assert not is_refused("one", building.note_proved, "one") and not is_refused("one", building.need_proved)
+    assert is_refused("two", building.need_proved) and is_refused("on", building.need_proved)
+    stamp.touch()
+    assert is_refused("one", building.need_proved)
+    stamp.unlink()
+    assert not is_refused("one", building.need_proved)

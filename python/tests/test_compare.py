@@ -1,12 +1,14 @@
 """The command and the call `compare`: what is right, what differs, and why. Maps of scenes are worked out here, by hand."""
 import json
+from types import SimpleNamespace
 
 import numpy as np
 import pytest
 
 import pxplanes
 from calling import TOP, call, path
-from pxplanes.compare import causes, picture, verdict
+from pxplanes.compare import causes, picture, report, verdict
+from pxplanes.compare.verdict import WRONG
 from pxplanes.image import maps
 
 OURS = TOP + "/cases/drilled_block_and_post/stdout"
@@ -86,6 +88,35 @@ def test_large_files_are_compared_in_bands(tmp_path, monkeypatch):
         "  at 9 11: depths 65537 and 65542, faces 65537 and 0 (background)",
         "  at 0 19: depths 65537 and 65538, faces 65537 and 65537"])
     assert call("compare", tmp_path / "a", tmp_path / "a") == (0, ["0 of 200 pixels differ"])
+
+
+def uint32(*rows):
+    return np.array(rows, np.uint32)
+
+
+def test_ways_by_hand():
+    """Faces of one solid and kind are one way; a number past all faces is said; without faces the background is known by the far limit."""
+    wrong, words = np.ones((1, 4), np.bool_), ["", "front of a", "front of a", "b"]
+    ours, theirs = (report.Maps(None, uint32(each)) for each in ((1, 2, 3, 0), (3, 3, 4, 1)))
+    assert report.ways_in(ours, theirs, wrong, words, None) == {
+        "ours front of a, theirs b": 2, "ours b, theirs face 4": 1, "ours background, theirs front of a": 1}
+    ours, theirs = (report.Maps(uint32(each), None) for each in ((15, 3, 5, 5), (3, 15, 4, 0)))
+    assert report.ways_in(ours, theirs, wrong, words, 15) == {
+        "ours background, theirs nearer": 1, "theirs background, theirs farther": 1, "theirs nearer": 2}
+    assert report.ways_in(ours, theirs, wrong & (uint32((1, 0, 0, 0)) > 0), words, None) == {"theirs nearer": 1}
+
+
+@pytest.mark.parametrize("theirs, said", [
+    ({(1, 0): 7, (2, 3): 13, (0, 5): 9}, "3, at 1 0"), ({(0, 5): 9}, "1, at 0 5"), ({(2, 1): 9, (0, 4): 0, (1, 4): 20}, "10, at 0 4"), ({}, None)])
+def test_greatest_difference_by_hand(monkeypatch, theirs, said):
+    """Nearer or farther, the first pixel of the greatest difference; of bands of two rows of three pixels."""
+    monkeypatch.setattr(maps, "BAND", 6)
+    ours, other = np.full((6, 3), 10, np.uint32), np.full((6, 3), 10, np.uint32)
+    for (x, y), depth in theirs.items():
+        other[y, x] = depth
+    found = SimpleNamespace(state=np.where(ours == other, WRONG + 1, WRONG))
+    assert report.greatest(report.Maps(ours, None), report.Maps(other, None), found) == (
+        ["greatest difference of depths: " + said] if said else [])
 
 
 def test_a_tolerance_in_cells_and_the_first_of_many():

@@ -141,18 +141,18 @@ def test_gltf_has_its_buffer_in_it_or_beside_it(tmp_path):
 
 
 @pytest.mark.parametrize("more, why", [
-    ({"asset": {"version": "1.0"}}, "glTF 1.0, and 2.0 is read"), ({"asset": {}}, "glTF 1.0, and 2.0 is read"),
+    ({"asset": {"version": "1.0"}}, "glTF 1.0, and 2.0 is read"), ({"asset": {"version": "20.0"}}, "glTF 20.0, and"), ({"asset": {}}, "glTF 1.0, and 2.0 is read"),
     ({"extensionsRequired": ["KHR_materials_unlit", "KHR_draco_mesh_compression"]}, "KHR_draco_mesh_compression, which")])
 def test_gltf_of_another_version_or_packed_is_refused_as_that(more, why):
     content = gltf("data:application/octet-stream;base64,%s")[0]
     assert len(mesh_files.read("gltf", json.dumps({**json.loads(content), "extensionsRequired": [
-        "KHR_materials_unlit"]}).encode())[1]) == 4
+        "KHR_materials_unlit", "KHR_texture_transform", "KHR_lights_punctual", "EXT_texture_webp", "EXT_lights_ies"]}).encode())[1]) == 4
     with pytest.raises(Trouble, match=why):
         mesh_files.read("gltf", json.dumps({**json.loads(content), **more}).encode())
 
 
 @pytest.mark.parametrize("node, mesh, why", [
-    ({"skin": 0}, {}, "skins, which"), ({"weights": [0, 0.5]}, {}, "weighted morph targets"), ({}, {"weights": [1]}, "weighted morph targets"),
+    ({"skin": 0}, {}, "skins, which"), ({"skin": 0}, {"weights": [0, 1]}, "skins and weighted morph targets, which"), ({"weights": [0, 0.5]}, {}, "weighted morph targets"), ({}, {"weights": [1]}, "weighted morph targets"),
     ({"extensions": {"EXT_mesh_gpu_instancing": {}}}, {}, "EXT_mesh_gpu_instancing, which"), ({"weights": [0, 0]}, {"weights": [0]}, None)])
 def test_gltf_whose_shapes_are_posed_or_repeated_is_refused(node, mesh, why):
     said = json.loads(gltf("data:application/octet-stream;base64,%s")[0])

@@ -10,7 +10,7 @@ import pytest
 import slips
 import support
 from pxplanes import program
-from pxplanes.explain import after_end, explaining, kinds, readings
+from pxplanes.explain import after_end, explaining, kinds, looks, readings
 from pxplanes.machine import sessions
 from pxplanes.scene import scenes
 
@@ -160,6 +160,7 @@ def explained(path, *words):
 MET = {"next to it": (("side -1 0 2",), ("side 1 0 -5",), False), "farther": (("back 0 0 4",), ("front 0 0 9",), False),
        "touching": (("back 0 0 5",), ("front 0 0 5",), False), "a cell": (("back 0 0 6",), ("front 0 0 5",), True),
        "a diagonal": (("side 1 -1 -1",), ("side -1 1 0",), False), "on it": (("side 1 -1 0",), ("side -1 1 0",), True),
+       "off the diagonal": (("side 1 0 -5", "side 0 -1 2"), ("side 1 0 -5", "side 0 -1 2"), True),
        "nowhere": (("side 1 0 -99",), ("side 1 0 -5",), True)}
 
 
@@ -172,6 +173,17 @@ def test_exclusive_or_that_is_a_union(name):
     lines = explaining.answer_about(explaining.Judge(), text.encode()).lines
     assert (said not in lines) == meet
     assert not any("both sides" in line for line in explaining.answer_about(explaining.Judge(), text.replace("^", "+").encode()).lines)
+
+
+def test_some_of_many_exclusive_ors(monkeypatch):
+    """Of three ^ of 8 by 8 pixels, one is named, and the others are counted, as far as the budget goes. Both sides of a diagonal reach over all
+    columns and rows but one: 7 by 7 pixels with 3 planes of each of 6 solids."""
+    halves = "".join("solid %s 1 2 3\nside 1 -1 -1\nsolid %s 1 2 3\nside -1 1 0\n" % tuple(pair) for pair in ("ab", "cd", "ef"))
+    text = "pxscene 2\npicture 8 8\ndepth 4\n%sshow (((a ^ b) + (c ^ d)) + (e ^ f))\nend\n" % halves
+    for budget, said in ((3 * 49 * 18, " and in 2 more:"), (3 * 49 * 18 - 1, " and in 1 more:"), (49 * 18, "(a ^ b):"), (49 * 18 - 1, None)):
+        monkeypatch.setattr(looks, "BUDGET", budget)
+        hints = looks.without_meeting(scenes.read(text.encode()), looks.all_looks(scenes.read(text.encode())))
+        assert len(hints) == (said is not None) and all("in (a ^ b)" in hint and said in hint for _, hint in hints), budget
 
 
 WALLS = ("pxscene 1\npicture 16 8\ndepth 5\nsolid wall 1 2 3\nfront 0 0 9\nsolid wall2 1 2 3\nside 1 0 -3\nsolid roof 4 5 6\nfront 1 0 3\n"
@@ -210,7 +222,7 @@ AFTER = {"light wal": "light wall", "light wall3": None, "light wall wal": None,
          "light,wall roof": "light wall roof", "lights roof": "light roof", "light\troff": "light\troof", "light b": None, "light roof;": "light roof",
          "light 1 roof": None, "lamp roof": None, "Step 3": "step 3", "AT": "at", "At 3": None, "step\t\uff13": "step\t3", "step -3": None, "step \u20133": None,
          "pixel 3": None, "pixel 3,4": "pixel 3 4", "pixel 34": None, "step 3k": None, "step 1,000": None, "step 0x10": None, "step three": None, "tree": None,
-         "tree 0 1": None, "stpe 3": "step 3", "back": None, "run 5": None, "field 1 2 3": None, "step 3 # three": "", "stpe 3 # three": None, "stop 3": "step 3",
+         "tree 0 1": None, "stpe 3": "step 3", "back": None, "run 5": None, "field 1 2 3": None, "step 3 # three": "", "stpe 3 # three": None, "stop 3": "step 3", "quit\nstpe 3": "",
          "watch 1 1": None, "until 5\r": "", "Until 5\r": "until 5\r", "pixel(3,4)": None, "quit now": None, "step +3": None, "step3": "step 3"}
 
 
@@ -261,6 +273,35 @@ def test_mark_before_a_scene_with_lights():
     assert after_end.mended(text).text == WALLS.encode() + b"light roof"
 
 
+# Lines after a scene of 13 lines, and what `pxplanes shadow` says of the first wrong one, by docs/SCENES.md, with its columns.
+LIGHTS = {"light": ("malformed line 14: word-count", (0, 5)), "light wall\n\nlight wall 1a roof": ("malformed line 16: bad-name", (11, 13)),
+          "light walk 1a": ("malformed line 14: bad-name", (11, 13)), "light wall walk": ("malformed line 14: unknown-name", (11, 15)),
+          "light wall\nlamp 1a": ("malformed line 15: unexpected", (0, 4)), "light wall # light 1a": None, "light wall\n" * 8 + "# no light": None,
+          "light wall\n" * 9 + "lamp": ("limit line 22: lights 9", (0, 10)), "light wall\n" * 8 + "light 1a": ("malformed line 22: bad-name", (6, 8))}
+
+
+@pytest.mark.parametrize("lines", LIGHTS)
+def test_refusals_of_lights(built, lines):
+    text = (WALLS + lines + "\n").encode()
+    tail = after_end.cut(text)
+    found = [(str(refusal.note), refusal.span) for _, refusal in after_end.refusals(tail, scenes.read(tail.scene))]
+    assert found[:1] == ([LIGHTS[lines]] if LIGHTS[lines] else []) and program.answer(built, ["shadow"], text)[2] == (LIGHTS[lines] or ("",))[0]
+    assert after_end.mended(text).is_whole == (LIGHTS[lines] is None)
+
+
+# 2 * (24 bits of depth, and 12 of the number of 2079 faces) and 2 are 74; and a bit more for each light.
+@pytest.mark.parametrize("lights", (6, 7))
+def test_memory_of_lights(built, lights):
+    """A scene that fits the memory of `shadow` alone, 80 bits, is accepted exactly if `shadow` draws it."""
+    text = "pxscene 2\npicture 8 8\ndepth 24\n%sshow s0\nend\n" % "".join("solid s%d 1 2 3\n" % at + "front 0 0 9\n" * 32 for at in range(63))
+    text = (text + "light s0\n" * lights).encode()
+    said, own = explaining.answer_about(explaining.Judge(), text), program.answer(built, ["shadow"], text)
+    assert said.is_accepted == (own[0] == 0) == (lights < 7), own
+    assert lights > 6 or said.lines == ["accepted by `pxplanes shadow` alone, whose pixels have 80 memory bits: it needs %d" % (74 + lights)]
+    wrong = explaining.answer_about(explaining.Judge(), text.replace(b"light s0", b"light s99", 1))
+    assert not wrong.is_accepted
+
+
 # Texts whose lines after `end` are none of a command: they are a scene's with a mistake.
 NO_TAILS = ("back 0 0 9\n", "light wall\nfront 0 0 9\n", "show wall\nend\n", "hello\nlight wall\nthere\nhow are you\n", "# light wall\n")
 
@@ -268,6 +309,20 @@ NO_TAILS = ("back 0 0 9\n", "light wall\nfront 0 0 9\n", "show wall\nend\n", "he
 @pytest.mark.parametrize("lines", NO_TAILS)
 def test_no_lines_of_a_command(lines):
     assert after_end.cut((WALLS + lines).encode()) is None
+
+
+def test_lines_are_counted_from_the_scenes_first():
+    """A scene of 13 lines: its second line after `end` is line 15 of the text."""
+    tail = after_end.cut((WALLS + "step 3\nat # where\nrun # on\n").encode())
+    assert after_end.notes(tail) == ["`pxplanes debug` takes the 3 lines after the scene", "worth a look: line 15 has a comment: `pxplanes trace` drops it, "
+                                     "and `pxplanes debug` answers `? line 2`"]
+    assert after_end.notes(after_end.cut((WALLS + "light a # b\n").encode())) == ["`pxplanes shadow` takes the 1 line after the scene"]
+    assert after_end.mended((WALLS + "light a\nligth roof\n").encode()).changes == [(15, "write light roof")]
+
+
+def test_half_of_the_lines_are_enough():
+    for lines, word in (("light wall\nhello you\n", "shadow"), ("\nhello\n\nstpe 3\n", "debug")):
+        assert after_end.cut((WALLS + lines).encode()).word == word
 
 
 def test_bytes_stay():

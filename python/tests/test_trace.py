@@ -120,6 +120,23 @@ def test_faults(built, size):
         assert (answer[:1] != [] and answer[0].startswith(b"? line")) == (sessions.fault(line, *program.grid(*size)) is not None), line
 
 
+# Of lines over 16 by 16 pixels, a listing's last, by hand: where the fault is, what is wrong, and what is expected.
+COMMANDS = "step, macro, run, until, back, at, pixel, %stree, trace, quit"
+PLACES = {b"at" + b" " * 260: ((255, 262), "it has 262 bytes", "a line of at most 255 bytes"), b"step " + b"1" * 18: None,
+          b"back " + b"1" * 19: ((5, 24), "'%s' is no number" % ("1" * 19), "n of 1 to 18 digits, without a sign"),
+          b" pixel 1 2 3 44": ((11, 12), "pixel has a word too many", "pixel x y"), b"  tree 3": ((7, 8), "tree has too few words", "tree level index"),
+          b"pixel 15 16": ((9, 11), "there is no y 16", "y from 0 to 15"), b"tree 2 4": ((7, 8), "there is no index 4", "index from 0 to 3"),
+          b"stop": ((0, 4), "'stop' is no command", "one of " + COMMANDS % "field, ")}
+
+
+@pytest.mark.parametrize("line", PLACES)
+def test_places_of_faults(line):
+    assert sessions.fault(line, 16, 16) == PLACES[line]
+    assert sessions.fault(b" field 1 2", 16, 16) is None
+    assert sessions.fault(b" field 1 2", 16, 16, is_listing=True) == ((1, 6), "a listing has no keys", "one of " + COMMANDS % "")
+    assert sessions.fault(b"stop", 16, 16, is_listing=True) == ((0, 4), "'stop' is no command", "one of " + COMMANDS % "")
+
+
 def test_faults_of_a_file(built, tmp_path):
     """`trace FILE` says why a line is answered `? line N`."""
     path = tmp_path / "a.session"

@@ -1,5 +1,7 @@
 """The pictures that `pxplanes view` makes: NumPy's are those of plain Python, and small maps have the colours worked out by hand."""
 import random
+import tracemalloc
+from types import SimpleNamespace
 
 import numpy as np
 import pytest
@@ -39,6 +41,44 @@ def test_a_large_file_is_read_in_bands_into_the_same_picture(what, tmp_path, mon
     made = sorted(tmp_path.glob("banded*.png"))
     assert len(made) == (1 if what else 2)
     assert [each.read_bytes() for each in made] == [each.read_bytes() for each in sorted(tmp_path.glob("whole*.png"))]
+
+
+def test_large_files_by_hand(tmp_path, monkeypatch):
+    """Bands of 4 pixels, or of a row; raw greys, in bands too; samples to 100 are read whole; greys are known by any band of a picture."""
+    monkeypatch.setattr(maps, "LARGE_FILE", 0)
+    monkeypatch.setattr(maps, "BAND", 4)
+    assert [(rows.start, rows.stop) for rows in maps.bands((5, 2))] == [(0, 2), (2, 4), (4, 6)]
+    assert [(rows.start, rows.stop) for rows in maps.bands((2, 9))] == [(0, 1), (1, 2)]
+
+    def large(head, *samples):
+        (tmp_path / "map").write_bytes(head + bytes(samples))
+        return maps.large(str(tmp_path / "map"))
+
+    grey, = large(b"P5\n2 3\n255\n", 7, 8, 9, 10, 11, 12)
+    assert grey.kind == "grey" and not grey.is_grey_picture and grey.numbers[2, 0] == 11
+    assert np.asarray(grey.numbers).tolist() == [[7, 8], [9, 10], [11, 12]] and np.asarray(grey.numbers, np.float64).dtype == np.float64
+    assert large(b"P5\n2 3\n100\n", 7, 8, 9, 10, 11, 12) == []
+    black_and_white = (0, 0, 0, 255, 255, 255)
+    assert large(b"P6\n2 3\n255\n", 5, 5, 5, *black_and_white, *black_and_white, 0, 0, 0)[0].is_grey_picture
+    assert not large(b"P6\n2 3\n255\n", *black_and_white * 3)[0].is_grey_picture
+    options = SimpleNamespace(out="a.png", page=None, show="distances", file=str(tmp_path / "map"))
+    assert view.large(options) == [] and len(view.large(SimpleNamespace(**{**vars(options), "show": "faces"}))) == 1
+
+
+def test_a_band_without_a_face_is_background(monkeypatch):
+    monkeypatch.setattr(maps, "BAND", 2)
+    both = [maps.Map(np.array(numbers, np.uint32), "bytes") for numbers in ([[15, 15], [4, 9]], [[0, 0], [1, 2]])]
+    make = shades.of_maps(both, "depths")
+    assert make(slice(0, 1)).tolist() == [[[24, 24, 64]] * 2] and make(slice(1, 2)).tolist() == [[[240] * 3, [60] * 3]]
+
+
+def test_greys_of_two_pixels_need_the_memory_of_two():
+    """The nearest depth is 240, the farthest 60, and no table has all depths between."""
+    tracemalloc.start()
+    greys = shades.greys_of_depths(np.array([[5, 2 ** 24 - 1, 0]], np.uint32), np.array([[True, True, False]]), 5, 2 ** 24 - 1)
+    peak = tracemalloc.get_traced_memory()[1]
+    tracemalloc.stop()
+    assert greys.tolist() == [[[240] * 3, [60] * 3, [24, 24, 64]]] and peak < 1 << 20
 
 
 def test_a_small_map_by_hand():

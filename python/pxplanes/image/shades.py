@@ -44,9 +44,11 @@ def extent(parts: Iterable[Numbers]) -> tuple[int, int]:
 
 def greys_of_depths(depths: Numbers, is_shown: npt.NDArray[np.bool_], near: int, far: int) -> Pixels:
     """Greys of what is seen, light for the nearest depth and dark for the farthest; dark blue for the background."""
-    levels = show.LIGHTEST - show.RANGE * np.arange(far - near + 1) // max(far - near, 1)
-    table = np.vstack([np.repeat(levels[:, None], 3, axis=1), show.BACKGROUND]).astype(np.uint8)
-    pixels: Pixels = table[np.where(is_shown, depths - near, far - near + 1)]
+    levels: Numbers = np.subtract(depths, near, dtype=np.int64)
+    levels *= show.RANGE
+    levels //= max(far - near, 1)
+    levels = np.uint8(show.LIGHTEST) - levels.astype(np.uint8)
+    pixels: Pixels = np.where(is_shown[..., None], levels[..., None], np.array(show.BACKGROUND, np.uint8))
     return pixels
 
 
