@@ -62,6 +62,6 @@ export class Player {
     clearInterval(this.timer);
     this.timer = null;
     at("play").textContent = "play";
-    this.machine.tellPlace();
+    if (at("machine").classList.contains("quick")) this.machine.tellPlace();
   }
 }
