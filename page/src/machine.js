@@ -180,7 +180,7 @@ export class Machine {
     set(at("sum"), "hidden", !isSaid);
   }
 
-  // The clock, and the pass, the operation and the microinstruction that come next, in words; on one canvas while they cannot be read.
+  // The clock, and what comes next, in words: on one canvas while they cannot be read.
   tellPlace() {
     const {state, course, player: {isQuick}, screens: [{said: ones}]} = this;
     at("machine").classList.toggle("quick", isQuick);
@@ -192,7 +192,7 @@ export class Machine {
       : `operation ${operation} (of 0 to ${count - 1}), next its clock ${state.operationClock} (of 0 to ${course.startOf(operation + 1) - first - 1})`;
     const own = isDone ? {line: "", words: this.head.layout ? "all is done: key B has the picture" : "all is done"} : {line, words};
     const micro = state.micro ?? "nothing", does = state.micro ? treeWords(state.micro) : "";
-    // (the slider goes with the array, so that both are painted at once; it stays under a hand that moved on; quick, it moves by whole pixels)
+    // (the slider is painted with the array, by whole pixels where it is quick; it stays under a hand that moved on)
     if (this.isShown) at("clock").value = state.clock - state.clock % (isQuick && Math.ceil(state.clocks / innerWidth) || 1);
     if (isQuick) return writeLines(at("quick"), [`clock ${state.clock}   ${ones}`, `pass ${pass + 1}: ${said}`, own.words,
       `${own.line}   ${place}`, `next ${micro}   ${does}`]);

@@ -59,8 +59,8 @@ export class Wall {
     this.fit();
   }
 
-  // Draws some tiles on the sheet, and no more of it than they and those that were framed before take. A frame is a part of the sheet too,
-  // as a browser takes long to style and paint a tile again.
+  // Draws some tiles on the sheet, and no more of it than they and those that were framed before take. A frame is a part
+  // of the sheet too, as a browser takes long to style and paint a tile again.
   draw(tiles, before = []) {
     const touched = [...tiles, ...before], pen = this.sheet.getContext("2d"), wide = FRAME * devicePixelRatio;
     if (!touched.length || !this.image) return;
