@@ -57,8 +57,7 @@ export class Course {
     const operation = this.operationAt(now), pass = this.passAt(now);
     const back = (start, place) => start(place) < now ? start(place) : start(Math.max(0, place - 1));
     const moves = {
-      "start": () => 0, "run": () => this.clocks,
-      "clock-on": () => now + 1, "clock-back": () => now - 1,
+      "start": () => 0, "run": () => this.clocks, "clock-on": () => now + 1, "clock-back": () => now - 1,
       "operation-on": () => this.startOf(operation + 1),
       "operation-back": () => back(place => this.startOf(place), operation),
       "pass-on": () => this.startOfPass(pass + 1),

@@ -21,7 +21,7 @@ export function listen(page) {
     v: () => page.nextImage(1), V: () => page.nextImage(-1)};
   for (let number = 1; number <= page.parts; number++) everywhere[number] = () => page.choose(number - 1);
   const inMachine = {
-    " ": () => page.machine.play(), u: () => { at("until").focus(); at("until").select(); }, t: page.toggleText,
+    " ": () => page.machine.player.toggle(), u: () => { at("until").focus(); at("until").select(); }, t: page.toggleText,
     c: () => page.machine.strip.zoom(-1), C: () => page.machine.strip.zoom(1), z: () => page.machine.zoom(1), Z: () => page.machine.zoom(-1), n: () => page.stop(1), N: () => page.stop(-1), o: () => { at("stop").focus(); at("stop").select(); }, x: () => page.machine.turnEdges(), l: page.teach, Escape: page.teachNoMore, w: () => enter(at("planes")), k: () => enter(at("strip"))};
   for (const [key, move] of Object.entries(MOVES)) inMachine[key] = () => page.machine.move(move);
 

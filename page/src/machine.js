@@ -9,7 +9,7 @@ import {NAMES, formOf} from "./passes.js";
 import {Inside} from "./inside.js";
 import {Player} from "./play.js";
 import {Predict} from "./predict.js";
-import {Screen, at, made, passChip, set, write} from "./show.js";
+import {Screen, at, made, passChip, set, write, writeLines} from "./show.js";
 import {changedPlanes, fieldsOf, isAnyOf, onesOf, viewsOf} from "./state.js";
 import {Strip} from "./strip.js";
 import {isShown, treeOf} from "./tree.js";
@@ -66,6 +66,7 @@ export class Machine {
   // Takes another text, at a clock or after a share of its passes, with views and a pixel if they are given; if `isPlayed`
   // says by what, it plays from there.
   async load(text, head, {clock = 0, share, view, beside, pixel, isPlayed}) {
+    if (this.player.isQuick) this.stop();
     this.text = text;
     this.course = this.before = null;
     const course = await ask("program", {}, text);
@@ -86,10 +87,7 @@ export class Machine {
   }
 
   // Goes to a clock that the user chose: what plays stops.
-  go(clock) {
-    this.player.stop();
-    this.goTo(clock);
-  }
+  go(clock) { this.player.stop(); this.goTo(clock); }
 
   goTo(clock) {
     if (!this.course) return;
@@ -124,14 +122,9 @@ export class Machine {
     this.go(clock);
   }
 
-  move(name) {
-    this.player.stop();
-    this.goOn(name);
-  }
+  move(name) { this.player.stop(); this.goOn(name); }
 
   goOn(name) { if (this.course) this.goTo(this.course.moved(name, this.wanted)); }
-
-  play() { this.player.toggle(); }
 
   stop() { this.player.stop(); }
 
@@ -161,9 +154,6 @@ export class Machine {
     }
     const unknown = [this.view, this.beside].filter(name => name && !this.viewNamed(name));
     if (unknown.length) this.tell(new Trouble(`There is nothing named ${unknown.join(" or ")} to show of this text.`));
-    at("until").value = state.clock;
-    // (the slider goes with the array, so that both are painted at once; it stays under a hand that moved on)
-    if (this.isShown) at("clock").value = state.clock;
     this.paint(this.changed);
     if (isAnyOf(this.changed, this.planesOfFaces())) this.onShow();
     document.body.dataset.read = this.wall.show(state, this.changed);
@@ -190,26 +180,30 @@ export class Machine {
     set(at("sum"), "hidden", !isSaid);
   }
 
-  // The pass, the operation and the microinstruction that come next, in words.
+  // The clock, and what comes next, in words: on one canvas while they cannot be read.
   tellPlace() {
-    const {state, course} = this, isDone = state.clock === state.clocks, count = course.operations.length;
+    const {state, course, player: {isQuick}, screens: [{said: ones}]} = this;
+    at("machine").classList.toggle("quick", isQuick);
+    if (!state || !course || this.stateOf !== this.text) return;
+    const isDone = state.clock === state.clocks, count = course.operations.length;
     const operation = isDone ? count - 1 : state.operation;
     const [pass, line, words, first] = course.operations[operation] ?? [0, "", "", 0], {said, kind} = course.pass(pass);
-    const end = this.head.layout ? "all is done: key B has the picture" : "all is done";
     const place = isDone ? `${count.toLocaleString("en")} operations in ${state.clocks.toLocaleString("en")} clocks`
       : `operation ${operation} (of 0 to ${count - 1}), next its clock ${state.operationClock} (of 0 to ${course.startOf(operation + 1) - first - 1})`;
+    const own = isDone ? {line: "", words: this.head.layout ? "all is done: key B has the picture" : "all is done"} : {line, words};
+    const micro = state.micro ?? "nothing", does = state.micro ? treeWords(state.micro) : "";
+    // (the slider is painted with the array, by whole pixels where it is quick; it stays under a hand that moved on)
+    if (this.isShown) at("clock").value = state.clock - state.clock % (isQuick && Math.ceil(state.clocks / innerWidth) || 1);
+    if (isQuick) return writeLines(at("quick"), [`clock ${state.clock}   ${ones}`, `pass ${pass + 1}: ${said}`, own.words,
+      `${own.line}   ${place}`, `next ${micro}   ${does}`]);
+    at("until").value = state.clock;
+    write(at("count"), ones);
     if (this.told?.course !== course || this.told.pass !== pass)
       at("pass").replaceChildren(passChip(kind), made("span", "label", `pass ${pass + 1} of ${course.passes.length}`), ...worded(said));
-    this.told = {course, pass};
-    this.tellOperation(isDone ? end : words);
-    const parts = {"#line code": isDone ? "" : line, "#line .quiet": place, "#micro code": state.micro ?? "nothing",
-      "#micro .quiet": state.micro ? treeWords(state.micro) : ""};
+    if (this.told?.words !== own.words) at("operation").replaceChildren(...worded(own.words));
+    this.told = {course, pass, words: own.words};
+    const parts = {"#line code": own.line, "#line .quiet": place, "#micro code": micro, "#micro .quiet": does};
     for (const [selector, said] of Object.entries(parts)) write(document.querySelector(selector), said);
-  }
-
-  tellOperation(words) {
-    if (words !== this.operation) at("operation").replaceChildren(...worded(words));
-    this.operation = words;
   }
 
   fillViews() {
@@ -277,7 +271,7 @@ export class Machine {
       if (view) this.paintOne(this.screens[place], view, !isSame || isAnyOf(changed, view.planes));
     });
     this.painted = `${this.view} ${this.beside}`;
-    write(at("count"), this.screens[0].said);
+    if (!this.player.isQuick) write(at("count"), this.screens[0].said);
   }
 
   // Makes room for what is shown large.

@@ -120,8 +120,7 @@ export class Picture {
     const {depths, faces, rgb} = this.maps, grey = greys(depths, this.head.far);
     const paints = {
       colours: place => [rgb[3 * place], rgb[3 * place + 1], rgb[3 * place + 2]],
-      depths: place => grey(depths[place]),
-      faces: place => hue(faces[place])};
+      depths: place => grey(depths[place]), faces: place => hue(faces[place])};
     const {width, height} = this.head;
     this.screen.draw(width, height, painted(paints[this.image]));
     at("picture").setAttribute("aria-label", this.inWords());

@@ -1,7 +1,8 @@
 // Playing: the machine goes on by itself, by clocks, operations or passes, so many times a second, and shows each place that it comes by.
 import {at} from "./show.js";
 
-const CALM = 3, USUAL = "2";
+// So many images a second flash; words that are others more often a second are not read.
+const CALM = 3, READ = 5, USUAL = "2";
 
 export const isStill = () => matchMedia("(prefers-reduced-motion: reduce)").matches;
 
@@ -13,6 +14,8 @@ export class Player {
   }
 
   get isPlaying() { return this.timer !== null; }
+
+  get isQuick() { return this.isPlaying && Number(at("speed").value) > READ; }
 
   // Whether it may go as fast as is chosen: images that change more than three times a second are asked about first.
   mayFlash() {
@@ -59,5 +62,6 @@ export class Player {
     clearInterval(this.timer);
     this.timer = null;
     at("play").textContent = "play";
+    if (at("machine").classList.contains("quick")) this.machine.tellPlace();
   }
 }

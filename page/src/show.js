@@ -188,6 +188,13 @@ export function fitted(canvas) {
   return canvas.getContext("2d");
 }
 
+// Writes some lines on a canvas; a long one is made narrower. (A browser takes longer to lay out words and to paint them.)
+export function writeLines(canvas, lines) {
+  const {color, fontFamily, fontSize} = getComputedStyle(canvas), high = parseFloat(fontSize) * devicePixelRatio, pen = fitted(canvas);
+  Object.assign(pen, {fillStyle: color, font: `${high}px ${fontFamily}`, textBaseline: "top"});
+  lines.forEach((words, row) => pen.fillText(words.replaceAll("`", ""), 0, 1.5 * row * high, canvas.width));
+}
+
 // Gives a canvas an image of its size, of colours as `packed` gives them.
 export function put(canvas, pixels) {
   const {width, height} = canvas;

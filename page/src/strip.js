@@ -184,10 +184,10 @@ export class Strip {
     this.mark();
   }
 
-  // Marks the clock that is shown.
+  // Marks the clock that is shown, by whole pixels.
   mark() {
     const [from, to] = this.course.view;
-    at("now").style.transform = `translateX(${this.wide * (this.clock - from) / Math.max(1, to - from)}px)`;
+    at("now").style.transform = `translateX(${Math.round(this.wide * (this.clock - from) / Math.max(1, to - from))}px)`;
   }
 }
 

@@ -4,14 +4,14 @@ import {rove} from "./rove.js";
 import {made} from "./show.js";
 import {gridIn, isAnyOf} from "./state.js";
 
-const CAPTION = 13, LEAST = 33, GAP = 4;
+const CAPTION = 13, LEAST = 33, GAP = 4, FRAME = 2, FRAMED = "#f0883e";
 // The groups of planes, each with a heading; a caption below a plane says only what the heading does not.
 const GROUPS = ["", "key B", "key T", "rest"];
 
 export class Wall {
   // `onChoose` is called with the name of a view, and whether it is shown next to the large one.
   constructor(root, onChoose) {
-    Object.assign(this, {root, onChoose, tiles: [], of: null, shown: null, sheet: made("canvas", "sheet")});
+    Object.assign(this, {root, onChoose, tiles: [], framed: [], of: null, shown: null, sheet: made("canvas", "sheet")});
     this.sheet.setAttribute("aria-hidden", "true");
     root.addEventListener("keydown", event => this.key(event));
     rove(root, ".tile");
@@ -22,7 +22,7 @@ export class Wall {
   load(views, used) {
     this.tiles = views.filter(view => view.group !== "memory" || used.has(view.plane)).map(view => this.tile(view));
     this.order();
-    this.of = this.shown = this.laid = this.image = null;
+    Object.assign(this, {framed: [], of: null, shown: null, laid: null, image: null});
     this.root.replaceChildren(this.sheet, ...GROUPS.flatMap((heading, group) => {
       const own = this.tiles.filter(tile => groupOf(tile.view) === group).map(tile => tile.button);
       return heading && own.length ? [made("b", "heading", heading), ...own] : own;
@@ -46,16 +46,11 @@ export class Wall {
   // Shows a state, in which some planes changed, null for all of them. Gives how many words were read.
   show(state, changed) {
     if (this.of !== `${state.width} ${state.height}`) this.size(state);
-    let read = changed ? state.words.length : 0;
-    const drawn = this.tiles.filter(tile => {
-      const {view: {planes}, button} = tile, isChanged = isAnyOf(changed, planes);
-      button.classList.toggle("changed", changed !== null && isChanged);
-      if (isChanged) read += (planes[1] - planes[0]) * state.perPlane;
-      return isChanged;
-    });
+    const drawn = this.tiles.filter(({view: {planes}}) => isAnyOf(changed, planes)), before = this.framed;
     this.shown = state;
-    this.draw(drawn);
-    return read;
+    this.framed = changed ? drawn : [];
+    this.draw(drawn, before);
+    return drawn.reduce((read, {view: {planes: [first, end]}}) => read + (end - first) * state.perPlane, changed ? state.words.length : 0);
   }
 
   size({width, height}) {
@@ -64,13 +59,17 @@ export class Wall {
     this.fit();
   }
 
-  // Draws some tiles on the sheet, and no more of it than they take.
-  draw(tiles) {
-    if (!tiles.length || !this.image) return;
+  // Draws some tiles on the sheet, and no more of it than they and those that were framed before take. A frame is a part
+  // of the sheet too, as a browser takes long to style and paint a tile again.
+  draw(tiles, before = []) {
+    const touched = [...tiles, ...before], pen = this.sheet.getContext("2d"), wide = FRAME * devicePixelRatio;
+    if (!touched.length || !this.image) return;
     for (const {view, grid} of tiles) view.fillSmall(this.shown, grid);
-    const [left, top] = [0, 1].map(way => Math.min(...tiles.map(({box}) => box[way])));
-    const [right, bottom] = [0, 1].map(way => Math.max(...tiles.map(({box}) => box[way] + box[way + 2])));
-    this.sheet.getContext("2d").putImageData(this.image, 0, 0, left, top, right - left, bottom - top);
+    const [left, top] = [0, 1].map(way => Math.min(...touched.map(({box}) => box[way])) - wide);
+    const [right, bottom] = [0, 1].map(way => Math.max(...touched.map(({box}) => box[way] + box[way + 2])) + wide);
+    pen.putImageData(this.image, 0, 0, left, top, right - left, bottom - top);
+    Object.assign(pen, {strokeStyle: FRAMED, lineWidth: wide});
+    for (const {box: [x, y, columns, rows]} of this.framed) pen.strokeRect(x - wide / 2, y - wide / 2, columns + wide, rows + wide);
   }
 
   // Gives the sheet the size of the wall, and draws all of it.
@@ -82,7 +81,8 @@ export class Wall {
       const {offsetLeft, offsetTop, offsetWidth, offsetHeight} = tile.place;
       tile.box = [offsetLeft, offsetTop, offsetWidth, offsetHeight].map(each => Math.round(each * times));
     }
-    const ends = [0, 1].map(way => Math.max(1, ...tiles.map(({box}) => box[way] + box[way + 2])));
+    const ends = [0, 1].map(way => Math.max(1, ...tiles.map(({box}) => Math.ceil(box[way] + box[way + 2] + FRAME * times))));
+    ends[0] = Math.max(1, Math.min(ends[0], Math.floor(this.root.clientWidth * times)));
     Object.assign(sheet, {width: ends[0], height: ends[1]});
     Object.assign(sheet.style, {width: ends[0] / times + "px", height: ends[1] / times + "px"});
     this.image = new ImageData(...ends);

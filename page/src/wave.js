@@ -38,8 +38,7 @@ class Sizes {
 // The name, the bits and the kind of each line.
 function linesOf({micros, pixels}, bits) {
   const before = pixels.slice(0, -1), line = at => micros.map(micro => micro.tree === "feed" ? micro.lines[at] : null);
-  return [
-    ["line c", line(2), "line"], ["line a", line(0), "line"], ["line b", line(1), "line"],
+  return [["line c", line(2), "line"], ["line a", line(0), "line"], ["line b", line(1), "line"],
     ["leaf", before.map(pixel => pixel.leaf), "register"], ["carry", before.map(pixel => pixel.carry), "register"],
     ["latch", before.map(pixel => pixel.latch), "register"], ["enable", before.map(pixel => pixel.enable), "register"],
     ...bits.map(([name, at]) => [name, before.map(pixel => Number(pixel.memory[at])), "memory"])];

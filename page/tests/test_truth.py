@@ -298,3 +298,21 @@ def test_a_refusal_has_its_place_and_at_most_one_change(page: Browser, typed: st
     assert text_of(page, "#verdict .note").startswith(("malformed line 18: ", "limit line 18: "))
     assert says in text_of(page, "#verdict")
     assert page.run("document.querySelector('.cure button')?.textContent ?? null") == action
+
+
+def test_what_quick_play_hides_is_of_the_clock_that_is_shown_after_it(page: Browser) -> None:
+    """While it plays too fast to be read, no word of an earlier clock is in sight; where it stops, the words are those of that clock."""
+    words = "['until', 'clock', 'of', 'count', 'line', 'micro', 'operation'].map(id => document.getElementById(id)).map(each => each.value ?? each.textContent)"
+    alone(page, fragment="#s=first&t=machine&c=0&v=enable")
+    page.until("document.body.dataset.shown === '0'")
+    page.run("(studio.machine.player.isAllowed = true, document.getElementById('speed').value = '30', document.getElementById('play').click())")
+    page.until("Number(document.body.dataset.frames) > 6 && document.getElementById('machine').classList.contains('quick')")
+    in_sight = "['until', 'of', 'count', 'pass', 'line', 'micro', 'operation', 'quick'].filter(id => getComputedStyle(document.getElementById(id)).visibility === 'visible')"
+    assert page.run(in_sight) == ["quick"]
+    page.run("document.getElementById('play').click()")
+    page.until("studio.machine.isShown")
+    clock, found = page.run("Number(document.body.dataset.shown)"), page.run(words)
+    assert "quick" not in page.run(in_sight) and clock > 0 and found[:2] == [str(clock)] * 2
+    go(page, 0)
+    go(page, clock)
+    assert page.run(words) == found
