@@ -1,12 +1,15 @@
 """Batches: without GNU parallel, one run at a time, a reference that is not there, a disk that is full, words with numbers."""
+import io
 import os
+import struct
 import subprocess
 import sys
 
 import pytest
 import support
-from pxplanes.batch import tiff
+from pxplanes.batch import poster, tiff
 from pxplanes.errors import Trouble
+from pxplanes.scene import scenes
 
 FIRST = os.path.join(support.TOP, "docs", "scenes", "first.scene")
 TRIANGLE = os.path.join(support.TOP, "docs", "scenes", "triangle.scene")
@@ -200,3 +203,34 @@ def test_a_tiff_file_has_an_end(tmp_path, monkeypatch):
         with pytest.raises(Trouble, match="ends at 4 GiB"):
             tiff.put(file, b"1")
     assert content(tmp_path / "a.tif") == bytes(8) + b"12345123456"
+
+
+def test_tags_of_a_tiff_file():
+    """By TIFF 6.0 the tags begin at an even place, and 262 says that three samples are red, green and blue, or that 0 of one is black."""
+    numpy = pytest.importorskip("numpy")
+    for samples, wanted in ((3, 2), (1, 1)):
+        file = io.BytesIO(b"12345678odd")
+        tiff.finish(file, 16, 16, 16, numpy.dtype("u1"), samples, [(8, 3)])
+        data = file.getvalue()
+        count, = struct.unpack_from("<H", data, 12)
+        tags = dict(struct.unpack_from("<H6xH", data, 14 + 12 * at) for at in range(count))
+        assert data[:8] == b"II*\0\x0c\0\0\0" and data[11] == 0 and tags[262] == wanted and list(tags) == sorted(tags)
+
+
+def test_tiles_of_another_poster_are_not_taken(tmp_path):
+    """Tiles are kept for a poster of the same scene, size and program alone, and only if all three files are there."""
+    pytest.importorskip("numpy")
+    piece, scene = next(poster.pieces_of(32, 16, 16)), scenes.read(content(FIRST))
+
+    def tiled(total):
+        made = poster.Tiled(str(tmp_path / "p.tif"), 32, 16, 16, total, scene)
+        had = made.has(piece)
+        if not had:
+            made.put(piece, 2 * (b"P6\n16 16\n255\n" + bytes(3 * 16 * 16)))
+        for file in made.files:
+            file.close()
+        return had
+
+    assert [tiled(total) for total in ("one", "one", "two", "two")] == [False, True, False, True]
+    (tmp_path / "p-faces.tif.part").unlink()
+    assert [tiled("two"), tiled("two")] == [False, True]
