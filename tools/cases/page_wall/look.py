@@ -25,13 +25,15 @@ REGISTERS = {"enable": 6, "carry": 8, "latch": 10, "leaf": 12}
 # whether it is framed, and the colours of some places.
 WALL = """places => {
   const {wall, state} = studio.machine, {sheet} = wall, pixels = new Uint32Array(state.width * state.height);
-  const parts = () => sheet.getContext("2d").getImageData(0, 0, sheet.width, sheet.height).data.join();
-  const now = parts();
+  const parts = () => sheet.getContext("2d").getImageData(0, 0, sheet.width, sheet.height).data;
+  const shown = parts(), now = shown.join();
+  // a frame is around an image, and orange
+  const isFramed = (x, y) => [240, 136, 62].every((part, at) => shown[4 * (y * sheet.width + x) + at] === part);
   wall.lay();
-  return [parts() === now, wall.tiles.map(({view, button}) => {
+  return [parts().join() === now, wall.tiles.map(({view, button, box: [x, y, wide, high]}) => {
     const caption = button.querySelector("span").textContent, key = /^key ([BT]) /.exec(button.title);
     view.fill(state, pixels);
-    return [key ? `${key[1]} ${caption}` : caption, button.title, button.classList.contains("changed"),
+    return [key ? `${key[1]} ${caption}` : caption, button.title, isFramed(x - 1, y + (high >> 1)) || isFramed(x + wide, y + (high >> 1)),
       places.map(([x, y]) => [0, 8, 16].map(by => pixels[y * state.width + x] >>> by & 255))];
   })];
 }"""
