@@ -165,6 +165,15 @@ def test_gltf_whose_shapes_are_posed_or_repeated_is_refused(node, mesh, why):
             mesh_files.read("gltf", json.dumps(said).encode())
 
 
+def test_gltf_without_scenes_has_each_shape_once():
+    said = json.loads(gltf("data:application/octet-stream;base64,%s")[0])
+    del said["scenes"], said["scene"]
+    said["nodes"][0]["translation"] = [0, 0, 2]
+    points, sides = mesh_files.read("gltf", json.dumps(said).encode())
+    # (2 metres along the file's z axis are 2000 millimetres along ours against y)
+    assert len(sides) == 4 and [tuple(point) for point in points] == [(x, y - 2000, z) for x, y, z in MILLIMETRES]
+
+
 def test_gltf_places_its_nodes_and_reads_strips():
     # A quarter turn about the file's y axis takes z to x and x to -z; then twice as large in x, and 1 metre up.
     half = 0.5 ** 0.5

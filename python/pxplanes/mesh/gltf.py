@@ -128,9 +128,10 @@ class File:
 
     def placed(self) -> Iterator[tuple[kinds.Matrix, dict[str, Any]]]:
         """Each primitive of the scene, with its place in millimetres."""
-        nodes = self.said["scenes"][self.said.get("scene", 0)]["nodes"] if "scenes" in self.said else range(
-            len(self.said["nodes"]))
-        todo = [(MILLIMETRES, number, 0) for number in nodes]
+        held = {child for node in self.said["nodes"] for child in node.get("children", ())}
+        roots = self.said["scenes"][self.said.get("scene", 0)]["nodes"] if "scenes" in self.said else [
+            number for number in range(len(self.said["nodes"])) if number not in held]
+        todo = [(MILLIMETRES, number, 0) for number in roots]
         while todo:
             above, number, depth = todo.pop()
             node = self.said["nodes"][number]
