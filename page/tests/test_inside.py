@@ -53,7 +53,7 @@ def test_the_circuit_leads_to_what_the_library_makes(page: Browser, x: int, y: i
     pages.pasted(page, LISTING)
     page.run("document.activeElement.blur()")
     page.press("2")
-    page.until("document.body.dataset.shown")
+    page.until("studio.machine.isShown && studio.machine.text === studio.editor.text")
     pages.point(page, "array", x, y)
     click(page, "[data-inside=circuit]")
     clocks = page.run("Number(document.getElementById('clock').max)")
