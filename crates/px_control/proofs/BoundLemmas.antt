@@ -1,14 +1,13 @@
 -- A scene of few products takes less than 2 ^ 43 clocks, and at least one for each operation.
 use Rattle.px_num.proofs.Basics.{◌≡◌, ℕ, ◌+◌, ◌-◌, ◌*◌, ◌^◌, ◌<◌, ◌≤◌, false, List, [], ◌∷◌, length, get_or, refl, ap}
-use Rattle.px_num.proofs.Basics.{sym, subst, arith, All, sum_by, All-head, All-tail, All-weaker, sum_by-cons}
-use Rattle.px_num.proofs.Basics.{sum_by-le}
-use Rattle.px_control.proofs.Words.{bare, bit_length_most, Candidate, Clocks, columns_of, counted, cycles_in}
-use Rattle.px_control.proofs.Words.{depths_of, each_pass, edges_count, edges_in, exponent_between, faces_in, faces_of}
-use Rattle.px_control.proofs.Words.{flat_sum, HasFace, HasSolidsBelow, HoldsOf, is_void, IsLawfulScene, IsLawfulSolid}
-use Rattle.px_control.proofs.Words.{IsThere, kept_of, layout_of, LayoutView, leaves_below, Literal, literals, Macro}
-use Rattle.px_control.proofs.Words.{none_is_void, operations, passes, passes_are, Product, product_steps, rows_of}
-use Rattle.px_control.proofs.Words.{scene_layout, SceneView, share_worth, solid_of, SolidView, Step, steps_sum}
-use Rattle.px_control.proofs.Words.{steps_there, steps_with, sum_of_products, total, weighed}
+use Rattle.px_num.proofs.Basics.{sym, subst, arith, All, sum_by, All-head, All-tail, All-weaker, sum_by-cons, sum_by-le}
+use Rattle.px_control.proofs.Words.{bare, bit_length_most, Candidate, Clocks, columns_of, counted, cycles_in, depths_of}
+use Rattle.px_control.proofs.Words.{each_pass, edges_in, exponent_between, faces_in, faces_of, flat_sum, HasFace}
+use Rattle.px_control.proofs.Words.{HasSolidsBelow, HoldsOf, is_void, IsLawfulScene, IsLawfulSolid, IsThere, kept_of}
+use Rattle.px_control.proofs.Words.{layout_of, LayoutView, leaves_below, Literal, literals, Macro, none_is_void}
+use Rattle.px_control.proofs.Words.{operations, passes, passes_are, Product, product_steps, rows_of, scene_layout}
+use Rattle.px_control.proofs.Words.{SceneView, share_worth, solid_of, SolidView, Step, steps_sum, steps_there}
+use Rattle.px_control.proofs.Words.{steps_with, sum_of_products, total, weighed}
 use Rattle.std.proofs.lemmas.Nat.{mul-le}
 use Rattle.px_face.specs.Faces.{face_count, level}
 use Rattle.px_normal.proofs.NormalLemmas.{all_below}
@@ -64,9 +63,9 @@ module _ (scene : SceneView) (lawful : IsLawfulScene scene) (each : All IsLawful
   few_step step there =
       omega (
         arith,
-        weighed edges_count scene l taken (blind scene Clocks) step there,
+        weighed scene l taken (blind scene Clocks) step there,
         few_bare step,
-        mul-le (edges_in scene step) (taken (m.KeepSign (level 0))) 97 59 (few_edges edges_count scene l each step)
+        mul-le (edges_in scene step) (taken (m.KeepSign (level 0))) 97 59 (few_edges scene l each step)
             (omega (arith, levels)),
       )
 

@@ -1,14 +1,13 @@
 -- What the passes of a scene come to, by the rates of their steps.
-use Rattle.px_num.proofs.Basics.{◌≡◌, ◌<◌, ◌≤◌, ◌∙◌, ℕ, All, List, length, get_or, ap, sym, arith}
-use Rattle.px_num.proofs.Basics.{sum_by, length-flat_map}
-use Rattle.px_control.proofs.Words.{all_micros, AreRates, bare, bare_worth, but_edges, columns_of}
-use Rattle.px_control.proofs.Words.{cycles_in, depths_of, edges_count, first_face_step, flat_sum, HasFace}
-use Rattle.px_control.proofs.Words.{is_lawful_in_more, is_there, IsBlind, IsFace, IsLawful, IsLawfulScene}
-use Rattle.px_control.proofs.Words.{IsLawfulSolid, IsStep, IsThere, kept_of, layout_of, LayoutView, length-tabulate}
-use Rattle.px_control.proofs.Words.{Macro, Measure, need_of, none_is_void, operations, passes, passes_are, Product}
-use Rattle.px_control.proofs.Words.{products_worth, rated, Rates, rows_of, scene_layout, SceneView, some_solid, Step}
-use Rattle.px_control.proofs.Words.{steps_are_lawful, steps_there, steps_with, sum_by-agree, sum_of_products, total}
-use Rattle.px_control.proofs.Words.{weighed, worth}
+use Rattle.px_num.proofs.Basics.{◌≡◌, ◌<◌, ◌≤◌, ◌∙◌, ℕ, All, List, length, get_or, ap, sym, arith, sum_by}
+use Rattle.px_num.proofs.Basics.{length-flat_map}
+use Rattle.px_control.proofs.Words.{all_micros, AreRates, bare, bare_worth, but_edges, columns_of, cycles_in, depths_of}
+use Rattle.px_control.proofs.Words.{first_face_step, flat_sum, HasFace, is_lawful_in_more, is_there, IsBlind, IsFace}
+use Rattle.px_control.proofs.Words.{IsLawful, IsLawfulScene, IsLawfulSolid, IsStep, IsThere, kept_of, layout_of}
+use Rattle.px_control.proofs.Words.{LayoutView, length-tabulate, Macro, Measure, need_of, none_is_void, operations}
+use Rattle.px_control.proofs.Words.{passes, passes_are, Product, products_worth, rated, Rates, rows_of, scene_layout}
+use Rattle.px_control.proofs.Words.{SceneView, some_solid, Step, steps_are_lawful, steps_there, steps_with}
+use Rattle.px_control.proofs.Words.{sum_by-agree, sum_of_products, total, weighed, worth}
 use Rattle.px_control.specs.Program.{program}
 use Rattle.px_control.proofs.ProductLemmas.{products_sum}
 use Rattle.px_macro.specs.declared.operation.Macro.TheVariants as m
@@ -53,12 +52,12 @@ module _ (scene : SceneView) (measure : Measure) where
 
   pub counted_bare : (step : Step) → IsStep scene step
       → sum_by (but_edges scene measure) (operations scene l step) ≡ bare_worth scene measure step
-  counted_bare step is = grind (arith, weighed edges_count, blind_but_edges, is_there, bare_has_none)
+  counted_bare step is = grind (arith, weighed, blind_but_edges, is_there, bare_has_none)
 
   module _ (rates : Rates) (are : AreRates scene measure rates) where
     rated_is : (step : Step) → HasFace (IsThere scene) step
         → sum_by (worth scene measure) (operations scene l step) ≡ rated rates scene (first_face_step step)
-    rated_is step h = grind (arith, weighed, edges_count)
+    rated_is step h = grind (arith, weighed)
 
     -- what is said of the products that are kept
     pub passes_come_to : (products : List Product) → products ≡ kept_of scene (sum_of_products scene.show)

@@ -19,7 +19,6 @@ pub use Rattle.px_control.specs.declared.measure.Measure.TheVariants.{Clocks, Op
 pub use Rattle.px_control.specs.declared.place.Place.{Place}
 pub use Rattle.px_control.specs.declared.rates.Rates.{Rates}
 pub use Rattle.px_expr.proofs.LeafLaws.{leaves_below, some_solid}
-pub use Rattle.px_face.proofs.EdgeLemmas.{edges_count}
 pub use Rattle.px_macro.proofs.MacroLemmas.{is_lawful_in_more}
 pub use Rattle.px_macro.specs.Macros.{after_macros, IsLawful, IsLawfulInMore}
 pub use Rattle.px_macro.specs.declared.operation.Macro.{Macro}

@@ -1,16 +1,16 @@
 -- What the passes of one literal leave, and what all of them leave.
 use Rattle.px_num.proofs.Basics.{◌≡◌, ◌<◌, ◌≤◌, ◌+◌, ◌+ℤ◌, ◌-◌, ◌*◌, ◌^◌, ◌||◌, ◌==◌, pos, ℕ, Bool, true, false, ◌&&◌}
-use Rattle.px_num.proofs.Basics.{nat_lt, min, List, [], ◌∷◌, ◌++◌, length, eqb, map, refl, ap, sym, ◌∙◌, arith, inl}
+use Rattle.px_num.proofs.Basics.{[], nat_lt, min, List, ◌∷◌, ◌++◌, length, eqb, map, refl, ap, sym, ◌∙◌, arith, inl}
 use Rattle.px_num.proofs.Basics.{inr, if◌then◌else◌, fold, flat_map, list_all, range_with_len, fold-map, cases_Bool}
 use Rattle.px_num.proofs.Basics.{cases_lt, fold-append}
 use Rattle.px_sched.proofs.Words.{after_step, after_steps, and_both, and_false, and_left, and_true, Candidate}
-use Rattle.px_sched.proofs.Words.{candidate_faces, cell_of, confirm, covering_back, covering_front, CoveringLaw}
+use Rattle.px_sched.proofs.Words.{candidate_faces, cell_of, confirm, covering_back, covering_front, covered_once}
 use Rattle.px_sched.proofs.Words.{covers, Depths, depths_of, dropped, end_of, enters_at, face_number, face_plane}
-use Rattle.px_sched.proofs.Words.{is_inside, is_inside_before, is_met, judge, key, KeyedPixel, Keys, leaves_at}
-use Rattle.px_sched.proofs.Words.{Literal, literal_at, literal_steps, literals, loaded, lt_fails, lt_false, lt_holds}
-use Rattle.px_sched.proofs.Words.{lt_true, Merge, modulo, no_literal, others, plus, Product, product_steps, residue}
-use Rattle.px_sched.proofs.Words.{SceneView, solid_of, SolidView, steps_with, value_at-plus, value_of, ValueParityLaw}
-use Rattle.px_sched.proofs.Words.{where_fraction, without_fraction}
+use Rattle.px_sched.proofs.Words.{is_inside, is_inside_before, is_met, judge, key, KeyedPixel, Keys, leaves_at, Literal}
+use Rattle.px_sched.proofs.Words.{literal_at, literal_steps, literals, loaded, lt_fails, lt_false, lt_holds, lt_true}
+use Rattle.px_sched.proofs.Words.{Merge, modulo, no_literal, others, plus, Product, product_steps, residue, SceneView}
+use Rattle.px_sched.proofs.Words.{solid_of, SolidView, steps_with, value_at-plus, value_of, where_fraction}
+use Rattle.px_sched.proofs.Words.{without_fraction}
 use Rattle.px_sched.proofs.MemberLaws.{by_places}
 use Rattle.px_sched.proofs.RunLemmas.{HasRoom, classified, end_small, judge_keys, part_along, rounded, suits}
 use Rattle.px_sched.proofs.CoverLaws.{enters_depth, leaves_depth}
@@ -79,7 +79,7 @@ merge_best scene l k =
 never : (a b : Bool) → a ≡ false → (a && b) ≡ true → ⊥
 never a b p q = cc
 
-module _ (covering : CoveringLaw) (parity : ValueParityLaw) (scene : SceneView) (l : KeyedPixel)
+module _ (scene : SceneView) (l : KeyedPixel)
     (room : HasRoom l (depths_of scene)) where
   abbrev d : Depths
   d = depths_of scene
@@ -93,7 +93,7 @@ module _ (covering : CoveringLaw) (parity : ValueParityLaw) (scene : SceneView) 
       ≡ (if is_covered s plain far l.x l.y then loaded l d s k (face_found s plain far l.x l.y) else k)
   candidates_keys solid true k =
       let s = solid_of scene solid in
-      let law = covering s far l.x l.y in
+      let law = covered_once s far l.x l.y in
       let nf = length s.fronts + 1 in
       let t : ℕ → Bool = λ i. covers s far i l.x l.y in
       fold-map (after_step scene l) (Candidate solid) k (range_with_len 0 nf)
@@ -102,7 +102,7 @@ module _ (covering : CoveringLaw) (parity : ValueParityLaw) (scene : SceneView) 
       (omega arith) (omega (arith, lt_holds (covering_front s l.x l.y) nf law.front.there))
   candidates_keys solid false k =
       let s = solid_of scene solid in
-      let law = covering s far l.x l.y in
+      let law = covered_once s far l.x l.y in
       let nf = length s.fronts + 1 in
       let nb = length s.backs in
       let kb = covering_back s far l.x l.y in
@@ -152,18 +152,18 @@ module _ (covering : CoveringLaw) (parity : ValueParityLaw) (scene : SceneView) 
       let more = 2 ^ d.fraction_bits - 1 in
       ap (λ v. without_fraction l (modulo v (l.depth_bits + l.fraction_bits)))
       (value_at-plus (face_plane s far (covering_front s l.x l.y)) more l.x l.y
-      ∙ ap (λ v. v +ℤ pos more) (covering s far l.x l.y).front.value)
-      ∙ rounded l d room (enters_at s l.x l.y) (enters_depth covering far s l.x l.y met)
+      ∙ ap (λ v. v +ℤ pos more) (covered_once s far l.x l.y).front.value)
+      ∙ rounded l d room (enters_at s l.x l.y) (enters_depth far s l.x l.y met)
   loaded_deep s false both =
       let more = 2 ^ d.fraction_bits - 1 in
       let met = and_left (is_met s far l.x l.y) _ both in
       ap (λ v. without_fraction l (modulo v (l.depth_bits + l.fraction_bits)))
       (value_at-plus (face_plane s far (covering_back s far l.x l.y)) more l.x l.y
-      ∙ ap (λ v. v +ℤ pos more) (covering s far l.x l.y).back.value)
-      ∙ rounded l d room (leaves_at s far l.x l.y) (leaves_depth covering far s l.x l.y met)
+      ∙ ap (λ v. v +ℤ pos more) (covered_once s far l.x l.y).back.value)
+      ∙ rounded l d room (leaves_at s far l.x l.y) (leaves_depth far s l.x l.y met)
 
   cell_test : (solid : ℕ) (plain : Bool) → let s = solid_of scene solid in is_covered s plain far l.x l.y ≡ true
-      → ((d.fraction_bits == 0) || test covering scene l room solid plain (value_of d (cell_found s plain d l.x l.y)))
+      → ((d.fraction_bits == 0) || test scene l room solid plain (value_of d (cell_found s plain d l.x l.y)))
       ≡ has_cell s plain d l.x l.y (cell_found s plain d l.x l.y)
   cell_test solid plain met = grind (arith, plain_test, barred_test, and_left)
 
@@ -176,7 +176,7 @@ module _ (covering : CoveringLaw) (parity : ValueParityLaw) (scene : SceneView) 
 
   kept : (solid : ℕ) (plain : Bool) (k start new : Keys) → let s = solid_of scene solid in k.alive ≡ false
       → start ≡ (if is_covered s plain far l.x l.y then loaded l d s k (face_found s plain far l.x l.y) else k)
-      → IsConfirmed covering scene l room solid plain start new → IsKept s plain k new
+      → IsConfirmed scene l room solid plain start new → IsKept s plain k new
   kept solid plain k start new dead is c = let s = solid_of scene solid in
       elim (cases_Bool (is_covered s plain far l.x l.y)) [
         | inl yea ↦ grind (arith, loaded_deep, cell_test)
@@ -189,7 +189,7 @@ module _ (covering : CoveringLaw) (parity : ValueParityLaw) (scene : SceneView) 
   judged_keys rs k =
       let places = range_with_len 0 (length rs) in
       part_along scene l (λ k. k) (judge scene rs) (λ k other. classified_by k (literal_at rs other))
-      (λ other k. judge_keys covering parity scene l (end_small l d room) rs other k) places k
+      (λ other k. judge_keys scene l (end_small l d room) rs other k) places k
       ∙ sym (fold-map classified_by (literal_at rs) k places)
       ∙ ap (fold classified_by k) (by_places no_literal rs)
 
@@ -208,7 +208,7 @@ module _ (covering : CoveringLaw) (parity : ValueParityLaw) (scene : SceneView) 
       let start = after_steps scene l (dropped k) found in
       let new = after_steps scene l start sure in
       let r = kept q.solid q.plain (dropped k) start new refl (candidates_keys q.solid q.plain (dropped k))
-      (confirmed covering scene l room q.solid q.plain start) in
+      (confirmed scene l room q.solid q.plain start) in
       ap (λ (k : Keys). k.best) (fold-append step (dropped k) found (sure ++ (tests ++ Merge ∷ []))
       ∙ fold-append step start sure (tests ++ Merge ∷ []) ∙ fold-append step new tests (Merge ∷ []))
       ∙ merge_best scene l (after_steps scene l new tests)

@@ -1,15 +1,14 @@
 -- Which candidates stay alive: those of pixels at which their solid has a cell.
 use Rattle.px_num.proofs.Basics.{◌≡◌, ◌<◌, ◌+◌, ◌^◌, ◌+ℤ◌, ◌<ℤ◌, ◌≤ℤ◌, ℕ, zero, suc, ℤ, pos, Bool, true, false, ◌&&◌}
-use Rattle.px_num.proofs.Basics.{◌||◌, ◌==◌, ◌*◌, inl, inr, not, nat_le, nat_lt, List, [], ◌∷◌, ◌++◌, length, eqb, map}
+use Rattle.px_num.proofs.Basics.{[], ◌||◌, ◌==◌, ◌*◌, inl, inr, not, nat_le, nat_lt, List, ◌∷◌, ◌++◌, length, eqb, map}
 use Rattle.px_num.proofs.Basics.{refl, ap, sym, ◌∙◌, arith, if◌then◌else◌, fold, range_with_len, fold-map, fold-append}
 use Rattle.px_num.proofs.Basics.{ints, nat_tests, cases_Bool, pow_pos, mul-le-mul, pow-add}
 use Rattle.px_sched.proofs.Words.{after_step, after_steps, and_true, cell_is_first, cell_is_least, cell_of, Clear}
-use Rattle.px_sched.proofs.Words.{Confirm, covering_back, covering_front, CoveringLaw, covers, Depths, depths_of, Drop}
-use Rattle.px_sched.proofs.Words.{dropped, end_of, enters_at, eqb_holds, face_plane, Front, is_inside}
-use Rattle.px_sched.proofs.Words.{is_inside_before, is_met, is_passing, KeyedPixel, Keys, le_z, leaves_at, lt_fails}
-use Rattle.px_sched.proofs.Words.{lt_false, lt_holds, lt_is_not_le, lt_true, lt_z, modulo, plus, residue, SceneView}
-use Rattle.px_sched.proofs.Words.{solid_of, SolidView, Step, turned_from_false, value_at, value_at-plus, value_of}
-use Rattle.px_sched.proofs.Words.{where_fraction}
+use Rattle.px_sched.proofs.Words.{Confirm, covering_back, covering_front, covered_once, covers, Depths, depths_of, Drop}
+use Rattle.px_sched.proofs.Words.{dropped, end_of, enters_at, eqb_holds, face_plane, Front, is_inside, is_inside_before}
+use Rattle.px_sched.proofs.Words.{is_met, is_passing, KeyedPixel, Keys, le_z, leaves_at, lt_fails, lt_false, lt_holds}
+use Rattle.px_sched.proofs.Words.{lt_is_not_le, lt_true, lt_z, modulo, plus, residue, SceneView, solid_of, SolidView}
+use Rattle.px_sched.proofs.Words.{Step, turned_from_false, value_at, value_at-plus, value_of, where_fraction}
 use Rattle.px_num.proofs.TruthLaws.{le_same}
 use Rattle.px_sched.proofs.RunLemmas.{HasRoom, end_small, ended, flips, keys_of, more_at_most}
 use Rattle.px_sched.proofs.CoverLaws.{at_most_is, enters_depth, leaves_depth}
@@ -55,7 +54,7 @@ one_unit d none = ap (λ f. 2 ^ f) (no_fraction d.fraction_bits none)
 one_more : (v : ℤ) (z u : ℕ) → (le_z v (pos (z * u)) && true) ≡ le_z (v +ℤ pos u) (pos (suc z * u))
 one_more v z u = grind (arith, ints)
 
-module _ (covering : CoveringLaw) (scene : SceneView) (l : KeyedPixel) (room : HasRoom l (depths_of scene))
+module _ (scene : SceneView) (l : KeyedPixel) (room : HasRoom l (depths_of scene))
     (solid : ℕ) where
   abbrev d : Depths
   d = depths_of scene
@@ -90,8 +89,8 @@ module _ (covering : CoveringLaw) (scene : SceneView) (l : KeyedPixel) (room : H
       (le_z leaves (pos v))
       (λ m here.
       ap (λ w. nat_le (modulo w bits) v) (ap (λ j. value_at (face_plane s end j) l.x l.y)
-      (eqb_holds i (covering_back s end l.x l.y) here) ∙ (covering s end l.x l.y).back.value)
-      ∙ at_most_is leaves end bits v (end_small l d room) (leaves_depth covering end s l.x l.y m)))
+      (eqb_holds i (covering_back s end l.x l.y) here) ∙ (covered_once s end l.x l.y).back.value)
+      ∙ at_most_is leaves end bits v (end_small l d room) (leaves_depth end s l.x l.y m)))
 
   -- of the fronts only the covering one can turn
   front_turns : (v i : ℕ) → covers s end i l.x l.y ≡ (met && eqb i (covering_front s l.x l.y))
@@ -101,12 +100,12 @@ module _ (covering : CoveringLaw) (scene : SceneView) (l : KeyedPixel) (room : H
       rw is (where_here met (eqb i (covering_front s l.x l.y)) (nat_le (residue l (plus (face_plane s end i) unit)) v)
       (le_z (enters +ℤ pos unit) (pos v))
       (λ m here.
-      let e = enters_depth covering end s l.x l.y m in
-      let below = (covering s end l.x l.y).depths m in
+      let e = enters_depth end s l.x l.y m in
+      let below = (covered_once s end l.x l.y).depths m in
       let less : e.depth < end = omega (arith, ints, e.is, below.1, below.2) in
       ap (λ w. nat_le (modulo w bits) v) (value_at-plus (face_plane s end i) unit l.x l.y
       ∙ ap (λ w. w +ℤ pos unit) (ap (λ j. value_at (face_plane s end j) l.x l.y)
-      (eqb_holds i (covering_front s l.x l.y) here) ∙ (covering s end l.x l.y).front.value))
+      (eqb_holds i (covering_front s l.x l.y) here) ∙ (covered_once s end l.x l.y).front.value))
       ∙ more_at_most enters end bits v e unit (grind (arith, less, mul-le-mul, pow-add))))
 
   abbrev drop_steps : List Step
@@ -119,7 +118,7 @@ module _ (covering : CoveringLaw) (scene : SceneView) (l : KeyedPixel) (room : H
   confirm_plain : (k : Keys) → after_steps scene l k drop_steps
       ≡ record k { alive = k.alive && not (met && le_z leaves (pos k.deep)) }
   confirm_plain k =
-      let law = covering s end l.x l.y in
+      let law = covered_once s end l.x l.y in
       let nf = length s.fronts + 1 in
       let nb = length s.backs + 1 in
       let kb = covering_back s end l.x l.y in
@@ -142,7 +141,7 @@ module _ (covering : CoveringLaw) (scene : SceneView) (l : KeyedPixel) (room : H
       → (let g = k.alive && (met && le_z (enters +ℤ pos unit) (pos k.deep)) in
       after_steps scene l k (Clear ∷ turns ++ Confirm ∷ []) ≡ keys_of k.best k.deep k.number g g)
   confirm_barred k =
-      let law = covering s end l.x l.y in
+      let law = covered_once s end l.x l.y in
       let nf = length s.fronts + 1 in
       let kf = covering_front s l.x l.y in
       let g = met && le_z (enters +ℤ pos unit) (pos k.deep) in
@@ -187,7 +186,7 @@ module _ (covering : CoveringLaw) (scene : SceneView) (l : KeyedPixel) (room : H
       let v = value_of d c in
       let low : le_z enters (pos v) ≡ true = sym (cell_is_first d enters c) ∙ ap (λ n. nat_le n c) e ∙ le_same c in
       let inside : is_inside s d l.x l.y c ≡ not (met && le_z leaves (pos v)) =
-      (covering s end l.x l.y).values v ∙ rw (m, low) (lt_is_not_le leaves (pos v)) in
+      (covered_once s end l.x l.y).values v ∙ rw (m, low) (lt_is_not_le leaves (pos v)) in
       elim (cases_Bool (d.fraction_bits == 0)) [
         | inl none ↦ ap (λ b. b || test true v) none ∙ sym (inside ∙ rw (m, whole none) refl)
         | inr some ↦ ap (λ b. b || test true v) some ∙ sym inside
@@ -195,8 +194,8 @@ module _ (covering : CoveringLaw) (scene : SceneView) (l : KeyedPixel) (room : H
     where
       whole : (d.fraction_bits == 0) ≡ true → le_z leaves (pos (value_of d c)) ≡ false
       whole none =
-          let is = enters_depth covering end s l.x l.y m in
-          let below = (covering s end l.x l.y).depths m in
+          let is = enters_depth end s l.x l.y m in
+          let below = (covered_once s end l.x l.y).depths m in
           let same : value_of d c ≡ is.depth = ap (value_of d) (sym e ∙ ap (cell_of d) is.is)
           ∙ whole_value d is.depth none in
           above leaves (value_of d c) (omega (arith, ints, is.is, below.1, same))
@@ -211,16 +210,16 @@ module _ (covering : CoveringLaw) (scene : SceneView) (l : KeyedPixel) (room : H
     where
       before : (c : ℕ) → cell_of d leaves ≡ c → is_inside_before s d l.x l.y c
           ≡ (met && le_z (enters +ℤ pos unit) (pos (value_of d c)))
-      before zero e = grind (arith, enters_depth, pow_pos, ints)
+      before zero e = let law = covered_once s end l.x l.y in grind (arith, enters_depth, pow_pos, ints)
       before (suc z) e =
           let high : lt_z (pos (value_of d z)) leaves ≡ true = sym (cell_is_least d leaves z) ∙ ap (λ n. nat_lt z n) e
           ∙ lt_next z in
-          (covering s end l.x l.y).values (value_of d z) ∙ rw (m, high) (one_more enters z unit)
+          (covered_once s end l.x l.y).values (value_of d z) ∙ rw (m, high) (one_more enters z unit)
 
       whole : (d.fraction_bits == 0) ≡ true → le_z (enters +ℤ pos unit) (pos (value_of d c)) ≡ true
       whole none =
-          let is = leaves_depth covering end s l.x l.y m in
-          let below = (covering s end l.x l.y).depths m in
+          let is = leaves_depth end s l.x l.y m in
+          let below = (covered_once s end l.x l.y).depths m in
           let same : value_of d c ≡ is.depth = ap (value_of d) (sym e ∙ ap (cell_of d) is.is)
           ∙ whole_value d is.depth none in
           at_most (enters +ℤ pos unit) (value_of d c) (omega (arith, ints, is.is, below.1, same, one_unit d none))

@@ -1,8 +1,7 @@
 -- The value of a face that covers a pixel: it is a depth, and the bits of one keep it.
-use Rattle.px_num.proofs.Basics.{rules}
-use Rattle.px_num.proofs.Basics.{common_steps, ◌≡◌, ◌<◌, ◌≤◌, ◌≤ℤ◌, ◌+◌, ◌*◌, ◌%◌, ◌^◌, ℕ, ℤ, pos, Bool, true, false}
-use Rattle.px_num.proofs.Basics.{◌&&◌, nat_le, refl, ap, sym, ◌∙◌, arith, nat_tests, ints, mod-mul-add}
-use Rattle.px_sched.proofs.Words.{and_left, and_right, CoveringLaw, covers, enters_at, eqb_holds, face_count}
+use Rattle.px_num.proofs.Basics.{rules, common_steps, ◌≡◌, ◌<◌, ◌≤◌, ◌≤ℤ◌, ◌+◌, ◌*◌, ◌%◌, ◌^◌, ℕ, ℤ, pos, Bool, true}
+use Rattle.px_num.proofs.Basics.{false, ◌&&◌, nat_le, refl, ap, sym, ◌∙◌, arith, nat_tests, ints, mod-mul-add}
+use Rattle.px_sched.proofs.Words.{and_left, and_right, covered_once, covers, enters_at, eqb_holds, face_count}
 use Rattle.px_sched.proofs.Words.{face_plane, is_met, le_z, leaves_at, modulo, SolidView, value_at}
 
 pub and_same : (c a b : Bool) → (c ≡ true → a ≡ b) → (c && a) ≡ (c && b)
@@ -32,14 +31,15 @@ le_same m n = grind (arith, nat_tests, ints)
 pub at_most_is : (v : ℤ) (end bits z : ℕ) → end < 2 ^ bits → IsDepth v end → nat_le (modulo v bits) z ≡ le_z v (pos z)
 at_most_is v end bits z big d = rw (modulo_is v end bits big d, d.is) (le_same d.depth z)
 
-module _ (covering : CoveringLaw) (end : ℕ) (s : SolidView) (x y : ℕ) where
+module _ (end : ℕ) (s : SolidView) (x y : ℕ) where
   pub enters_depth : is_met s end x y ≡ true → IsDepth (enters_at s x y) end
-  enters_depth met = search (rules, depth_of, ints)
+  enters_depth met = let in_order = (covered_once s end x y).depths met in search (rules, depth_of, ints)
 
   pub leaves_depth : is_met s end x y ≡ true → IsDepth (leaves_at s end x y) end
-  leaves_depth met = search (rules, depth_of, ints)
+  leaves_depth met = let in_order = (covered_once s end x y).depths met in search (rules, depth_of, ints)
 
   -- the value of a face that covers is a depth
   pub covering_value : (i : ℕ) → i < face_count s → covers s end i x y ≡ true
       → IsDepth (value_at (face_plane s end i) x y) end
-  covering_value i there c = grind (arith, common_steps, leaves_depth, and_left, eqb_holds, and_right, enters_depth)
+  covering_value i there c =
+      let law = covered_once s end x y in grind (arith, common_steps, leaves_depth, and_left, eqb_holds, and_right, enters_depth)

@@ -1,8 +1,8 @@
 -- The kept products of a scene have literals, and these are of solids of the scene.
-use Rattle.px_num.proofs.Basics.{◌≡◌, ◌<◌, All, List, [], ◌∷◌, get_or, length, refl, sym, subst, arith, inl, inr}
+use Rattle.px_num.proofs.Basics.{◌≡◌, ◌<◌, All, List, ◌∷◌, get_or, length, refl, sym, subst, arith, inl, inr, []}
 use Rattle.px_num.proofs.Basics.{length-append, length-map, All-cons, All-nil}
-use Rattle.px_sched.proofs.Words.{HasKnownLiterals, HasPlain, HasSolidsBelow, IsLawfulScene, kept_of}
-use Rattle.px_sched.proofs.Words.{leaves_below, literals, Product, SceneView, sum_of_products}
+use Rattle.px_sched.proofs.Words.{HasKnownLiterals, HasPlain, HasSolidsBelow, IsLawfulScene, kept_of, leaves_below}
+use Rattle.px_sched.proofs.Words.{literals, Product, SceneView, sum_of_products}
 use Rattle.px_normal.proofs.NormalLemmas.{all_below, all_plain}
 use Rattle.px_prune.specs.Bounding.{bounding_box}
 use Rattle.px_prune.proofs.StayingLemmas.{kept_below, kept_plain}

@@ -1,11 +1,11 @@
 -- How many passes there can be.
-use Rattle.px_num.proofs.Basics.{◌≡◌, ℕ, zero, suc, ◌+◌, ◌^◌, ◌≤◌, All, Bool, true, false, List, [], ◌∷◌, filter}
-use Rattle.px_num.proofs.Basics.{get_or, length, refl, ap, arith, length-append, sum_by, length-map, length-flat_map}
+use Rattle.px_num.proofs.Basics.{◌≡◌, ℕ, zero, suc, ◌+◌, ◌^◌, ◌≤◌, All, Bool, true, false, List, ◌∷◌, filter, get_or}
+use Rattle.px_num.proofs.Basics.{[], length, refl, ap, arith, length-append, sum_by, length-map, length-flat_map}
 use Rattle.px_num.proofs.Basics.{All-weaker, length-range_with_len, count_by-le-length, length-filter, sum_by-le}
-use Rattle.px_sched.proofs.Words.{bare, candidate_faces, confirm_worth, depths_of, edge_count, edges_in}
-use Rattle.px_sched.proofs.Words.{EdgesAreCounted, HasFace, IsLawfulSolid, IsThere, judged_worth, LayoutView, Literal}
-use Rattle.px_sched.proofs.Words.{literal_steps, literals, no_solid, operations, others, passes_with, Product}
-use Rattle.px_sched.proofs.Words.{product_steps, SceneView, solid_of, SolidSet, SolidView, Step, steps_with}
+use Rattle.px_sched.proofs.Words.{bare, candidate_faces, confirm_worth, depths_of, edge_count, edges_in, HasFace}
+use Rattle.px_sched.proofs.Words.{IsLawfulSolid, IsThere, judged_worth, LayoutView, Literal, literal_steps, literals}
+use Rattle.px_sched.proofs.Words.{no_solid, operations, others, passes_with, Product, product_steps, SceneView}
+use Rattle.px_sched.proofs.Words.{solid_of, SolidSet, SolidView, Step, steps_with}
 use Rattle.px_normal.specs.Sets.{below, has, solids}
 use Rattle.px_sched.specs.declared.literal.TheConstants.{MAX_LITERALS}
 use Rattle.px_sched.proofs.LawfulLaws.{all_or}
@@ -53,7 +53,7 @@ pub few_confirm : (scene : SceneView) (q : Literal) → let s = solid_of scene q
     confirm_worth once scene q ≤ length s.fronts + length s.backs + 3
 few_confirm scene q = grind arith
 
-module _ (count : EdgesAreCounted) (scene : SceneView) (l : LayoutView) (lawful : All IsLawfulSolid scene.solids) where
+module _ (scene : SceneView) (l : LayoutView) (lawful : All IsLawfulSolid scene.solids) where
   solid_lawful : (i : ℕ) → IsLawfulSolid (solid_of scene i)
   solid_lawful i = any_solid IsLawfulSolid scene lawful no_solid_lawful i
 

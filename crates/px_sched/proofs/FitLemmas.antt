@@ -1,17 +1,17 @@
 -- The passes are lawful in as many memory bits as the layout needs.
 use Rattle.px_num.proofs.Basics.{common_steps, ◌≡◌, ℕ, ◌-◌, ◌==◌, ◌+◌, ◌^◌, ◌<◌, ◌≤◌, All, false, List, refl, arith}
 use Rattle.px_num.proofs.Basics.{inr, nat_tests, pow_pos, pow_mono}
-use Rattle.px_sched.proofs.Words.{deep_part, depths_of, EdgesAreInRange, end_is_small, end_of, face_plane}
-use Rattle.px_sched.proofs.Words.{fraction_part, IsInTreeRange, IsLawfulScene, IsLawfulSolid, IsLayout, IsPlane}
-use Rattle.px_sched.proofs.Words.{IsStep, IsThere, layout_of, LayoutView, need_of, number_part, operations}
-use Rattle.px_sched.proofs.Words.{passes_with, PlanesAreInRange, plus, Product, SceneView, solid_of, Step, wider}
+use Rattle.px_sched.proofs.Words.{deep_part, depths_of, edges_range, end_is_small, end_of, face_plane, fraction_part}
+use Rattle.px_sched.proofs.Words.{IsInTreeRange, IsLawfulScene, IsLawfulSolid, IsLayout, IsPlane, IsStep, IsThere}
+use Rattle.px_sched.proofs.Words.{layout_of, LayoutView, need_of, number_part, operations, passes_with, plane_of_range}
+use Rattle.px_sched.proofs.Words.{plus, Product, SceneView, solid_of, Step, wider}
 use Rattle.px_macro.specs.Macros.{IsField, IsLawful}
 use Rattle.px_model.proofs.PlaneLaws.{plane_range}
 use Rattle.px_sched.proofs.FewLaws.{any_solid, no_solid_lawful}
 use Rattle.px_sched.proofs.OperationLaws.{HoldsOf, each_operation, each_pass, is_there}
 use Rattle.px_sched.proofs.RoomLemmas.{numbers_fit, shifted}
 
-module _ (ranges : EdgesAreInRange) (planes : PlanesAreInRange) (scene : SceneView) (lawful : IsLawfulScene scene)
+module _ (scene : SceneView) (lawful : IsLawfulScene scene)
     (solids : All IsLawfulSolid scene.solids) (is : IsLayout (layout_of scene)) where
   abbrev f : ℕ
   f = scene.fraction_bits
@@ -35,7 +35,7 @@ module _ (ranges : EdgesAreInRange) (planes : PlanesAreInRange) (scene : SceneVi
   solid_lawful solid = any_solid IsLawfulSolid scene solids no_solid_lawful solid
 
   plane : (solid face : ℕ) → IsThere scene solid face → IsPlane (face_plane (solid_of scene solid) end face)
-  plane solid face there = planes (solid_of scene solid) (solid_lawful solid) end face end_small there
+  plane solid face there = plane_of_range (solid_of scene solid) (solid_lawful solid) end end_small face there
 
   field_b : IsField l.key_b (need_of l)
   field_b = record { from_one = omega arith; to_forty = omega arith; within = omega arith }
@@ -55,7 +55,7 @@ module _ (ranges : EdgesAreInRange) (planes : PlanesAreInRange) (scene : SceneVi
   -- a face's plane so much further
   moved : (n : ℕ) → n ≤ 2 ^ f → (solid face : ℕ) → IsThere scene solid face
       → IsInTreeRange (plus (face_plane (solid_of scene solid) end face) n) × IsField (deep_part l l.key_t) (need_of l)
-  moved n low solid face there = grind (arith, unit_most, plane, deep, wider)
+  moved n low solid face there = let is = plane solid face there in grind (arith, unit_most, deep, wider)
 
   each_lawful : HoldsOf scene l (λ m. IsLawful m (need_of l))
   each_lawful = record {
@@ -71,9 +71,9 @@ module _ (ranges : EdgesAreInRange) (planes : PlanesAreInRange) (scene : SceneVi
     faces = record {
       cleared = λ some. (fraction some, pow_pos f);
       number = λ solid face. (number, numbers_fit scene lawful solid face);
-      signs = λ solid face there. ranges (solid_of scene solid) (solid_lawful solid) end face end_small there;
+      signs = λ solid face there. edges_range (solid_of scene solid) (solid_lawful solid) end end_small face there;
       load = moved (2 ^ f - 1) (omega arith);
-      at_most = grind (arith, plane_range, plane, deep);
+      at_most = λ solid face there. (plane_range _ (plane solid face there), deep);
       behind = moved (2 ^ f) (omega arith);
     };
   }

@@ -1,22 +1,21 @@
 -- The least key found is that of the first depth at which the products show something, with the least number there.
-use Rattle.px_num.proofs.Basics.{◌≡◌, ◌<◌, ◌≤◌, ◌+◌, ◌*◌, ◌^◌, ◌&&◌, ℕ, nat_le, Bool, true, false, not}
-use Rattle.px_num.proofs.Basics.{nat_lt, List, length, min, refl, ap, ◌∙◌, arith, inl, inr, ◌⊎◌, eqb, All, fold}
-use Rattle.px_num.proofs.Basics.{flat_map, list_all, cases_Bool}
-use Rattle.px_sched.proofs.Words.{and_false, and_left, and_right, AreNumberedFrom, cell_of, CellsLaw}
-use Rattle.px_sched.proofs.Words.{CoveringLaw, Depths, depths_of, end_of, enters_at, eqb_holds, faces_in, faces_of}
-use Rattle.px_sched.proofs.Words.{far_of, first_of_three, holds, is_inside, is_met, IsLawfulSolid}
-use Rattle.px_sched.proofs.Words.{IsNumberedFrom, key, KeyedPixel, leaf_cell, leaves_at, Literal, literals, lt_false}
-use Rattle.px_sched.proofs.Words.{lt_holds, lt_true, no_solid, others, Product, same_true, SceneView, shows, solid_of}
-use Rattle.px_sched.proofs.Words.{SolidView, some_shows, third_of_three, value_of}
+use Rattle.px_num.proofs.Basics.{◌≡◌, ◌<◌, ◌≤◌, ◌+◌, ◌*◌, ◌^◌, ◌&&◌, ℕ, nat_le, Bool, true, false, not, nat_lt, List}
+use Rattle.px_num.proofs.Basics.{length, min, refl, ap, ◌∙◌, arith, inl, inr, ◌⊎◌, eqb, All, fold, flat_map, list_all}
+use Rattle.px_num.proofs.Basics.{cases_Bool}
+use Rattle.px_sched.proofs.Words.{and_false, and_left, and_right, AreNumberedFrom, cell_of, has_cells, Depths}
+use Rattle.px_sched.proofs.Words.{depths_of, end_of, enters_at, eqb_holds, faces_in, faces_of, far_of, first_of_three}
+use Rattle.px_sched.proofs.Words.{holds, is_inside, is_met, IsLawfulSolid, IsNumberedFrom, key, KeyedPixel, leaf_cell}
+use Rattle.px_sched.proofs.Words.{leaves_at, Literal, literals, lt_false, lt_holds, lt_true, no_solid, others, Product}
+use Rattle.px_sched.proofs.Words.{same_true, SceneView, shows, solid_of, SolidView, some_shows, third_of_three}
+use Rattle.px_sched.proofs.Words.{value_of}
 use Rattle.px_sched.proofs.RunLemmas.{suits}
 use Rattle.px_sched.proofs.BlockLemmas.{all_found, cell_found, is_found, keys_found, number_found, suited}
 use Rattle.px_sched.proofs.MemberLaws.{In, all_kept, all_of, any_in, any_out, in_filter, in_flat, in_where, min_below}
 use Rattle.px_sched.proofs.MemberLaws.{min_reached, min_start, one_of, out_flat}
-use Rattle.px_sched.proofs.LiteralLemmas.{backs_below, barred_seen, fronts_below, plain_seen, plain_shows}
-use Rattle.px_sched.proofs.LiteralLemmas.{barred_shows}
+use Rattle.px_sched.proofs.LiteralLemmas.{backs_below, barred_seen, fronts_below, plain_seen, plain_shows, barred_shows}
 use Rattle.px_sched.proofs.ProductLaws.{IsFit, each_holds, holds_there, numbered_at, shown_of, shows_out, shows_there}
 
-module _ (covering : CoveringLaw) (cells : CellsLaw) (d : Depths) (s : SolidView) (x y : ℕ) where
+module _ (d : Depths) (s : SolidView) (x y : ℕ) where
   -- what is found at a literal
   record IsCandidate (plain : Bool) : Type 0 where
     within : cell_found s plain d x y ≤ d.far
@@ -25,7 +24,7 @@ module _ (covering : CoveringLaw) (cells : CellsLaw) (d : Depths) (s : SolidView
 
   not_behind : (c : ℕ) → cell_of d (leaves_at s (end_of d) x y) ≡ c → is_inside s d x y c ≡ false
   not_behind c e =
-      (cells s d x y).cells c ∙ last_of (is_met s (end_of d) x y) (cell_of d (enters_at s x y))
+      (has_cells s d x y).cells c ∙ last_of (is_met s (end_of d) x y) (cell_of d (enters_at s x y))
       (cell_of d (leaves_at s (end_of d) x y)) c e
     where
       last_of : (m : Bool) (first last c : ℕ) → last ≡ c → (m && nat_le first c && nat_lt c last) ≡ false
@@ -43,15 +42,18 @@ module _ (covering : CoveringLaw) (cells : CellsLaw) (d : Depths) (s : SolidView
 
   is_seen : (plain : Bool) (z n : ℕ) → IsLawfulSolid s → suits s plain (end_of d) x y (value_of d z) ≡ true
       → In n (shown_of s plain d x y z) → IsSeen plain z n
-  is_seen true z n lawful inside shown = grind (arith, plain_seen covering s d x y lawful z n shown, first_of_three)
+  is_seen true z n lawful inside shown =
+      let law = has_cells s d x y in
+      grind (arith, plain_seen s d x y lawful z n shown, first_of_three)
   is_seen false z n lawful outside shown =
-      let r = barred_seen covering s d x y lawful z n shown in
+      let r = barred_seen s d x y lawful z n shown in
+      let law = has_cells s d x y in
       grind (arith, lt_true)
 
 differs : (i k : ℕ) → (eqb i k ≡ true) ⊎ (not (eqb i k) ≡ true)
 differs i k = elim (cases_Bool (eqb i k)) [ inl a ↦ inl a | inr b ↦ inr (rw b refl) ]
 
-module _ (covering : CoveringLaw) (cells : CellsLaw) (scene : SceneView) (lawful : All IsLawfulSolid scene.solids)
+module _ (scene : SceneView) (lawful : All IsLawfulSolid scene.solids)
     (numbered : AreNumberedFrom 1 scene.solids)
     (l : KeyedPixel) (products : List Product)
     (fit : (p : Product) → In p products → IsFit (length scene.solids) p) where
@@ -86,7 +88,7 @@ module _ (covering : CoveringLaw) (cells : CellsLaw) (scene : SceneView) (lawful
       let c = in_where (is_found s q.plain d l.x l.y && list_all (suited scene l z) (others q p)) k
       (key l (value_of d z) n) b.gives in
       let here = and_left (is_found s q.plain d l.x l.y) (list_all (suited scene l z) (others q p)) c.0 in
-      let found = is_candidate covering cells d s l.x l.y q.plain here in
+      let found = is_candidate d s l.x l.y q.plain here in
       let each : (r : Literal) → In r (literals p) → suited scene l z r ≡ true =
       λ r there. elim (differs r.solid q.solid) [
         | inl e ↦ ap (suited scene l z) (whole.once q r b.there there (eqb_holds r.solid q.solid e)) ∙ found.suited
@@ -115,7 +117,7 @@ module _ (covering : CoveringLaw) (cells : CellsLaw) (scene : SceneView) (lawful
       let q = b.from in
       let s = solid_of scene q.solid in
       let there = whole.known q b.there in
-      let found = is_seen covering cells d s l.x l.y q.plain z n (lawful q.solid no_solid there) (all q b.there)
+      let found = is_seen d s l.x l.y q.plain z n (lawful q.solid no_solid there) (all q b.there)
       b.gives in
       let y = cell_found s q.plain d l.x l.y in
       let k = key l (value_of d y) (number_found s q.plain d l.x l.y) in

@@ -1,8 +1,9 @@
 -- The passes are lawful in any memory that has room for them; what holds of all elements of lists.
-use Rattle.px_num.proofs.Basics.{arith, ◌≡◌, refl, ℕ, ◌≤◌, List, [], ◌∷◌, get_or, flat_map, All, cases_lt, get_or_past}
+use Rattle.px_num.proofs.Basics.{arith, ◌≡◌, refl, ℕ, ◌≤◌, List, ◌∷◌, get_or, flat_map, All, cases_lt, get_or_past, []}
 use Rattle.px_num.proofs.Basics.{All-append, All-get_or, All-head, All-nil, All-tail, Some, get_or_from_slice_get}
 use Rattle.px_num.proofs.Basics.{slice_get, slice_get_within}
-use Rattle.px_sched.proofs.Words.{IsLawfulScene, IsLawfulSolid, layout_of, Macro, need_of, passes_with, plan_of, SceneView}
+use Rattle.px_sched.proofs.Words.{IsLawfulScene, IsLawfulSolid, layout_of, Macro, need_of, passes_with, plan_of}
+use Rattle.px_sched.proofs.Words.{SceneView}
 use Rattle.px_macro.specs.Macros.{IsLawful, IsLawfulInMore}
 use Rattle.px_sched.specs.Passes.{passes}
 use Rattle.px_sched.specs.PassesFacts.{PassesAreLawful}

@@ -1,5 +1,5 @@
 -- The layout of a scene is one.
-use Rattle.px_num.proofs.Basics.{nat_tests, common_steps, ◌≡◌, ℕ, ◌+◌, ◌^◌, ◌<◌, ◌≤◌, Bool, true, false, List, [], ◌∷◌}
+use Rattle.px_num.proofs.Basics.{nat_tests, common_steps, ◌≡◌, ℕ, ◌+◌, ◌^◌, ◌<◌, ◌≤◌, Bool, true, false, List, ◌∷◌, []}
 use Rattle.px_num.proofs.Basics.{length, nat_le, count_by, filter, length-append, refl, arith, range_with_len}
 use Rattle.px_num.proofs.Basics.{count_by-le-length, length-filter, sum_by-cons, filter-append}
 use Rattle.px_sched.proofs.Words.{bit_length, faces_in, faces_of, IsLawfulScene, IsLayout, layout_of, range_cut}

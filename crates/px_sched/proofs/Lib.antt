@@ -17,7 +17,6 @@ pub mod PassesLaws
 pub mod ProductLaws
 pub mod RoomLemmas
 pub mod RunLemmas
-pub mod SightLemmas
 pub mod StandingLemmas
 pub mod StepLemmas
 pub mod Words

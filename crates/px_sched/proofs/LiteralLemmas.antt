@@ -1,10 +1,10 @@
 -- The candidate of a literal is what it shows at its cell of least number, and nothing that it shows comes before.
-use Rattle.px_num.proofs.Basics.{◌≡◌, ◌<◌, ◌≤◌, ◌+◌, ◌-◌, ℕ, zero, suc, ℤ, pos, Bool, true, false, ◌&&◌, List, [], ◌∷◌}
+use Rattle.px_num.proofs.Basics.{◌≡◌, ◌<◌, ◌≤◌, ◌+◌, ◌-◌, ℕ, zero, suc, ℤ, pos, Bool, true, false, ◌&&◌, List, ◌∷◌, []}
 use Rattle.px_num.proofs.Basics.{◌++◌, length, get_or, refl, ap, sym, ◌∙◌, subst, arith, inl, inr, ◌⊎◌, if◌then◌else◌}
 use Rattle.px_num.proofs.Basics.{◌==◌, All, AllPairs, int_eq, cases_Bool, cases_eq, nat_tests, get_or_append_left}
 use Rattle.px_num.proofs.Basics.{get_or-append_right, get_or-map, length-map}
 use Rattle.px_sched.proofs.Words.{and_left, and_right, back_planes, backs_at, cell_of, covering_back, covering_front}
-use Rattle.px_sched.proofs.Words.{CoveringLaw, Depths, end_of, enters_at, Face, face_number, face_plane, faces_at}
+use Rattle.px_sched.proofs.Words.{covered_once, Depths, end_of, enters_at, Face, face_number, face_plane, faces_at}
 use Rattle.px_sched.proofs.Words.{faces_in, fronts_at, greatest_fronts, int_eq_holds, int_same_true, is_front_face}
 use Rattle.px_sched.proofs.Words.{is_inside_before, IsLawfulSolid, IsNumberedFrom, leaves_at, level, Linear, lt_fails}
 use Rattle.px_sched.proofs.Words.{lt_false, lt_holds, lt_true, numbers_in_faces, planes_in_faces, same_true, SolidView}
@@ -48,7 +48,7 @@ pub in_where_true : (b : Bool) (n : ℕ) (ns : List ℕ) → In n (if b then ns 
 in_where_true true n ns h = (refl, h)
 in_where_true false n ns h = absurd h
 
-module _ (covering : CoveringLaw) (s : SolidView) (d : Depths) (x y : ℕ) where
+module _ (s : SolidView) (d : Depths) (x y : ℕ) where
   abbrev end : ℕ
   end = end_of d
 
@@ -99,7 +99,7 @@ module _ (covering : CoveringLaw) (s : SolidView) (d : Depths) (x y : ℕ) where
 
   -- ---- a plain literal
   pub plain_shows : In (face_number s (covering_front s x y)) (fronts_at s d x y (cell_of d (enters_at s x y)))
-  plain_shows = grind (arith, same_true, in_fronts)
+  plain_shows = grind (arith, covered_once, same_true, in_fronts)
 
   pub record PlainSeen (z n : ℕ) : Type 0 where
     pub cell : cell_of d (enters_at s x y) ≡ z
@@ -109,7 +109,7 @@ module _ (covering : CoveringLaw) (s : SolidView) (d : Depths) (x y : ℕ) where
   plain_seen lawful z n h =
       let two = in_where_true (cell_of d (enters_at s x y) == z) n (greatest_fronts s x y) h in
       let r = out_fronts n two.1 in
-      let least = (covering s end x y).front.least lawful r.place r.front r.value_is in
+      let least = (covered_once s end x y).front.least lawful r.place r.front r.value_is in
       record { cell = grind (arith, nat_tests); number = omega (arith, least, r.number_is) }
 
   -- ---- a barred literal
@@ -127,7 +127,7 @@ module _ (covering : CoveringLaw) (s : SolidView) (d : Depths) (x y : ℕ) where
   pub barred_shows : covering_back s end x y < first_back + length s.backs
       → In (face_number s (covering_back s end x y)) (faces_at s.backs x y (leaves_at s end x y))
   barred_shows there =
-      let law = covering s end x y in
+      let law = covered_once s end x y in
       let back = covering_back s end x y in
       let low = lt_fails back first_back law.back.behind in
       subst (λ n. In n (faces_at s.backs x y (leaves_at s end x y))) (sym (back_number back low))
@@ -154,7 +154,7 @@ module _ (covering : CoveringLaw) (s : SolidView) (d : Depths) (x y : ℕ) where
   barred_seen lawful z n h =
       let two = in_where_true (is_inside_before s d x y z && (cell_of d (leaves_at s end x y) == z)) n
       (faces_at s.backs x y (leaves_at s end x y)) h in
-      let law = covering s end x y in
+      let law = covered_once s end x y in
       let back = covering_back s end x y in
       let r = out_faces (level end ∷ []) (0 ∷ []) x y (leaves_at s end x y) s.backs n two.1 in
       let face = first_back + r.place in

@@ -1,7 +1,7 @@
 -- Members of lists, by their places too, and the least of them.
-use Rattle.px_num.proofs.Basics.{◌≡◌, ◌≤◌, ◌+◌, ℕ, zero, suc, get_or, length, Bool, true, List, [], ◌∷◌, ◌++◌}
-use Rattle.px_num.proofs.Basics.{map, min, refl, ap, sym, ◌∙◌, subst, arith, inl, inr, ◌⊎◌, if◌then◌else◌, ◌==◌, All}
-use Rattle.px_num.proofs.Basics.{filter, flat_map, fold, list_all, list_any, range_with_len, cases_Bool, nat_tests}
+use Rattle.px_num.proofs.Basics.{◌≡◌, ◌≤◌, ◌+◌, ℕ, zero, suc, get_or, length, Bool, true, List, ◌∷◌, ◌++◌, map, min, []}
+use Rattle.px_num.proofs.Basics.{refl, ap, sym, ◌∙◌, subst, arith, inl, inr, ◌⊎◌, if◌then◌else◌, ◌==◌, All, filter}
+use Rattle.px_num.proofs.Basics.{flat_map, fold, list_all, list_any, range_with_len, cases_Bool, nat_tests}
 use Rattle.px_sched.proofs.Words.{and_left, and_right, has_face, or_true}
 
 abbrev pub In : {X : Type 0} → X → List X → Type 0

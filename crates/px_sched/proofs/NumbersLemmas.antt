@@ -1,14 +1,20 @@
 -- The passes leave the key of the picture.
-use Rattle.px_num.proofs.Basics.{rules, ◌≡◌, ◌<◌, ◌≤◌, ◌*◌, ◌^◌, ◌&&◌, ℕ, Bool, true, false, List, [], ◌∷◌, length}
-use Rattle.px_num.proofs.Basics.{min, Option, Some, None, refl, ap, sym, ◌∙◌, arith, inl, inr, fold, All, mul-le-mul}
+use Rattle.px_num.proofs.Basics.{rules, ◌≡◌, ◌<◌, ◌≤◌, ◌*◌, ◌^◌, ◌&&◌, ℕ, Bool, true, false, List, ◌∷◌, length, min, []}
+use Rattle.px_num.proofs.Basics.{Option, Some, None, refl, ap, sym, ◌∙◌, arith, inl, inr, fold, All, mul-le-mul}
 use Rattle.px_num.proofs.Basics.{mul-le-mul_left, cases_lt, pow_pos}
-use Rattle.px_sched.proofs.Words.{after_steps, and_left, and_right, cases_order, cell, Cell, CellsLaw, CoveringLaw}
-use Rattle.px_sched.proofs.Words.{Depths, depths_of, faces_of, far_of, first_cell, forms, has_face, HasLeavesBelow}
-use Rattle.px_sched.proofs.Words.{HasSolidsBelow, is_member_at, is_void, IsLawfulScene, IsLawfulSolid, IsNormalForm}
-use Rattle.px_sched.proofs.Words.{kept_of, key, KeyedPixel, Keys, leaf_cell, least, leaves_below, min_cases, never}
-use Rattle.px_sched.proofs.Words.{picture, Product, PruningLaw, scene_cell, SceneView, Sight, sight_at, some_shows}
-use Rattle.px_sched.proofs.Words.{steps_with, sum_of_products, Tree, value_of, ValueParityLaw}
-use Rattle.px_face.specs.Surfaces.{FirstCellsAreFirst, IsFirst, IsFirstOf, ScenesHaveSurfaces, scene_before}
+use Rattle.px_sched.proofs.Words.{after_steps, and_left, and_right, cases_order, Cell, Depths, depths_of, faces_of}
+use Rattle.px_sched.proofs.Words.{far_of, first_cell, has_face, HasLeavesBelow, HasSolidsBelow, is_member_at, is_void}
+use Rattle.px_sched.proofs.Words.{IsLawfulScene, IsLawfulSolid, kept_of, key, KeyedPixel, Keys, leaf_cell, least}
+use Rattle.px_sched.proofs.Words.{leaves_below, min_cases, never, picture, Product, scene_cell, SceneView, Sight}
+use Rattle.px_sched.proofs.Words.{sight_at, some_shows, steps_with, sum_of_products, value_of}
+use Rattle.px_face.specs.Surfaces.{IsFirst, IsFirstOf, scene_before}
+use Rattle.px_face.proofs.BackgroundLemmas.{first_cells}
+use Rattle.px_face.proofs.SurfaceLemmas.{scene_surface}
+use Rattle.px_normal.proofs.NormalLemmas.{all_below, is_normal_form}
+use Rattle.px_normal.proofs.SolidsLaws.{solids_laws}
+use Rattle.px_prune.proofs.KeptLaws.{kept_is_shown, none_is_void}
+use Rattle.px_prune.proofs.StayingLemmas.{kept_below}
+use Rattle.px_prune.specs.Bounding.{bounding_box}
 use Rattle.px_sched.proofs.RunLemmas.{HasRoom}
 use Rattle.px_sched.proofs.BlockLemmas.{all_found, steps_best}
 use Rattle.px_sched.proofs.MemberLaws.{In, all_in, face_in, in_face}
@@ -53,25 +59,7 @@ key_before : (l : KeyedPixel) (d : Depths) (y z m n : ℕ) → y < z → m < 2 ^
     < key l (value_of d z) n
 key_before l d y z m n h small = grind (arith, pow_pos, min_cases, mul-le-mul, mul-le-mul_left)
 
--- the laws of the lower crates
-pub record Laws : Type 0 where
-  pub covering : CoveringLaw
-  pub cells : CellsLaw
-  pub parity : ValueParityLaw
-  pub surfaces : ScenesHaveSurfaces
-  pub first : FirstCellsAreFirst
-  pub normal : (tree : Tree) → HasLeavesBelow 256 tree → (solid_at : ℕ → Cell)
-      → IsNormalForm solid_at (forms tree) (cell solid_at tree)
-  pub known : (count : ℕ) (tree : Tree) → HasLeavesBelow 256 tree → HasLeavesBelow count tree
-      → All (HasSolidsBelow count) (sum_of_products tree)
-  pub pruning : (scene : SceneView) → IsLawfulScene scene → (products : List Product)
-      → PruningLaw scene products (kept_of scene products)
-  pub apart : (scene : SceneView) (products : List Product)
-      → All (λ product. is_void product ≡ false) (kept_of scene products)
-  pub kept_known : (count : ℕ) (scene : SceneView) (products : List Product) → All (HasSolidsBelow count) products
-      → All (HasSolidsBelow count) (kept_of scene products)
-
-module _ (laws : Laws) (scene : SceneView) (lawful : IsLawfulScene scene) (l : KeyedPixel)
+module _ (scene : SceneView) (lawful : IsLawfulScene scene) (l : KeyedPixel)
     (place : IsPixelOf scene l) where
   abbrev d : Depths
   d = depths_of scene
@@ -93,7 +81,7 @@ module _ (laws : Laws) (scene : SceneView) (lawful : IsLawfulScene scene) (l : K
 
   -- where the shown expression begins it shows a face
   begins : (z : ℕ) → IsFirst test far z → 0 < length (seen z).shown
-  begins z r = (laws.surfaces scene lawful l.x l.y z r.below).first (before_first z r) r.passes
+  begins z r = (scene_surface scene lawful l.x l.y z r.below).first (before_first z r) r.passes
 
   abbrev whole : List Product
   whole = sum_of_products scene.show
@@ -106,14 +94,17 @@ module _ (laws : Laws) (scene : SceneView) (lawful : IsLawfulScene scene) (l : K
 
   -- the kept products show what the expression shows
   kept_show : (z n : ℕ) → z < far → some_shows (at z) n kept ≡ ((seen z).member && has_face n (seen z).shown)
-  kept_show z n low = grind (arith, below_256)
+  kept_show z n low =
+      let normal = is_normal_form (at z) scene.show below_256 in
+      let law = kept_is_shown scene lawful whole in
+      grind arith
 
   each_fit : (p : Product) → In p kept → IsFit (length scene.solids) p
   each_fit p there =
       fit (length scene.solids) p
-      (all_in (HasSolidsBelow (length scene.solids)) kept p (laws.kept_known (length scene.solids) scene whole
-      (laws.known (length scene.solids) scene.show below_256 lawful.shown)) there)
-      (all_in (λ product. is_void product ≡ false) kept p (laws.apart scene whole) there)
+      (all_in (HasSolidsBelow (length scene.solids)) kept p (kept_below solids_laws (length scene.solids) (bounding_box scene) whole
+      (all_below (length scene.solids) scene.show below_256 lawful.shown)) there)
+      (all_in (λ product. is_void product ≡ false) kept p (none_is_void scene whole) there)
 
   pub room : HasRoom l d
   room = record { big = rw place.depth_bits (omega (arith, pow_pos scene.depth_bits)); same = place.fraction_bits }
@@ -130,7 +121,7 @@ module _ (laws : Laws) (scene : SceneView) (lawful : IsLawfulScene scene) (l : K
 
     at_first : (t : ℕ) → IsFirst test far t → IsKeyOf l (sight_at scene l.x l.y (Some t)) best
     at_first t r =
-        let b = best_is_least laws.covering laws.cells scene solids lawful.numbers l kept each_fit in
+        let b = best_is_least scene solids lawful.numbers l kept each_fit in
         let face = least (seen t).shown in
         let there = least_in (seen t).shown (begins t r) in
         let low = b.below t face (omega (arith, r.below)) (kept_show t face r.below
@@ -160,7 +151,7 @@ module _ (laws : Laws) (scene : SceneView) (lawful : IsLawfulScene scene) (l : K
 
     at_none : ((z : ℕ) → z < far → test z ≡ false) → IsKeyOf l (sight_at scene l.x l.y None) best
     at_none none =
-        let b = best_is_least laws.covering laws.cells scene solids lawful.numbers l kept each_fit in
+        let b = best_is_least scene solids lawful.numbers l kept each_fit in
         let is_key : best ≡ key l (value_of d far) 0 = grind (arith, cases_lt, never, and_left, kept_show) in
         record { key = is_key ∙ same_key far 0; depth = big; face = pow_pos l.number_bits }
 
@@ -168,7 +159,7 @@ module _ (laws : Laws) (scene : SceneView) (lawful : IsLawfulScene scene) (l : K
     best_found x r = grind (arith, at_none, at_first)
 
     best_is_picture : IsKeyOf l (picture scene l.x l.y) best
-    best_is_picture = best_found (first_cell scene l.x l.y) (laws.first scene l.x l.y)
+    best_is_picture = best_found (first_cell scene l.x l.y) (first_cells scene l.x l.y)
 
-pub numbers_show_the_picture : Laws → NumbersShowThePicture
-numbers_show_the_picture laws scene lawful solids l place k = search (rules, steps_best, room, best_is_picture)
+pub numbers_show_the_picture : NumbersShowThePicture
+numbers_show_the_picture scene lawful solids l place k = search (rules, steps_best, room, best_is_picture)

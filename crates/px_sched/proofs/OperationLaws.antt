@@ -1,6 +1,6 @@
 -- What holds of all operations of the passes, by the cases of a step; the face of each step is there.
-use Rattle.px_num.proofs.Basics.{rules, ◌≡◌, ℕ, ◌+◌, ◌-◌, ◌*◌, ◌^◌, ◌==◌, ◌≤◌, All, Bool, true, false, List, [], ◌∷◌}
-use Rattle.px_num.proofs.Basics.{◌++◌, length, map, inl, inr, arith, flat_map, range_with_len, cases_Bool, All-append}
+use Rattle.px_num.proofs.Basics.{rules, ◌≡◌, ℕ, ◌+◌, ◌-◌, ◌*◌, ◌^◌, ◌==◌, ◌≤◌, All, Bool, true, false, List, ◌∷◌, ◌++◌}
+use Rattle.px_num.proofs.Basics.{[], length, map, inl, inr, arith, flat_map, range_with_len, cases_Bool, All-append}
 use Rattle.px_num.proofs.Basics.{All-cons, All-map, All-push}
 use Rattle.px_sched.proofs.Words.{Begin, Candidate, candidate_faces, Clear, Close, confirm, Confirm, deep_part, Depths}
 use Rattle.px_sched.proofs.Words.{depths_of, Drop, edges, end_of, face_count, face_number, face_plane, fraction_part}

@@ -1,5 +1,5 @@
 -- The literals of a product, and what it shows where it holds.
-use Rattle.px_num.proofs.Basics.{common_steps, ◌≡◌, ◌<◌, ◌≤◌, ◌+◌, ℕ, zero, suc, Bool, true, false, not, List, [], ◌∷◌}
+use Rattle.px_num.proofs.Basics.{common_steps, ◌≡◌, ◌<◌, ◌≤◌, ◌+◌, ℕ, zero, suc, Bool, true, false, not, List, ◌∷◌, []}
 use Rattle.px_num.proofs.Basics.{length, get_or, ap, sym, ◌∙◌, subst, arith, inl, inr, if◌then◌else◌, filter, list_all}
 use Rattle.px_num.proofs.Basics.{list_any, option_map_or, cases_Bool, cases_eq, sum_by-cons, slice_get-get_or}
 use Rattle.px_sched.proofs.Words.{and_left, and_right, AreNumberedFrom, backs_at, Cell, Depths, depths_of, faces_in}

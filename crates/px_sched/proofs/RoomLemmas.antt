@@ -1,6 +1,6 @@
 -- The numbers of the keys have room in their bits.
 use Rattle.px_num.proofs.Basics.{◌≡◌, ℕ, suc, zero, ◌+◌, ◌*◌, ◌^◌, ◌<◌, ◌≤◌, Bool, true, false, cond, nat_le, count_by}
-use Rattle.px_num.proofs.Basics.{◌∙◌, [], ◌∷◌, ◌++◌, add-one, length, refl, ap, sym, inl, inr, arith, range_with_len}
+use Rattle.px_num.proofs.Basics.{[], ◌∙◌, ◌∷◌, ◌++◌, add-one, length, refl, ap, sym, inl, inr, arith, range_with_len}
 use Rattle.px_num.proofs.Basics.{cases_lt, get_or_past, All-append, All-cons, All-map, All-push, pow-add}
 use Rattle.px_sched.proofs.Words.{bit_length, Face, face_number, faces_in, faces_of, IsLawfulScene, IsNumberedFrom}
 use Rattle.px_sched.proofs.Words.{le_false, le_true, numbers_in_faces, pow_above, SceneView, solid_of, SolidView}

@@ -1,12 +1,12 @@
 -- What lists of steps leave of the keys.
-use Rattle.px_num.proofs.Basics.{rules, ◌≡◌, ◌<◌, ◌≤◌, ◌+◌, ◌+ℤ◌, ◌-◌, ◌^◌, ℕ, zero, suc, ℤ, pos, Bool, true, false}
-use Rattle.px_num.proofs.Basics.{◌&&◌, not, nat_le, List, [], ◌∷◌, map, count_by, refl, ap, sym, ◌∙◌, arith}
-use Rattle.px_num.proofs.Basics.{if◌then◌else◌, beq, fold, flat_map, range_with_len, fold-map, fold-append, pow-add}
-use Rattle.px_num.proofs.Basics.{pow_pos, mul-le-mul}
-use Rattle.px_sched.proofs.Words.{after_step, after_steps, cell_of, CoveringLaw, Depths, depths_of, end_of, face_count}
+use Rattle.px_num.proofs.Basics.{rules, ◌≡◌, ◌<◌, ◌≤◌, ◌+◌, ◌+ℤ◌, ◌-◌, ◌^◌, ℕ, zero, suc, ℤ, pos, Bool, true, false, []}
+use Rattle.px_num.proofs.Basics.{◌&&◌, not, nat_le, List, ◌∷◌, map, count_by, refl, ap, sym, ◌∙◌, arith, if◌then◌else◌}
+use Rattle.px_num.proofs.Basics.{beq, fold, flat_map, range_with_len, fold-map, fold-append, pow-add, pow_pos}
+use Rattle.px_num.proofs.Basics.{mul-le-mul}
+use Rattle.px_sched.proofs.Words.{after_step, after_steps, cell_of, covered_once, Depths, depths_of, end_of, face_count}
 use Rattle.px_sched.proofs.Words.{face_plane, flipped, is_inside_at, is_odd, is_passed_at, is_passing, judge}
 use Rattle.px_sched.proofs.Words.{KeyedPixel, Keys, le_z, Literal, literal_at, modulo, SceneView, solid_of, SolidView}
-use Rattle.px_sched.proofs.Words.{Step, Turn, turned_from_false, value_of, ValueParityLaw, without_fraction}
+use Rattle.px_sched.proofs.Words.{Step, Turn, turned_from_false, value_of, odd_inside_at, without_fraction}
 use Rattle.px_face.proofs.ParityLaws.{turned_is_odd, turned_where}
 use Rattle.px_sched.proofs.CoverLaws.{and_same, IsDepth, mod_small, le_same, at_most_is, covering_value}
 
@@ -77,7 +77,7 @@ pub ended : (b d n : ℕ) (a inside plain : Bool)
     ≡ keys_of b d n (a && (if plain then inside else not inside)) (a && inside)
 ended b d n a inside plain = grind arith
 
-module _ (covering : CoveringLaw) (parity : ValueParityLaw) (scene : SceneView) (l : KeyedPixel)
+module _ (scene : SceneView) (l : KeyedPixel)
     (big : end_of (depths_of scene) < 2 ^ (l.depth_bits + l.fraction_bits)) where
   abbrev end : ℕ
   end = end_of (depths_of scene)
@@ -105,5 +105,5 @@ module _ (covering : CoveringLaw) (parity : ValueParityLaw) (scene : SceneView) 
       ∙ flips u start (range_with_len 0 n)
       ∙ ap (λ b. keys_of k.best k.deep k.number k.alive b)
       (alive_odd k.alive (u k.deep) (range_with_len 0 n)
-      ∙ ap (λ b. k.alive && b) (sym (parity s end l.x l.y k.deep))) in
+      ∙ ap (λ b. k.alive && b) (sym (odd_inside_at s end l.x l.y (covered_once s end l.x l.y) k.deep))) in
       grind (arith, fold-append, ended)

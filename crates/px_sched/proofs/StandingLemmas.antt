@@ -1,6 +1,6 @@
 -- A cursor gives the passes, or the steps, in their order.
-use Rattle.px_num.proofs.Basics.{nat_tests, common_steps, ◌≡◌, ℕ, ◌+◌, ◌-◌, ◌^◌, ◌<◌, ◌≤◌, Bool, List, [], ◌∷◌, ◌++◌}
-use Rattle.px_num.proofs.Basics.{drop, filter, get_or, IfSome, length, slice_get, take, Some, None, ap, sym, ◌∙◌, arith}
+use Rattle.px_num.proofs.Basics.{nat_tests, common_steps, ◌≡◌, ℕ, ◌+◌, ◌-◌, ◌^◌, ◌<◌, ◌≤◌, Bool, List, ◌∷◌, ◌++◌, drop}
+use Rattle.px_num.proofs.Basics.{[], filter, get_or, IfSome, length, slice_get, take, Some, None, ap, sym, ◌∙◌, arith}
 use Rattle.px_num.proofs.Basics.{cond, length-append, unwrap_or, flat_map, drop_more, count_by-le-length, length-filter}
 use Rattle.px_num.proofs.Basics.{slice_get-get_or, slice_get_past, get_or_append_left}
 use Rattle.px_sched.proofs.Words.{behind_stage, from_stage, IsStage, layout_of, length-drop, length-take, Macro}

@@ -1,7 +1,7 @@
 -- What comes after a step, of a literal or of a group, begins with the next one.
-use Rattle.px_num.proofs.Basics.{◌≡◌, ◌+◌, ◌-◌, ◌^◌, ◌<◌, ◌≤◌, ◌==◌, ◌++◌, ◌∙◌, ℕ, true, not, List, [], ◌∷◌, All, drop}
-use Rattle.px_num.proofs.Basics.{get_or, length, map, flat_map, refl, ap, sym, subst, arith, common_steps}
-use Rattle.px_num.proofs.Basics.{append_assoc, length-append, length-map, drop_more, get_or-map, get_or-append_right}
+use Rattle.px_num.proofs.Basics.{◌≡◌, ◌+◌, ◌-◌, ◌^◌, ◌<◌, ◌≤◌, ◌==◌, ◌++◌, ◌∙◌, ℕ, true, not, List, ◌∷◌, All, drop, []}
+use Rattle.px_num.proofs.Basics.{get_or, length, map, flat_map, refl, ap, sym, subst, arith, common_steps, append_assoc}
+use Rattle.px_num.proofs.Basics.{length-append, length-map, drop_more, get_or-map, get_or-append_right}
 use Rattle.px_num.proofs.Basics.{get_or_append_left, All-filter, All-get_or}
 use Rattle.px_sched.proofs.Words.{AreKnown, At, Begin, BeginAt, BeginWith, behind_step, deep_part, Depths, end_of}
 use Rattle.px_sched.proofs.Words.{face_number, face_plane, Field, fraction_part, HasKnownLiterals, judged_from}

@@ -3,9 +3,12 @@ pub use Rattle.arrayvec.specs.ArrayVec.{array_vec_len}
 pub use Rattle.px_expr.proofs.LeafLaws.{leaves_below, some_solid}
 pub use Rattle.px_expr.specs.Cells.{cell, Cell, has_face}
 pub use Rattle.px_expr.specs.Tree.{HasLeavesBelow, Tree}
-pub use Rattle.px_face.specs.Covering.{CellsLaw, covering_back, covering_front, CoveringLaw, is_met, is_odd}
-pub use Rattle.px_face.specs.Covering.{is_passed_at, ValueParityLaw}
-pub use Rattle.px_face.specs.EdgeLaws.{EdgesAreCounted, EdgesAreInRange, PlanesAreInRange}
+pub use Rattle.px_face.specs.Covering.{covering_back, covering_front, is_met, is_odd, is_passed_at}
+pub use Rattle.px_face.proofs.CellLemmas.{has_cells}
+pub use Rattle.px_face.proofs.CoveringLemmas.{covered_once}
+pub use Rattle.px_face.proofs.EdgeLemmas.{edges_count, edges_range}
+pub use Rattle.px_face.proofs.ParityLemmas.{odd_inside_at}
+pub use Rattle.px_face.proofs.RangeLemmas.{plane_of_range}
 pub use Rattle.px_face.specs.Edges.{covers, edge_count, edges, hold_at}
 pub use Rattle.px_face.specs.Faces.{back_planes, face_count, face_number, face_plane, is_front_face, level}
 pub use Rattle.px_face.specs.Faces.{numbers_in_faces, planes_in_faces}
@@ -42,10 +45,9 @@ pub use Rattle.px_sched.specs.Layouts.{layout_with, LayoutView, need_of, number_
 pub use Rattle.px_sched.specs.Numbers.{after_step, after_steps, dropped, flipped, is_passing, key, KeyedPixel, Keys}
 pub use Rattle.px_sched.specs.Numbers.{loaded, residue, where_passing, without_fraction}
 pub use Rattle.px_sched.specs.Onward.{AreKnown, BeginWith, HasKnownLiterals}
-pub use Rattle.px_sched.specs.Passes.{candidate_faces, confirm, judge, keep_covered, literal, literal_at}
-pub use Rattle.px_sched.specs.Passes.{literal_steps, literals, literals_of, load_candidate, no_literal, no_solid}
-pub use Rattle.px_sched.specs.Passes.{operations, others, passes, product_steps, solid_of, steps_with, where_fraction}
-pub use Rattle.px_sched.specs.Passes.{where_passed}
+pub use Rattle.px_sched.specs.Passes.{candidate_faces, confirm, judge, keep_covered, literal, literal_at, literal_steps}
+pub use Rattle.px_sched.specs.Passes.{literals, literals_of, load_candidate, no_literal, no_solid, operations, others}
+pub use Rattle.px_sched.specs.Passes.{passes, product_steps, solid_of, steps_with, where_fraction, where_passed}
 pub use Rattle.px_sched.specs.Steps.{behind_step, HasFace, IsStep, IsThere, judged_from, passes_with}
 pub use Rattle.px_sched.specs.Worths.{bare, confirm_worth, edges_in, first_face_step, judged_worth, own_worth, passing}
 pub use Rattle.px_sched.specs.declared.group.Stage.{Stage}

@@ -1,13 +1,13 @@
 -- Sums over the operations of a step and over the steps of a literal, by the cases of a step.
-use Rattle.px_num.proofs.Basics.{nat_tests, common_steps, ◌≡◌, ℕ, ◌+◌, ◌-◌, ◌*◌, ◌^◌, All, Bool, true, false, List, []}
-use Rattle.px_num.proofs.Basics.{◌∷◌, ◌++◌, length, map, refl, ap, sym, ◌∙◌, arith, flat_map, range_with_len, sum_by}
+use Rattle.px_num.proofs.Basics.{nat_tests, common_steps, ◌≡◌, ℕ, ◌+◌, ◌-◌, ◌*◌, ◌^◌, All, Bool, true, false, List, ◌∷◌}
+use Rattle.px_num.proofs.Basics.{[], ◌++◌, length, map, refl, ap, sym, ◌∙◌, arith, flat_map, range_with_len, sum_by}
 use Rattle.px_num.proofs.Basics.{All-head, All-tail, fold-map, length-range_with_len, sum_by-append, sum_by-cons}
 use Rattle.px_sched.proofs.Words.{bare, Candidate, candidate_faces, confirm, deep_part, depths_of, Drop, edge_count}
-use Rattle.px_sched.proofs.Words.{edges_in, EdgesAreCounted, end_of, face_number, face_plane, Field, first_face_step}
-use Rattle.px_sched.proofs.Words.{fraction_part, Front, HasFace, IsThere, judge, judged_worth, keep_covered}
-use Rattle.px_sched.proofs.Words.{LayoutView, level, Linear, Literal, literal_at, literal_steps, Macro, Merge}
-use Rattle.px_sched.proofs.Words.{no_literal, number_part, Open, operations, own_worth, passing, plus, Product}
-use Rattle.px_sched.proofs.Words.{product_steps, SceneView, solid_of, Step, steps_with, where_fraction, where_passed}
+use Rattle.px_sched.proofs.Words.{edges_in, edges_count, end_of, face_number, face_plane, Field, first_face_step}
+use Rattle.px_sched.proofs.Words.{fraction_part, Front, HasFace, IsThere, judge, judged_worth, keep_covered, LayoutView}
+use Rattle.px_sched.proofs.Words.{level, Linear, Literal, literal_at, literal_steps, Macro, Merge, no_literal}
+use Rattle.px_sched.proofs.Words.{number_part, Open, operations, own_worth, passing, plus, Product, product_steps}
+use Rattle.px_sched.proofs.Words.{SceneView, solid_of, Step, steps_with, where_fraction, where_passed}
 use Rattle.px_sched.specs.declared.step.Step.TheVariants.{Start}
 use Rattle.px_sched.proofs.MemberLaws.{by_places}
 use Rattle.px_macro.specs.declared.operation.Macro.TheVariants as m
@@ -88,7 +88,7 @@ pub record IsBlind (w : Macro → ℕ) : Type 0 where
   pub constant : (field : Field) (n : ℕ) → w (m.LoadConst field n) ≡ w (m.LoadConst field 0)
   pub keep : (at : ℕ) (bit : Bool) → w (m.KeepBit at bit) ≡ w (m.KeepBit at false)
 
-module _ (count : EdgesAreCounted) (scene : SceneView) (l : LayoutView) (w : Macro → ℕ) (blind : IsBlind w) where
+module _ (scene : SceneView) (l : LayoutView) (w : Macro → ℕ) (blind : IsBlind w) where
   abbrev end : ℕ
   end = end_of (depths_of scene)
 
@@ -103,7 +103,7 @@ module _ (count : EdgesAreCounted) (scene : SceneView) (l : LayoutView) (w : Mac
   around : (solid face : ℕ) (head tail : List Macro) → IsThere scene solid face
       → sum_by w (head ++ (keep_covered end (solid_of scene solid) face ++ tail))
       ≡ sum_by w head + sum_by w tail + edge_count (solid_of scene solid) * edge
-  around solid face head tail there = grind (arith, signs, sum_by-append)
+  around solid face head tail there = grind (arith, edges_count, signs, sum_by-append)
 
   passed : (solid face : ℕ) (form : Linear) (operation : Macro) → IsThere scene solid face
       → sum_by w (where_passed l end (solid_of scene solid) face form operation)

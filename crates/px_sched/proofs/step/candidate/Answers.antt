@@ -1,4 +1,4 @@
-use Rattle.px_num.proofs.Basics.{◌∙◌, [], ◌∷◌, refl}
+use Rattle.px_num.proofs.Basics.{◌∙◌, ◌∷◌, refl, []}
 use Rattle.px_sched.proofs.Words.{depths_of, load_candidate, solid_of}
 use Rattle.px_macro.specs.declared.operation.Macro.TheVariants as m
 use Rattle.px_sched.proofs.step.candidate.Goals as goal

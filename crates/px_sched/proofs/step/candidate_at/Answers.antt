@@ -1,4 +1,4 @@
-use Rattle.px_num.proofs.Basics.{◌≡◌, ◌==◌, false, [], ◌∷◌, ap, arith, get_or, nat_tests, refl, sym, ◌∙◌}
+use Rattle.px_num.proofs.Basics.{◌≡◌, ◌==◌, false, ◌∷◌, ap, arith, get_or, nat_tests, refl, sym, ◌∙◌, []}
 use Rattle.px_sched.proofs.Words.{depths_of, face_number, LayoutView, solid_of, SolidView}
 use Rattle.px_sched.proofs.StepLemmas.{candidate_is}
 use Rattle.px_macro.specs.declared.operation.Macro.TheVariants as m

@@ -1,4 +1,4 @@
-use Rattle.px_num.proofs.Basics.{◌≡◌, ◌==◌, ◌++◌, ◌∙◌, [], Bool, true, ap, arith, if◌then◌else◌, nat_tests}
+use Rattle.px_num.proofs.Basics.{◌≡◌, ◌==◌, ◌++◌, ◌∙◌, Bool, true, ap, arith, if◌then◌else◌, nat_tests, []}
 use Rattle.px_sched.proofs.Words.{confirm, judged_from}
 use Rattle.px_sched.proofs.step.confirm_from.Goals as goal
 

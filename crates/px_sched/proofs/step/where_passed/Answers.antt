@@ -1,4 +1,4 @@
-use Rattle.px_num.proofs.Basics.{◌≡◌, ◌<◌, ℕ, arith, true, [], ◌∷◌, ap, get_or, refl, ◌∙◌}
+use Rattle.px_num.proofs.Basics.{◌≡◌, ◌<◌, ℕ, arith, true, ◌∷◌, ap, get_or, refl, ◌∙◌, []}
 use Rattle.px_sched.proofs.Words.{deep_part, Field, LayoutView, Macro}
 use Rattle.px_macro.specs.declared.operation.Macro.TheVariants as m
 use Rattle.px_sched.proofs.step.where_passed.Goals as goal

@@ -1,7 +1,8 @@
 use Rattle.px_num.proofs.Basics.{◌≡◌, ◌+◌, ap, arith, cond, refl, rules, sym, ◌∙◌}
 use Rattle.px_sched.specs.StepCursors.{opens_literal}
 use Rattle.px_sched.proofs.DrawnLaws.{kept_drawn}
-use Rattle.px_sched.proofs.StandingLemmas.{few_literals, literals_more, none_found, others_here, stands_behind, step_found}
+use Rattle.px_sched.proofs.StandingLemmas.{few_literals, literals_more, none_found, others_here, stands_behind}
+use Rattle.px_sched.proofs.StandingLemmas.{step_found}
 use Rattle.px_sched.proofs.step_cursor.StepCursor.next_step.Goals as goal
 
 pub overflow_add-self-in-Some : goal.overflow_add-self-in-Some
