@@ -45,7 +45,7 @@ sign_of_edge head tail es n at e size from to is =
 -- and one of a tail
 pub behind_edges : (head tail : List Macro) (es : List Linear) (n at : ℕ) → length es ≡ n → length head ≤ at
     → n ≤ at - length head
-    → get_or (head ++ tail) (at - n) m.All ≡ get_or (head ++ map m.KeepSign es ++ tail) at m.All
+    → get_or tail (at - length head - n) m.All ≡ get_or (head ++ map m.KeepSign es ++ tail) at m.All
 behind_edges head tail es n at size from past =
     grind (arith, get_or-append_right, length-append, length-map)
 

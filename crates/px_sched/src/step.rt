@@ -321,31 +321,22 @@ fn candidate(scene: &Scene, solid: u8, face: usize, layout: &Layout, at: usize) 
     ensures { result ≡
         get_or (candidate layout.now (depths_of scene.now) (solid_of scene.now solid) face) at m.All }
 {
-    match edge_or_place(scene, solid, face, 1, at) {
-        Ok(edge) => Macro::KeepSign(edge),
-        Err(place) => candidate_at(scene, solid, face, layout, place),
-    }
-}
-
-/// One of the operations of such a step but for those of the edges.
-fn candidate_at(scene: &Scene, solid: u8, face: usize, layout: &Layout, place: usize) -> Macro
-    requires solid { solid < length scene.now.solids }
-    requires face { face < face_count (solid_of scene.now solid) }
-    requires bits { layout.now.fraction_bits ≡ scene.now.fraction_bits }
-    requires place { place < length (m.All ∷ load_candidate layout.now (depths_of scene.now)
-        (solid_of scene.now solid) face) }
-    ensures { result ≡ get_or (m.All ∷ load_candidate layout.now (depths_of scene.now)
-        (solid_of scene.now solid) face) place m.All }
-{
     let load = Macro::LoadLinear(rounded_up(scene, solid, face), layout.t_deep());
     let face_number = number_of(solid_at(scene, solid), face);
     let number = Macro::LoadConst(layout.t_number(), u64::from(face_number));
     let set = Macro::SetBit(layout.alive, true);
     if scene.fraction_bits() == 0 {
-        [Macro::All, load, number, set][place]
+        around(scene, solid, face, &[Macro::All], &[load, number, set], at)
     } else {
         let clear = Macro::LoadConst(layout.t_fraction(), 0);
-        [Macro::All, load, clear, number, set][place]
+        around(
+            scene,
+            solid,
+            face,
+            &[Macro::All],
+            &[load, clear, number, set],
+            at,
+        )
     }
 }
 
@@ -398,44 +389,31 @@ fn where_passed(
     ensures { result ≡ get_or (where_passed layout.now (end_of (depths_of scene.now))
         (solid_of scene.now solid) face form.now operation) at m.All }
 {
-    match edge_or_place(scene, solid, face, 2, at) {
-        Ok(edge) => Macro::KeepSign(edge),
-        Err(place) => [
-            Macro::All,
-            Macro::KeepBit(layout.alive, true),
-            Macro::KeepAtMost(*form, layout.t_deep()),
-            operation,
-        ][place],
-    }
+    let head = [Macro::All, Macro::KeepBit(layout.alive, true)];
+    let tail = [Macro::KeepAtMost(*form, layout.t_deep()), operation];
+    around(scene, solid, face, &head, &tail, at)
 }
 
-/// The edge of an operation among a head of so many operations, one for each edge of a face, and a
-/// tail; otherwise the operation's place in the head and the tail alone.
-fn edge_or_place(
-    scene: &Scene,
-    solid: u8,
-    face: usize,
-    before: usize,
-    at: usize,
-) -> Result<Linear, usize>
+/// An operation of a head, one for each edge of a face, and a tail.
+#[inline(always)]
+#[tactic(auto, using(crate::proofs::StepLemmas::sign_of_edge, crate::proofs::StepLemmas::behind_edges))]
+fn around(scene: &Scene, solid: u8, face: usize, head: &[Macro], tail: &[Macro], at: usize) -> Macro
     requires solid { solid < length scene.now.solids }
     requires face { face < face_count (solid_of scene.now solid) }
-    ensures edge { IfOk result (λ edge. (head tail : List Macro) → length head ≡ before → m.KeepSign edge ≡
-        get_or (around_edges scene.now solid face head tail) at m.All) }
-    ensures place { IfErr result (λ place. (head tail : List Macro) → length head ≡ before →
-        get_or (head ++ tail) place m.All ≡ get_or (around_edges scene.now solid face head tail) at m.All) }
-    ensures within { IfErr result (λ place. (head tail : List Macro) → length head ≡ before →
-        at < length (around_edges scene.now solid face head tail) → place < length (head ++ tail)) }
+    requires at { at < length (around_edges scene.now solid face head.now tail.now) }
+    ensures { result ≡ get_or (around_edges scene.now solid face head.now tail.now) at m.All }
 {
     laws_of_edges();
+    if at < head.len() {
+        return head[at];
+    }
     let solid = solid_at(scene, solid);
     let edges = edge_count(solid);
-    if at < before {
-        Err(at)
-    } else if at - before < edges {
-        Ok(edge_at(solid, scene.end(), face, at - before))
+    let place = at - head.len();
+    if place < edges {
+        Macro::KeepSign(edge_at(solid, scene.end(), face, place))
     } else {
-        Err(at - edges)
+        tail[place - edges]
     }
 }
 
