@@ -87,15 +87,15 @@ impl Step {
         ensures { result ≡ get_or (operations scene.now layout.now self) at m.All }
     {
         match self {
-            Step::Start => behind_all(background(scene, layout), at),
-            Step::Open => behind_all(Macro::SetBit(layout.alive, false), at),
+            Step::Start => [Macro::All, background(scene, layout)][at],
+            Step::Open => [Macro::All, Macro::SetBit(layout.alive, false)][at],
             Step::Candidate(solid, face) => candidate(scene, solid, face, layout, at),
             Step::Drop(solid, face) => {
                 let plane = plane_at(scene, solid, face);
                 let set = Macro::SetBit(layout.alive, false);
                 where_passed(scene, solid, face, &plane, layout, set, at)
             }
-            Step::Clear | Step::Begin(_) => behind_all(Macro::SetBit(layout.par, false), at),
+            Step::Clear | Step::Begin(_) => [Macro::All, Macro::SetBit(layout.par, false)][at],
             Step::Front(solid, face) => {
                 let form = cell_behind(scene, solid, face);
                 let turn = Macro::Toggle(layout.par);
@@ -108,7 +108,12 @@ impl Step {
                 where_passed(scene, solid, face, &plane, layout, turn, at)
             }
             Step::Close(_, plain) => judged(layout, !plain, at),
-            Step::Merge => merged(layout, at),
+            Step::Merge => [
+                Macro::All,
+                Macro::KeepBit(layout.alive, true),
+                Macro::KeepLess(layout.key_t, layout.key_b),
+                Macro::Copy(layout.key_t, layout.key_b),
+            ][at],
         }
     }
 
@@ -274,41 +279,16 @@ fn candidate_count(scene: &Scene, solid: &Solid) -> usize
     }
 }
 
-/// An operation of a step of two: all pixels, and one more.
-fn behind_all(operation: Macro, at: usize) -> Macro
-    requires { at < 2 }
-    ensures { result ≡ get_or (m.All ∷ operation ∷ []) at m.All }
-{
-    if at == 0 { Macro::All } else { operation }
-}
-
 /// An operation of a step that ends the life of a candidate where the parity is so.
 fn judged(layout: &Layout, parity: bool, at: usize) -> Macro
     requires { at < 3 }
     ensures { result ≡ get_or (m.All ∷ m.KeepBit layout.now.par parity
         ∷ m.SetBit layout.now.alive false ∷ []) at m.All }
 {
-    if at == 0 {
-        Macro::All
-    } else if at == 1 {
-        Macro::KeepBit(layout.par, parity)
-    } else {
-        Macro::SetBit(layout.alive, false)
-    }
-}
-
-/// An operation of the step that takes a live candidate for the best where it is nearer.
-fn merged(layout: &Layout, at: usize) -> Macro
-    requires { at < 4 }
-    ensures { result ≡ get_or (m.All ∷ m.KeepBit layout.now.alive true
-        ∷ m.KeepLess layout.now.key_t layout.now.key_b
-        ∷ m.Copy layout.now.key_t layout.now.key_b ∷ []) at m.All }
-{
     [
         Macro::All,
-        Macro::KeepBit(layout.alive, true),
-        Macro::KeepLess(layout.key_t, layout.key_b),
-        Macro::Copy(layout.key_t, layout.key_b),
+        Macro::KeepBit(layout.par, parity),
+        Macro::SetBit(layout.alive, false),
     ][at]
 }
 
