@@ -12,7 +12,7 @@ use Rattle.px_sched.proofs.Words.{Merge, modulo, no_literal, others, plus, Produ
 use Rattle.px_sched.proofs.Words.{solid_of, SolidView, steps_with, value_at-plus, value_of, where_fraction}
 use Rattle.px_sched.proofs.Words.{without_fraction}
 use Rattle.px_sched.proofs.MemberLaws.{by_places}
-use Rattle.px_sched.proofs.RunLemmas.{HasRoom, classified, end_small, judge_keys, part_along, rounded, suits}
+use Rattle.px_sched.proofs.RunLemmas.{classified, judge_keys, part_along, rounded, suits}
 use Rattle.px_sched.proofs.CoverLaws.{enters_depth, leaves_depth}
 use Rattle.px_sched.proofs.FoldLemmas.{elsewhere, fold_none, fold_single}
 use Rattle.px_sched.proofs.ConfirmLemmas.{IsConfirmed, barred_test, confirmed, plain_test, test}
@@ -79,8 +79,7 @@ merge_best scene l k =
 never : (a b : Bool) → a ≡ false → (a && b) ≡ true → ⊥
 never a b p q = cc
 
-module _ (scene : SceneView) (l : KeyedPixel)
-    (room : HasRoom l (depths_of scene)) where
+module _ (scene : SceneView) (l : KeyedPixel) where
   abbrev d : Depths
   d = depths_of scene
 
@@ -90,14 +89,14 @@ module _ (scene : SceneView) (l : KeyedPixel)
   -- the candidate of a literal
   candidates_keys : (solid : ℕ) (plain : Bool) (k : Keys) → let s = solid_of scene solid in
       after_steps scene l k (map (Candidate solid) (candidate_faces s plain))
-      ≡ (if is_covered s plain far l.x l.y then loaded l d s k (face_found s plain far l.x l.y) else k)
+      ≡ (if is_covered s plain far l.x l.y then loaded scene l s k (face_found s plain far l.x l.y) else k)
   candidates_keys solid true k =
       let s = solid_of scene solid in
       let law = covered_once s far l.x l.y in
       let nf = length s.fronts + 1 in
       let t : ℕ → Bool = λ i. covers s far i l.x l.y in
       fold-map (after_step scene l) (Candidate solid) k (range_with_len 0 nf)
-      ∙ fold_single t (loaded l d s) k 0 nf (covering_front s l.x l.y) (is_met s far l.x l.y)
+      ∙ fold_single t (loaded scene l s) k 0 nf (covering_front s l.x l.y) (is_met s far l.x l.y)
       (λ i low high. law.fronts i (lt_true i nf (omega arith)))
       (omega arith) (omega (arith, lt_holds (covering_front s l.x l.y) nf law.front.there))
   candidates_keys solid false k =
@@ -112,9 +111,9 @@ module _ (scene : SceneView) (l : KeyedPixel)
       λ i low high. law.backs i (omega arith) (lt_false i nf low) in
       fold-map (after_step scene l) (Candidate solid) k (range_with_len nf nb)
       ∙ elim (cases_lt kb (nf + nb)) [
-        | inl numbered ↦ rw (lt_true kb (nf + nb) numbered, and_true m) (fold_single t (loaded l d s) k nf nb kb m
+        | inl numbered ↦ rw (lt_true kb (nf + nb) numbered, and_true m) (fold_single t (loaded scene l s) k nf nb kb m
             back (lt_fails kb nf law.back.behind) numbered)
-        | inr limit ↦ rw (lt_false kb (nf + nb) limit, and_false m) (fold_none t (loaded l d s) k nf nb
+        | inr limit ↦ rw (lt_false kb (nf + nb) limit, and_false m) (fold_none t (loaded scene l s) k nf nb
             (λ i low high. back i low high
             ∙ elsewhere m i (nf + nb) kb high limit))
       ]
@@ -145,25 +144,25 @@ module _ (scene : SceneView) (l : KeyedPixel)
 
   -- the depth of a candidate is that of its cell
   loaded_deep : (s : SolidView) (plain : Bool) → is_covered s plain far l.x l.y ≡ true
-      → without_fraction l (residue l
+      → without_fraction scene (residue scene l
       (plus (face_plane s far (face_found s plain far l.x l.y)) (2 ^ d.fraction_bits - 1)))
       ≡ value_of d (cell_found s plain d l.x l.y)
   loaded_deep s true met =
       let more = 2 ^ d.fraction_bits - 1 in
-      ap (λ v. without_fraction l (modulo v (l.depth_bits + l.fraction_bits)))
+      ap (λ v. without_fraction scene (modulo v (scene.depth_bits + scene.fraction_bits)))
       (value_at-plus (face_plane s far (covering_front s l.x l.y)) more l.x l.y
       ∙ ap (λ v. v +ℤ pos more) (covered_once s far l.x l.y).front.value)
-      ∙ rounded l d room (enters_at s l.x l.y) (enters_depth far s l.x l.y met)
+      ∙ rounded scene (enters_at s l.x l.y) (enters_depth far s l.x l.y met)
   loaded_deep s false both =
       let more = 2 ^ d.fraction_bits - 1 in
       let met = and_left (is_met s far l.x l.y) _ both in
-      ap (λ v. without_fraction l (modulo v (l.depth_bits + l.fraction_bits)))
+      ap (λ v. without_fraction scene (modulo v (scene.depth_bits + scene.fraction_bits)))
       (value_at-plus (face_plane s far (covering_back s far l.x l.y)) more l.x l.y
       ∙ ap (λ v. v +ℤ pos more) (covered_once s far l.x l.y).back.value)
-      ∙ rounded l d room (leaves_at s far l.x l.y) (leaves_depth far s l.x l.y met)
+      ∙ rounded scene (leaves_at s far l.x l.y) (leaves_depth far s l.x l.y met)
 
   cell_test : (solid : ℕ) (plain : Bool) → let s = solid_of scene solid in is_covered s plain far l.x l.y ≡ true
-      → ((d.fraction_bits == 0) || test scene l room solid plain (value_of d (cell_found s plain d l.x l.y)))
+      → ((d.fraction_bits == 0) || test scene l solid plain (value_of d (cell_found s plain d l.x l.y)))
       ≡ has_cell s plain d l.x l.y (cell_found s plain d l.x l.y)
   cell_test solid plain met = grind (arith, plain_test, barred_test, and_left)
 
@@ -175,8 +174,8 @@ module _ (scene : SceneView) (l : KeyedPixel)
         (number_found s plain d l.x l.y)
 
   kept : (solid : ℕ) (plain : Bool) (k start new : Keys) → let s = solid_of scene solid in k.alive ≡ false
-      → start ≡ (if is_covered s plain far l.x l.y then loaded l d s k (face_found s plain far l.x l.y) else k)
-      → IsConfirmed scene l room solid plain start new → IsKept s plain k new
+      → start ≡ (if is_covered s plain far l.x l.y then loaded scene l s k (face_found s plain far l.x l.y) else k)
+      → IsConfirmed scene l solid plain start new → IsKept s plain k new
   kept solid plain k start new dead is c = let s = solid_of scene solid in
       elim (cases_Bool (is_covered s plain far l.x l.y)) [
         | inl yea ↦ grind (arith, loaded_deep, cell_test)
@@ -189,7 +188,7 @@ module _ (scene : SceneView) (l : KeyedPixel)
   judged_keys rs k =
       let places = range_with_len 0 (length rs) in
       part_along scene l (λ k. k) (judge scene rs) (λ k other. classified_by k (literal_at rs other))
-      (λ other k. judge_keys scene l (end_small l d room) rs other k) places k
+      (λ other k. judge_keys scene l rs other k) places k
       ∙ sym (fold-map classified_by (literal_at rs) k places)
       ∙ ap (fold classified_by k) (by_places no_literal rs)
 
@@ -208,7 +207,7 @@ module _ (scene : SceneView) (l : KeyedPixel)
       let start = after_steps scene l (dropped k) found in
       let new = after_steps scene l start sure in
       let r = kept q.solid q.plain (dropped k) start new refl (candidates_keys q.solid q.plain (dropped k))
-      (confirmed scene l room q.solid q.plain start) in
+      (confirmed scene l q.solid q.plain start) in
       ap (λ (k : Keys). k.best) (fold-append step (dropped k) found (sure ++ (tests ++ Merge ∷ []))
       ∙ fold-append step start sure (tests ++ Merge ∷ []) ∙ fold-append step new tests (Merge ∷ []))
       ∙ merge_best scene l (after_steps scene l new tests)

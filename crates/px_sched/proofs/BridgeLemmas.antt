@@ -15,7 +15,7 @@ use Rattle.px_macro.proofs.MacroLemmas.{meanings_join, memory_stays_long}
 use Rattle.px_macro.proofs.NumberLaws.{bit_beside_is_kept, number_beside_is_kept, number_is_below, number_is_kept}
 use Rattle.px_macro.proofs.NumberLaws.{number_is_read, number_of_two_parts}
 use Rattle.px_macro.specs.Fields.{is_in, number_in, with_number}
-use Rattle.px_sched.proofs.CoverLaws.{mod_small}
+use Rattle.px_sched.proofs.CoverLaws.{mod_small, no_fraction}
 use Rattle.px_macro.specs.Macros.{PixelBits, after_macro, after_macros}
 use Rattle.px_sched.specs.declared.step.Step.TheVariants.{Start}
 use Rattle.px_macro.specs.declared.operation.Macro.TheVariants as m
@@ -175,14 +175,14 @@ stays_long (m ∷ ms) x y p = stays_long ms x y (after_macro m x y p) ∙ memory
 cleared_none : (f n : ℕ) → f ≡ 0 → n ≡ n / 2 ^ f * 2 ^ f
 cleared_none f n e = rw e (omega arith)
 
-no_fraction : (f : ℕ) → (f == 0) ≡ true → f ≡ 0
-no_fraction f e = grind (arith, nat_tests)
-
-module _ (scene : SceneView) (w i x y : ℕ)
+module _ (scene : SceneView) (i x y : ℕ)
     (faces : (solid face : ℕ) → face_number (solid_of scene solid) face < 2 ^ i)
-    (background : end_of (depths_of scene) * 2 ^ i < 2 ^ (w + scene.fraction_bits + i)) where
+    (background : end_of (depths_of scene) * 2 ^ i < 2 ^ (scene.depth_bits + scene.fraction_bits + i)) where
   abbrev d : Depths
   d = depths_of scene
+
+  abbrev w : ℕ
+  w = scene.depth_bits
 
   abbrev f : ℕ
   f = scene.fraction_bits
@@ -191,7 +191,7 @@ module _ (scene : SceneView) (w i x y : ℕ)
   l = layout_with w f i
 
   abbrev place : KeyedPixel
-  place = record { depth_bits = w; fraction_bits = f; number_bits = i; x = x; y = y }
+  place = record { number_bits = i; x = x; y = y }
 
   abbrev keys : List Bool → Keys
   keys memory = keys_in w f i memory
@@ -236,38 +236,38 @@ module _ (scene : SceneView) (w i x y : ℕ)
         → keys (after_macros (m.LoadLinear form (t_deep w f i)
         ∷ where_fraction d (m.LoadConst (t_fraction w f i) 0 ∷ []) ++ numbered ∷ risen ∷ []) x y
         (pixel memory c)).memory
-        ≡ (if c then loaded place d s (keys memory) face else keys memory)
+        ≡ (if c then loaded scene place s (keys memory) face else keys memory)
     loading memory c long = elim (cases_Bool (f == 0)) [
       | inl none ↦ rw none (without c (no_fraction f none))
       | inr some ↦ rw some (with_one c)
     ]
       where
         next : List Bool
-        next = with_number (t_deep w f i) (residue place form) memory
+        next = with_number (t_deep w f i) (residue scene place form) memory
 
         next_long : IsLong next
         next_long = omega (arith, long, memory_stays_long (m.LoadLinear form (t_deep w f i)) x y (pixel memory true))
 
-        written : keys next ≡ record (keys memory) { deep = residue place form }
-        written = deep_written w f i memory long (residue place form) (modulo_below _ (w + f))
+        written : keys next ≡ record (keys memory) { deep = residue scene place form }
+        written = deep_written w f i memory long (residue scene place form) (modulo_below _ (w + f))
 
         without : (c : Bool) → f ≡ 0
             → keys (after_macros (m.LoadLinear form (t_deep w f i) ∷ numbered ∷ risen ∷ []) x y (pixel memory c)).memory
-            ≡ (if c then loaded place d s (keys memory) face else keys memory)
-        without true e = named next (record (keys memory) { deep = without_fraction place (residue place form) })
-            next_long (written ∙ ap (λ n. record (keys memory) { deep = n }) (cleared_none f (residue place form) e))
+            ≡ (if c then loaded scene place s (keys memory) face else keys memory)
+        without true e = named next (record (keys memory) { deep = without_fraction scene (residue scene place form) })
+            next_long (written ∙ ap (λ n. record (keys memory) { deep = n }) (cleared_none f (residue scene place form) e))
         without false e = refl
 
         with_one : (c : Bool)
             → keys (after_macros (m.LoadLinear form (t_deep w f i) ∷ m.LoadConst (t_fraction w f i) 0 ∷ numbered ∷ risen
             ∷ []) x y (pixel memory c)).memory
-            ≡ (if c then loaded place d s (keys memory) face else keys memory)
+            ≡ (if c then loaded scene place s (keys memory) face else keys memory)
         with_one true =
             let last = with_number (t_fraction w f i) 0 next in
-            named last (record (keys memory) { deep = without_fraction place (residue place form) })
+            named last (record (keys memory) { deep = without_fraction scene (residue scene place form) })
             (omega (arith, next_long, memory_stays_long (m.LoadConst (t_fraction w f i) 0) x y (pixel next true)))
             (fraction_written w f i next next_long
-            ∙ ap (λ (k : Keys). record k { deep = without_fraction place k.deep }) written)
+            ∙ ap (λ (k : Keys). record k { deep = without_fraction scene k.deep }) written)
         with_one false = refl
 
   -- an operation where a face covers and a form is not above a live candidate
@@ -275,7 +275,7 @@ module _ (scene : SceneView) (w i x y : ℕ)
       → ((e : Bool) → keys (after_macro operation x y (pixel memory e)).memory
       ≡ (if e then change (keys memory) else keys memory))
       → keys (after_macros (where_passed l (end_of d) s face form operation) x y (pixel memory true)).memory
-      ≡ where_passing place (end_of d) s face form change (keys memory)
+      ≡ where_passing scene place s face form change (keys memory)
   passing s face form operation change memory done = search (rules, covered, beq_true, and_both, done, keys)
 
   raised : (v : Bool) (memory : List Bool) → IsLong memory → (e : Bool)

@@ -5,13 +5,14 @@ use Rattle.px_num.proofs.Basics.{refl, ap, sym, ◌∙◌, arith, if◌then◌el
 use Rattle.px_num.proofs.Basics.{ints, nat_tests, cases_Bool, pow_pos, mul-le-mul, pow-add}
 use Rattle.px_sched.proofs.Words.{after_step, after_steps, and_true, cell_is_first, cell_is_least, cell_of, Clear}
 use Rattle.px_sched.proofs.Words.{Confirm, covering_back, covering_front, covered_once, covers, Depths, depths_of, Drop}
-use Rattle.px_sched.proofs.Words.{dropped, end_of, enters_at, eqb_holds, face_plane, Front, is_inside, is_inside_before}
-use Rattle.px_sched.proofs.Words.{is_met, is_passing, KeyedPixel, Keys, le_z, leaves_at, lt_fails, lt_false, lt_holds}
-use Rattle.px_sched.proofs.Words.{lt_is_not_le, lt_true, lt_z, modulo, plus, residue, SceneView, solid_of, SolidView}
-use Rattle.px_sched.proofs.Words.{Step, turned_from_false, value_at, value_at-plus, value_of, where_fraction}
+use Rattle.px_sched.proofs.Words.{dropped, end_is_small, end_of, enters_at, eqb_holds, face_plane, Front, is_inside}
+use Rattle.px_sched.proofs.Words.{is_inside_before, is_met, is_passing, KeyedPixel, Keys, le_z, leaves_at, lt_fails}
+use Rattle.px_sched.proofs.Words.{lt_false, lt_holds, lt_is_not_le, lt_true, lt_z, modulo, plus, residue, SceneView}
+use Rattle.px_sched.proofs.Words.{solid_of, SolidView, Step, turned_from_false, value_at, value_at-plus, value_of}
+use Rattle.px_sched.proofs.Words.{where_fraction}
 use Rattle.px_num.proofs.TruthLaws.{le_same}
-use Rattle.px_sched.proofs.RunLemmas.{HasRoom, end_small, ended, flips, keys_of, more_at_most}
-use Rattle.px_sched.proofs.CoverLaws.{at_most_is, enters_depth, leaves_depth}
+use Rattle.px_sched.proofs.RunLemmas.{ended, flips, keys_of, more_at_most}
+use Rattle.px_sched.proofs.CoverLaws.{no_fraction, at_most_is, enters_depth, leaves_depth}
 use Rattle.px_sched.proofs.FoldLemmas.{fold_single, where_test}
 
 -- a test that adds something where the place is the one
@@ -42,9 +43,6 @@ above u v h = grind (arith, ints)
 at_most : (u : ℤ) (v : ℕ) → u ≤ℤ pos v → le_z u (pos v) ≡ true
 at_most u v h = grind (arith, ints)
 
-no_fraction : (f : ℕ) → (f == 0) ≡ true → f ≡ 0
-no_fraction f e = grind (arith, nat_tests)
-
 whole_value : (d : Depths) (n : ℕ) → (d.fraction_bits == 0) ≡ true → value_of d (cell_of d (pos n)) ≡ n
 whole_value d n none = grind (arith, no_fraction)
 
@@ -54,8 +52,7 @@ one_unit d none = ap (λ f. 2 ^ f) (no_fraction d.fraction_bits none)
 one_more : (v : ℤ) (z u : ℕ) → (le_z v (pos (z * u)) && true) ≡ le_z (v +ℤ pos u) (pos (suc z * u))
 one_more v z u = grind (arith, ints)
 
-module _ (scene : SceneView) (l : KeyedPixel) (room : HasRoom l (depths_of scene))
-    (solid : ℕ) where
+module _ (scene : SceneView) (l : KeyedPixel) (solid : ℕ) where
   abbrev d : Depths
   d = depths_of scene
 
@@ -66,7 +63,10 @@ module _ (scene : SceneView) (l : KeyedPixel) (room : HasRoom l (depths_of scene
   end = end_of d
 
   abbrev bits : ℕ
-  bits = l.depth_bits + l.fraction_bits
+  bits = scene.depth_bits + scene.fraction_bits
+
+  small : end < 2 ^ bits
+  small = end_is_small scene.depth_bits scene.fraction_bits
 
   abbrev unit : ℕ
   unit = 2 ^ d.fraction_bits
@@ -82,22 +82,22 @@ module _ (scene : SceneView) (l : KeyedPixel) (room : HasRoom l (depths_of scene
 
   -- of the backs only the covering one can drop
   back_drops : (v i : ℕ) → covers s end i l.x l.y ≡ (met && eqb i (covering_back s end l.x l.y))
-      → (covers s end i l.x l.y && nat_le (residue l (face_plane s end i)) v)
+      → (covers s end i l.x l.y && nat_le (residue scene l (face_plane s end i)) v)
       ≡ ((met && le_z leaves (pos v)) && eqb i (covering_back s end l.x l.y))
   back_drops v i is =
-      rw is (where_here met (eqb i (covering_back s end l.x l.y)) (nat_le (residue l (face_plane s end i)) v)
+      rw is (where_here met (eqb i (covering_back s end l.x l.y)) (nat_le (residue scene l (face_plane s end i)) v)
       (le_z leaves (pos v))
       (λ m here.
       ap (λ w. nat_le (modulo w bits) v) (ap (λ j. value_at (face_plane s end j) l.x l.y)
       (eqb_holds i (covering_back s end l.x l.y) here) ∙ (covered_once s end l.x l.y).back.value)
-      ∙ at_most_is leaves end bits v (end_small l d room) (leaves_depth end s l.x l.y m)))
+      ∙ at_most_is leaves end bits v small (leaves_depth end s l.x l.y m)))
 
   -- of the fronts only the covering one can turn
   front_turns : (v i : ℕ) → covers s end i l.x l.y ≡ (met && eqb i (covering_front s l.x l.y))
-      → (covers s end i l.x l.y && nat_le (residue l (plus (face_plane s end i) unit)) v)
+      → (covers s end i l.x l.y && nat_le (residue scene l (plus (face_plane s end i) unit)) v)
       ≡ ((met && le_z (enters +ℤ pos unit) (pos v)) && eqb i (covering_front s l.x l.y))
   front_turns v i is =
-      rw is (where_here met (eqb i (covering_front s l.x l.y)) (nat_le (residue l (plus (face_plane s end i) unit)) v)
+      rw is (where_here met (eqb i (covering_front s l.x l.y)) (nat_le (residue scene l (plus (face_plane s end i) unit)) v)
       (le_z (enters +ℤ pos unit) (pos v))
       (λ m here.
       let e = enters_depth end s l.x l.y m in
@@ -106,7 +106,7 @@ module _ (scene : SceneView) (l : KeyedPixel) (room : HasRoom l (depths_of scene
       ap (λ w. nat_le (modulo w bits) v) (value_at-plus (face_plane s end i) unit l.x l.y
       ∙ ap (λ w. w +ℤ pos unit) (ap (λ j. value_at (face_plane s end j) l.x l.y)
       (eqb_holds i (covering_front s l.x l.y) here) ∙ (covered_once s end l.x l.y).front.value))
-      ∙ more_at_most enters end bits v e unit (grind (arith, less, mul-le-mul, pow-add))))
+      ∙ more_at_most enters end bits v e unit (grind (arith, less, pow_pos, mul-le-mul, pow-add))))
 
   abbrev drop_steps : List Step
   drop_steps = map (Drop solid) (range_with_len (length s.fronts + 1) (length s.backs + 1))
@@ -123,7 +123,7 @@ module _ (scene : SceneView) (l : KeyedPixel) (room : HasRoom l (depths_of scene
       let nb = length s.backs + 1 in
       let kb = covering_back s end l.x l.y in
       let g = met && le_z leaves (pos k.deep) in
-      let t : ℕ → ℕ → Bool = λ v i. is_passing l end s i (face_plane s end i) v in
+      let t : ℕ → ℕ → Bool = λ v i. is_passing scene l s i (face_plane s end i) v in
       fold-map (after_step scene l) (Drop solid) k (range_with_len nf nb)
       ∙ drops t k (range_with_len nf nb)
       ∙ ap (λ a. record k { alive = a })
@@ -145,14 +145,14 @@ module _ (scene : SceneView) (l : KeyedPixel) (room : HasRoom l (depths_of scene
       let nf = length s.fronts + 1 in
       let kf = covering_front s l.x l.y in
       let g = met && le_z (enters +ℤ pos unit) (pos k.deep) in
-      let t : ℕ → ℕ → Bool = λ v i. is_passing l end s i (plus (face_plane s end i) unit) v in
+      let t : ℕ → ℕ → Bool = λ v i. is_passing scene l s i (plus (face_plane s end i) unit) v in
       let start = record k { par = false } in
       let turned : after_steps scene l start turns ≡ keys_of k.best k.deep k.number k.alive (k.alive && g) =
       fold-map (after_step scene l) (Front solid) start (range_with_len 0 nf)
       ∙ flips t start (range_with_len 0 nf)
       ∙ ap (λ b. keys_of k.best k.deep k.number k.alive b)
       (fold_single (λ i. k.alive && t k.deep i) (λ odd i. not odd) false 0 nf kf (k.alive && g)
-      (λ i low high. and_here k.alive (covers s end i l.x l.y) (nat_le (residue l (plus (face_plane s end i) unit))
+      (λ i low high. and_here k.alive (covers s end i l.x l.y) (nat_le (residue scene l (plus (face_plane s end i) unit))
       k.deep) g (eqb i kf) (front_turns k.deep i (law.fronts i (lt_true i nf (omega arith)))))
       (omega arith) (omega (arith, lt_holds kf nf law.front.there))
       ∙ turned_from_false (k.alive && g)) in

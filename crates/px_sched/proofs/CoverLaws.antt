@@ -1,6 +1,6 @@
 -- The value of a face that covers a pixel: it is a depth, and the bits of one keep it.
-use Rattle.px_num.proofs.Basics.{rules, common_steps, ◌≡◌, ◌<◌, ◌≤◌, ◌≤ℤ◌, ◌+◌, ◌*◌, ◌%◌, ◌^◌, ℕ, ℤ, pos, Bool, true}
-use Rattle.px_num.proofs.Basics.{false, ◌&&◌, nat_le, refl, ap, sym, ◌∙◌, arith, nat_tests, ints, mod-mul-add}
+use Rattle.px_num.proofs.Basics.{rules, common_steps, ◌≡◌, ◌<◌, ◌≤◌, ◌≤ℤ◌, ◌+◌, ◌*◌, ◌%◌, ◌^◌, ◌==◌, ℕ, ℤ, pos, Bool}
+use Rattle.px_num.proofs.Basics.{true, false, ◌&&◌, nat_le, refl, ap, sym, ◌∙◌, arith, nat_tests, ints, mod-mul-add}
 use Rattle.px_sched.proofs.Words.{and_left, and_right, covered_once, covers, enters_at, eqb_holds, face_count}
 use Rattle.px_sched.proofs.Words.{face_plane, is_met, le_z, leaves_at, modulo, SolidView, value_at}
 
@@ -19,6 +19,9 @@ depth_of x end low high = grind (arith, ints)
 
 pub mod_small : (n m : ℕ) → n < m → n % m ≡ n
 mod_small n m h = let e : 0 * m + n ≡ n = omega arith in ap (λ k. k % m) (sym e) ∙ mod-mul-add 0 m n h
+
+pub no_fraction : (f : ℕ) → (f == 0) ≡ true → f ≡ 0
+no_fraction f e = grind (arith, nat_tests)
 
 -- and is kept as itself
 pub modulo_is : (v : ℤ) (end bits : ℕ) → end < 2 ^ bits → (d : IsDepth v end) → modulo v bits ≡ d.depth

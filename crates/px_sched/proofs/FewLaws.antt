@@ -13,12 +13,8 @@ use Rattle.px_sched.proofs.OperationLaws.{steps_there}
 use Rattle.px_sched.proofs.WorthLaws.{IsBlind, counted, flat_sum, literal_sum, steps_sum, weighed}
 use Rattle.px_normal.specs.declared.product.TheConstants.{MAX_PRODUCTS}
 
-pub any_solid : (P : SolidView → Type 0) (scene : SceneView) → All P scene.solids → P no_solid → (i : ℕ)
-    → P (solid_of scene i)
-any_solid P scene all none i = all_or P scene.solids no_solid all none i
-
-pub no_solid_lawful : IsLawfulSolid no_solid
-no_solid_lawful = grind arith
+pub solid_lawful : (scene : SceneView) → All IsLawfulSolid scene.solids → (i : ℕ) → IsLawfulSolid (solid_of scene i)
+solid_lawful scene all i = all_or IsLawfulSolid scene.solids no_solid all (grind arith) i
 
 length_below : (n : ℕ) → length (below n) ≡ n
 length_below zero = refl
@@ -54,12 +50,9 @@ pub few_confirm : (scene : SceneView) (q : Literal) → let s = solid_of scene q
 few_confirm scene q = grind arith
 
 module _ (scene : SceneView) (l : LayoutView) (lawful : All IsLawfulSolid scene.solids) where
-  solid_lawful : (i : ℕ) → IsLawfulSolid (solid_of scene i)
-  solid_lawful i = any_solid IsLawfulSolid scene lawful no_solid_lawful i
-
   few_edges_of : (solid : ℕ) → edge_count (solid_of scene solid) ≤ 97
   few_edges_of solid =
-      let is = solid_lawful solid in omega (arith, is.few_sides, is.fronts.few, is.backs.few)
+      let is = solid_lawful scene lawful solid in omega (arith, is.few_sides, is.fronts.few, is.backs.few)
 
   pub few_edges : (step : Step) → edges_in scene step ≤ 97
   few_edges x = grind (arith, few_edges_of)
@@ -74,14 +67,14 @@ module _ (scene : SceneView) (l : LayoutView) (lawful : All IsLawfulSolid scene.
   few_literal p q =
       let s = solid_of scene q.solid in
       let each : All (λ r. judged_worth once scene r ≤ 68) (others q p) =
-      λ k d low. let is = solid_lawful (get_or (others q p) k d).solid in omega (arith, is.fronts.few, is.backs.few) in
+      λ k d low. let is = solid_lawful scene lawful (get_or (others q p) k d).solid in omega (arith, is.fronts.few, is.backs.few) in
       omega (
         arith,
         literal_sum once scene q (others q p),
         few_candidates s q.plain,
         few_confirm scene q,
-        (solid_lawful q.solid).fronts.few,
-        (solid_lawful q.solid).backs.few,
+        (solid_lawful scene lawful q.solid).fronts.few,
+        (solid_lawful scene lawful q.solid).backs.few,
         sum_by-le (judged_worth once scene) 68 (others q p) each,
         few_others q p,
       )

@@ -7,7 +7,7 @@ use Rattle.px_sched.proofs.Words.{layout_of, LayoutView, need_of, number_part, o
 use Rattle.px_sched.proofs.Words.{plus, Product, SceneView, solid_of, Step, wider}
 use Rattle.px_macro.specs.Macros.{IsField, IsLawful}
 use Rattle.px_model.proofs.PlaneLaws.{plane_range}
-use Rattle.px_sched.proofs.FewLaws.{any_solid, no_solid_lawful}
+use Rattle.px_sched.proofs.FewLaws.{solid_lawful}
 use Rattle.px_sched.proofs.OperationLaws.{HoldsOf, each_operation, each_pass, is_there}
 use Rattle.px_sched.proofs.RoomLemmas.{numbers_fit, shifted}
 
@@ -31,11 +31,8 @@ module _ (scene : SceneView) (lawful : IsLawfulScene scene)
   unit_most : 2 ^ f ≤ 2 ^ 8
   unit_most = pow_mono {i = f} {j = 8} lawful.sizes.fraction_limit
 
-  solid_lawful : (solid : ℕ) → IsLawfulSolid (solid_of scene solid)
-  solid_lawful solid = any_solid IsLawfulSolid scene solids no_solid_lawful solid
-
   plane : (solid face : ℕ) → IsThere scene solid face → IsPlane (face_plane (solid_of scene solid) end face)
-  plane solid face there = plane_of_range (solid_of scene solid) (solid_lawful solid) end end_small face there
+  plane solid face there = plane_of_range (solid_of scene solid) (solid_lawful scene solids solid) end end_small face there
 
   field_b : IsField l.key_b (need_of l)
   field_b = record { from_one = omega arith; to_forty = omega arith; within = omega arith }
@@ -71,7 +68,7 @@ module _ (scene : SceneView) (lawful : IsLawfulScene scene)
     faces = record {
       cleared = λ some. (fraction some, pow_pos f);
       number = λ solid face. (number, numbers_fit scene lawful solid face);
-      signs = λ solid face there. edges_range (solid_of scene solid) (solid_lawful solid) end end_small face there;
+      signs = λ solid face there. edges_range (solid_of scene solid) (solid_lawful scene solids solid) end end_small face there;
       load = moved (2 ^ f - 1) (omega arith);
       at_most = λ solid face there. (plane_range _ (plane solid face there), deep);
       behind = moved (2 ^ f) (omega arith);

@@ -15,22 +15,19 @@ use Rattle.px_normal.proofs.SolidsLaws.{solids_laws}
 use Rattle.px_prune.proofs.KeptLaws.{kept_is_shown, none_is_void}
 use Rattle.px_prune.proofs.StayingLemmas.{kept_below}
 use Rattle.px_prune.specs.Bounding.{bounding_box}
-use Rattle.px_sched.proofs.RunLemmas.{HasRoom}
 use Rattle.px_sched.proofs.BlockLemmas.{all_found, steps_best}
 use Rattle.px_sched.proofs.MemberLaws.{In, all_in, face_in, in_face}
 use Rattle.px_sched.proofs.ProductLaws.{IsFit, fit}
 use Rattle.px_sched.proofs.JoinLemmas.{best_is_least}
 
 -- the best key is that of a depth and a face number, which have room in it
-pub record IsKeyOf (l : KeyedPixel) (sight : Sight) (best : ℕ) : Type 0 where
-  pub key : best ≡ key l (sight.depth * 2 ^ l.fraction_bits) sight.face
-  pub depth : sight.depth < 2 ^ l.depth_bits
+pub record IsKeyOf (scene : SceneView) (l : KeyedPixel) (sight : Sight) (best : ℕ) : Type 0 where
+  pub key : best ≡ key l (sight.depth * 2 ^ scene.fraction_bits) sight.face
+  pub depth : sight.depth < 2 ^ scene.depth_bits
   pub face : sight.face < 2 ^ l.number_bits
 
--- a pixel of the picture, with bits enough for each depth and each face number
+-- a pixel of the picture, with bits enough for each face number
 pub record IsPixelOf (scene : SceneView) (l : KeyedPixel) : Type 0 where
-  pub depth_bits : l.depth_bits ≡ scene.depth_bits
-  pub fraction_bits : l.fraction_bits ≡ scene.fraction_bits
   pub number_bits : faces_of scene.solids < 2 ^ l.number_bits
   pub left : l.x < scene.width
   pub up : l.y < scene.height
@@ -39,7 +36,7 @@ pub record IsPixelOf (scene : SceneView) (l : KeyedPixel) : Type 0 where
 abbrev pub NumbersShowThePicture : Type 0
 NumbersShowThePicture = (scene : SceneView) → IsLawfulScene scene → All IsLawfulSolid scene.solids →
     (l : KeyedPixel) → IsPixelOf scene l → (k : Keys) →
-    IsKeyOf l (picture scene l.x l.y)
+    IsKeyOf scene l (picture scene l.x l.y)
     (after_steps scene l k (steps_with scene (kept_of scene (sum_of_products scene.show)))).best
 
 least_in : (ns : List ℕ) → 0 < length ns → In (least ns) ns
@@ -106,20 +103,14 @@ module _ (scene : SceneView) (lawful : IsLawfulScene scene) (l : KeyedPixel)
       (all_below (length scene.solids) scene.show below_256 lawful.shown)) there)
       (all_in (λ product. is_void product ≡ false) kept p (none_is_void scene whole) there)
 
-  pub room : HasRoom l d
-  room = record { big = rw place.depth_bits (omega (arith, pow_pos scene.depth_bits)); same = place.fraction_bits }
-
-  big : far < 2 ^ l.depth_bits
-  big = rw place.depth_bits (omega (arith, pow_pos scene.depth_bits))
-
-  same_key : (z n : ℕ) → key l (value_of d z) n ≡ key l (z * 2 ^ l.fraction_bits) n
-  same_key z n = ap (λ f. key l (z * 2 ^ f) n) (sym place.fraction_bits)
+  big : far < 2 ^ scene.depth_bits
+  big = omega (arith, pow_pos scene.depth_bits)
 
   module _ (solids : All IsLawfulSolid scene.solids) where
     abbrev best : ℕ
     best = fold min (key l (value_of d far) 0) (all_found scene l kept)
 
-    at_first : (t : ℕ) → IsFirst test far t → IsKeyOf l (sight_at scene l.x l.y (Some t)) best
+    at_first : (t : ℕ) → IsFirst test far t → IsKeyOf scene l (sight_at scene l.x l.y (Some t)) best
     at_first t r =
         let b = best_is_least scene solids lawful.numbers l kept each_fit in
         let face = least (seen t).shown in
@@ -144,22 +135,22 @@ module _ (scene : SceneView) (lawful : IsLawfulScene scene) (l : KeyedPixel)
             ]
           ]
         ] in
-        record { key = is_key ∙ same_key t face; depth = omega (arith, r.below, big); face = small }
+        record { key = is_key; depth = omega (arith, r.below, big); face = small }
       where
         member_at : (z n : ℕ) → z < far → some_shows (at z) n kept ≡ true → test z ≡ true
         member_at z n low h = and_left (test z) (has_face n (seen z).shown) (sym (kept_show z n low) ∙ h)
 
-    at_none : ((z : ℕ) → z < far → test z ≡ false) → IsKeyOf l (sight_at scene l.x l.y None) best
+    at_none : ((z : ℕ) → z < far → test z ≡ false) → IsKeyOf scene l (sight_at scene l.x l.y None) best
     at_none none =
         let b = best_is_least scene solids lawful.numbers l kept each_fit in
         let is_key : best ≡ key l (value_of d far) 0 = grind (arith, cases_lt, never, and_left, kept_show) in
-        record { key = is_key ∙ same_key far 0; depth = big; face = pow_pos l.number_bits }
+        record { key = is_key; depth = big; face = pow_pos l.number_bits }
 
-    best_found : (found : Option ℕ) → IsFirstOf test far found → IsKeyOf l (sight_at scene l.x l.y found) best
+    best_found : (found : Option ℕ) → IsFirstOf test far found → IsKeyOf scene l (sight_at scene l.x l.y found) best
     best_found x r = grind (arith, at_none, at_first)
 
-    best_is_picture : IsKeyOf l (picture scene l.x l.y) best
+    best_is_picture : IsKeyOf scene l (picture scene l.x l.y) best
     best_is_picture = best_found (first_cell scene l.x l.y) (first_cells scene l.x l.y)
 
 pub numbers_show_the_picture : NumbersShowThePicture
-numbers_show_the_picture scene lawful solids l place k = search (rules, steps_best, room, best_is_picture)
+numbers_show_the_picture scene lawful solids l place k = search (rules, steps_best, best_is_picture)

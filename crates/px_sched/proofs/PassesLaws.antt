@@ -6,7 +6,7 @@ use Rattle.px_sched.proofs.FewLaws.{few_passes}
 use Rattle.px_sched.proofs.FitLemmas.{scene_passes_fit, step_fits}
 use Rattle.px_sched.proofs.LawfulLaws.{passes_are}
 use Rattle.px_sched.proofs.LayoutLaws.{scene_layout}
-use Rattle.px_num.proofs.Basics.{◌+◌, refl, ap, ◌∙◌}
+use Rattle.px_num.proofs.Basics.{◌+◌, ap, ◌∙◌}
 use Rattle.px_sched.proofs.NumbersLemmas.{numbers_show_the_picture}
 use Rattle.px_sched.specs.PassesLaw.{PassesLaw}
 use Rattle.px_sched.proofs.BridgeLemmas.{all_steps, b_parts, keys_in}
@@ -29,17 +29,15 @@ passes_leave_the_picture scene lawful solids x y left up p long =
     let w = scene.depth_bits
     in let f = scene.fraction_bits
     in let i = bit_length (faces_of scene.solids)
-    in let place : KeyedPixel = record { depth_bits = w; fraction_bits = f; number_bits = i; x = x; y = y }
+    in let place : KeyedPixel = record { number_bits = i; x = x; y = y }
     in let shown =
     numbers_show_the_picture scene lawful solids place (record {
-      depth_bits = refl;
-      fraction_bits = refl;
       number_bits = bits_enough (faces_of scene.solids) lawful.faces;
       left = left;
       up = up;
     }) (keys_in w f i p.memory)
     in let same =
-    all_steps scene w i x y (numbers_fit scene lawful)
+    all_steps scene i x y (numbers_fit scene lawful)
     (shifted (end_of (depths_of scene)) (w + f) i (end_is_small w f))
     (steps_with scene (kept_of scene (sum_of_products scene.show))) p long
     in let parts = b_parts w f i (picture scene x y).depth (picture scene x y).face _ shown.face

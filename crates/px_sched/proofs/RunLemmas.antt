@@ -3,10 +3,10 @@ use Rattle.px_num.proofs.Basics.{rules, ◌≡◌, ◌<◌, ◌≤◌, ◌+◌, 
 use Rattle.px_num.proofs.Basics.{◌&&◌, not, nat_le, List, ◌∷◌, map, count_by, refl, ap, sym, ◌∙◌, arith, if◌then◌else◌}
 use Rattle.px_num.proofs.Basics.{beq, fold, flat_map, range_with_len, fold-map, fold-append, pow-add, pow_pos}
 use Rattle.px_num.proofs.Basics.{mul-le-mul}
-use Rattle.px_sched.proofs.Words.{after_step, after_steps, cell_of, covered_once, Depths, depths_of, end_of, face_count}
-use Rattle.px_sched.proofs.Words.{face_plane, flipped, is_inside_at, is_odd, is_passed_at, is_passing, judge}
-use Rattle.px_sched.proofs.Words.{KeyedPixel, Keys, le_z, Literal, literal_at, modulo, SceneView, solid_of, SolidView}
-use Rattle.px_sched.proofs.Words.{Step, Turn, turned_from_false, value_of, odd_inside_at, without_fraction}
+use Rattle.px_sched.proofs.Words.{after_step, after_steps, cell_of, covered_once, depths_of, end_is_small, end_of}
+use Rattle.px_sched.proofs.Words.{face_count, face_plane, flipped, is_inside_at, is_odd, is_passed_at, is_passing}
+use Rattle.px_sched.proofs.Words.{judge, KeyedPixel, Keys, le_z, Literal, literal_at, modulo, SceneView, solid_of}
+use Rattle.px_sched.proofs.Words.{SolidView, Step, Turn, turned_from_false, value_of, odd_inside_at, without_fraction}
 use Rattle.px_face.proofs.ParityLaws.{turned_is_odd, turned_where}
 use Rattle.px_sched.proofs.CoverLaws.{and_same, IsDepth, mod_small, le_same, at_most_is, covering_value}
 
@@ -26,19 +26,11 @@ fold_agree f g a (suc n) same s =
     fold_agree f g (a + 1) n (λ i low high. same i (omega arith) (omega arith)) (f s a)
     ∙ ap (λ t. fold g t (range_with_len (a + 1) n)) (same a (omega arith) (omega arith) s)
 
--- the bits of a place are enough for the values of the depths
-pub record HasRoom (l : KeyedPixel) (d : Depths) : Type 0 where
-  pub big : d.far < 2 ^ l.depth_bits
-  pub same : l.fraction_bits ≡ d.fraction_bits
-
-pub end_small : (l : KeyedPixel) (d : Depths) → HasRoom l d → end_of d < 2 ^ (l.depth_bits + l.fraction_bits)
-end_small l d room = grind (arith, pow_pos d.fraction_bits, mul-le-mul, pow-add)
-
 -- a value that is rounded up is that of its cell
-pub rounded : (l : KeyedPixel) (d : Depths) → HasRoom l d → (v : ℤ) → IsDepth v (end_of d)
-    → without_fraction l (modulo (v +ℤ pos (2 ^ d.fraction_bits - 1)) (l.depth_bits + l.fraction_bits))
+pub rounded : (scene : SceneView) (v : ℤ) → let d = depths_of scene in IsDepth v (end_of d)
+    → without_fraction scene (modulo (v +ℤ pos (2 ^ d.fraction_bits - 1)) (scene.depth_bits + scene.fraction_bits))
     ≡ value_of d (cell_of d v)
-rounded l d room v is = grind (arith, pow_pos, mod_small, mul-le-mul, pow-add)
+rounded scene v is = grind (arith, pow_pos, mod_small, mul-le-mul, pow-add)
 
 -- a value with something added, as a test
 pub more_at_most : (v : ℤ) (n bits z : ℕ) (d : IsDepth v n) (more : ℕ) → d.depth + more < 2 ^ bits
@@ -77,14 +69,15 @@ pub ended : (b d n : ℕ) (a inside plain : Bool)
     ≡ keys_of b d n (a && (if plain then inside else not inside)) (a && inside)
 ended b d n a inside plain = grind arith
 
-module _ (scene : SceneView) (l : KeyedPixel)
-    (big : end_of (depths_of scene) < 2 ^ (l.depth_bits + l.fraction_bits)) where
+module _ (scene : SceneView) (l : KeyedPixel) where
   abbrev end : ℕ
   end = end_of (depths_of scene)
 
   passed : (s : SolidView) (i z : ℕ) → i < face_count s
-      → is_passing l end s i (face_plane s end i) z ≡ is_passed_at s end l.x l.y z i
-  passed s i z there = search (rules, and_same, at_most_is, covering_value)
+      → is_passing scene l s i (face_plane s end i) z ≡ is_passed_at s end l.x l.y z i
+  passed s i z there =
+      let small = end_is_small scene.depth_bits scene.fraction_bits in
+      search (rules, and_same, at_most_is, covering_value)
 
   -- a candidate that another literal judges
   pub judge_keys : (rs : List Literal) (other : ℕ) (k : Keys) → let r = literal_at rs other in
@@ -95,7 +88,7 @@ module _ (scene : SceneView) (l : KeyedPixel)
       let n = face_count s in
       let start = record k { par = false } in
       let turns = map (Turn other r.solid) (range_with_len 0 n) in
-      let t : ℕ → ℕ → Bool = λ z i. is_passing l end s i (face_plane s end i) z in
+      let t : ℕ → ℕ → Bool = λ z i. is_passing scene l s i (face_plane s end i) z in
       let u : ℕ → ℕ → Bool = λ z i. is_passed_at s end l.x l.y z i in
       let odd : after_steps scene l start turns ≡ keys_of k.best k.deep k.number k.alive
       (k.alive && is_inside_at s end l.x l.y k.deep) =

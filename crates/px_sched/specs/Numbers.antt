@@ -23,10 +23,8 @@ pub record Keys : Type 0 where
   pub alive : Bool
   pub par : Bool
 
--- a pixel, and how many bits a depth, its fraction and a face number have in its keys
+-- a pixel, and how many bits a face number has in its keys
 pub record KeyedPixel : Type 0 where
-  pub depth_bits : ℕ
-  pub fraction_bits : ℕ
   pub number_bits : ℕ
   pub x : ℕ
   pub y : ℕ
@@ -36,17 +34,18 @@ abbrev pub key : KeyedPixel → (deep number : ℕ) → ℕ
 key l deep number = number + 2 ^ l.number_bits * deep
 
 -- the depth with its fraction that a form gives at the pixel
-abbrev pub residue : KeyedPixel → Linear → ℕ
-residue l form = modulo (value_at form l.x l.y) (l.depth_bits + l.fraction_bits)
+abbrev pub residue : SceneView → KeyedPixel → Linear → ℕ
+residue scene l form = modulo (value_at form l.x l.y) (scene.depth_bits + scene.fraction_bits)
 
 -- without its fraction
-abbrev pub without_fraction : KeyedPixel → (deep : ℕ) → ℕ
-without_fraction l deep = deep / 2 ^ l.fraction_bits * 2 ^ l.fraction_bits
+abbrev pub without_fraction : SceneView → (deep : ℕ) → ℕ
+without_fraction scene deep = deep / 2 ^ scene.fraction_bits * 2 ^ scene.fraction_bits
 
 -- a face becomes the candidate
-abbrev pub loaded : KeyedPixel → Depths → SolidView → Keys → (face : ℕ) → Keys
-loaded l d s k face = record k {
-  deep = without_fraction l (residue l (plus (face_plane s (end_of d) face) (2 ^ d.fraction_bits - 1)));
+abbrev pub loaded : SceneView → KeyedPixel → SolidView → Keys → (face : ℕ) → Keys
+loaded scene l s k face = record k {
+  deep = without_fraction scene
+      (residue scene l (plus (face_plane s (end_of (depths_of scene)) face) (2 ^ scene.fraction_bits - 1)));
   number = face_number s face;
   alive = true;
 }
@@ -58,12 +57,14 @@ abbrev pub flipped : Keys → Keys
 flipped k = record k { par = not k.par }
 
 -- a face covers the pixel, and a form is not above a depth
-abbrev pub is_passing : KeyedPixel → (end : ℕ) → SolidView → (face : ℕ) → Linear → (deep : ℕ) → Bool
-is_passing l end s face form deep = covers s end face l.x l.y && nat_le (residue l form) deep
+abbrev pub is_passing : SceneView → KeyedPixel → SolidView → (face : ℕ) → Linear → (deep : ℕ) → Bool
+is_passing scene l s face form deep =
+    covers s (end_of (depths_of scene)) face l.x l.y && nat_le (residue scene l form) deep
 
 -- and it does something to a live candidate
-abbrev pub where_passing : KeyedPixel → (end : ℕ) → SolidView → (face : ℕ) → Linear → (Keys → Keys) → Keys → Keys
-where_passing l end s face form change k = if k.alive && is_passing l end s face form k.deep then change k else k
+abbrev pub where_passing : SceneView → KeyedPixel → SolidView → (face : ℕ) → Linear → (Keys → Keys) → Keys → Keys
+where_passing scene l s face form change k =
+    if k.alive && is_passing scene l s face form k.deep then change k else k
 
 -- what a step leaves of the keys
 abbrev pub after_step : SceneView → KeyedPixel → Keys → Step → Keys
@@ -71,22 +72,20 @@ after_step scene l k Start = record k { best = end_of (depths_of scene) * 2 ^ l.
 after_step scene l k Open = dropped k
 after_step scene l k (Candidate solid face) =
     let s = solid_of scene solid in
-    if covers s (end_of (depths_of scene)) face l.x l.y then loaded l (depths_of scene) s k face else k
+    if covers s (end_of (depths_of scene)) face l.x l.y then loaded scene l s k face else k
 after_step scene l k (Drop solid face) =
-    let end = end_of (depths_of scene) in
     let s = solid_of scene solid in
-    where_passing l end s face (face_plane s end face) dropped k
+    where_passing scene l s face (face_plane s (end_of (depths_of scene)) face) dropped k
 after_step scene l k Clear = record k { par = false }
 after_step scene l k (Front solid face) =
-    let end = end_of (depths_of scene) in
     let s = solid_of scene solid in
-    where_passing l end s face (plus (face_plane s end face) (2 ^ scene.fraction_bits)) flipped k
+    where_passing scene l s face (plus (face_plane s (end_of (depths_of scene)) face) (2 ^ scene.fraction_bits))
+    flipped k
 after_step scene l k Confirm = if beq k.par false then dropped k else k
 after_step scene l k (Begin other) = record k { par = false }
 after_step scene l k (Turn other solid face) =
-    let end = end_of (depths_of scene) in
     let s = solid_of scene solid in
-    where_passing l end s face (face_plane s end face) flipped k
+    where_passing scene l s face (face_plane s (end_of (depths_of scene)) face) flipped k
 after_step scene l k (Close other plain) = if beq k.par (not plain) then dropped k else k
 after_step scene l k Merge =
     let own = key l k.deep k.number in
