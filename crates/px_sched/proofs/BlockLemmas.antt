@@ -1,21 +1,19 @@
 -- What the passes of one literal leave, and what all of them leave.
-use Rattle.px_num.proofs.Basics.{◌≡◌, ◌<◌, ◌≤◌, ◌+◌, ◌+ℤ◌, ◌-◌, ◌*◌, ◌^◌, ◌||◌, ◌==◌, pos, ℕ, Bool, true, false, ◌&&◌}
-use Rattle.px_num.proofs.Basics.{[], nat_lt, min, List, ◌∷◌, ◌++◌, length, eqb, map, refl, ap, sym, ◌∙◌, arith, inl}
-use Rattle.px_num.proofs.Basics.{inr, if◌then◌else◌, fold, flat_map, list_all, range_with_len, fold-map, cases_Bool}
-use Rattle.px_num.proofs.Basics.{cases_lt, fold-append}
+use Rattle.px_num.proofs.Basics.{◌≡◌, ◌<◌, ◌≤◌, ◌+◌, ◌-◌, ◌*◌, ◌^◌, ℕ, Bool, true, false, ◌&&◌, [], nat_lt, min, List}
+use Rattle.px_num.proofs.Basics.{◌∷◌, ◌++◌, length, eqb, map, refl, ap, sym, ◌∙◌, arith, inl, inr, if◌then◌else◌, fold}
+use Rattle.px_num.proofs.Basics.{flat_map, list_all, range_with_len, fold-map, cases_Bool, cases_lt, fold-append}
 use Rattle.px_sched.proofs.Words.{after_step, after_steps, and_both, and_false, and_left, and_true, Candidate}
 use Rattle.px_sched.proofs.Words.{candidate_faces, cell_of, confirm, covering_back, covering_front, covered_once}
 use Rattle.px_sched.proofs.Words.{covers, Depths, depths_of, dropped, end_of, enters_at, face_number, face_plane}
 use Rattle.px_sched.proofs.Words.{is_inside, is_inside_before, is_met, judge, key, KeyedPixel, Keys, leaves_at, Literal}
 use Rattle.px_sched.proofs.Words.{literal_at, literal_steps, literals, loaded, lt_fails, lt_false, lt_holds, lt_true}
-use Rattle.px_sched.proofs.Words.{Merge, modulo, no_literal, others, plus, Product, product_steps, residue, SceneView}
-use Rattle.px_sched.proofs.Words.{solid_of, SolidView, steps_with, value_at-plus, value_of, where_fraction}
-use Rattle.px_sched.proofs.Words.{without_fraction}
+use Rattle.px_sched.proofs.Words.{Merge, no_literal, others, plus, Product, product_steps, residue, SceneView, solid_of}
+use Rattle.px_sched.proofs.Words.{SolidView, steps_with, value_of, where_fraction, without_fraction}
 use Rattle.px_sched.proofs.MemberLaws.{by_places}
-use Rattle.px_sched.proofs.RunLemmas.{classified, judge_keys, part_along, rounded, suits}
+use Rattle.px_sched.proofs.RunLemmas.{AreKept, classified, judge_keys, part_along, rounded, suits}
 use Rattle.px_sched.proofs.CoverLaws.{enters_depth, leaves_depth}
 use Rattle.px_sched.proofs.FoldLemmas.{elsewhere, fold_none, fold_single}
-use Rattle.px_sched.proofs.ConfirmLemmas.{IsConfirmed, barred_test, confirmed, plain_test, test}
+use Rattle.px_sched.proofs.ConfirmLemmas.{barred_test, confirmed, plain_test, sure}
 
 -- a candidate face covers the pixel
 abbrev pub is_covered : SolidView → (plain : Bool) → (end x y : ℕ) → Bool
@@ -121,15 +119,9 @@ module _ (scene : SceneView) (l : KeyedPixel) where
   abbrev classified_by : Keys → Literal → Keys
   classified_by k r = classified l far (solid_of scene r.solid) r.plain k
 
-  -- what the other literals leave but for the parity
-  record IsJudged (k new : Keys) (rs : List Literal) : Type 0 where
-    best : new.best ≡ k.best
-    depth : new.deep ≡ k.deep
-    number : new.number ≡ k.number
-    alive : new.alive ≡ (k.alive && list_all (suited_at scene l k.deep) rs)
-
-  judged : (rs : List Literal) (k : Keys) → IsJudged k (fold classified_by k rs) rs
-  judged [] k = record { best = refl; depth = refl; number = refl; alive = sym (and_true k.alive) }
+  -- what the other literals leave
+  judged : (rs : List Literal) (k : Keys) → AreKept (list_all (suited_at scene l k.deep) rs) k (fold classified_by k rs)
+  judged [] k = record { best = refl; deep = refl; number = refl; alive = sym (and_true k.alive) }
   judged (r ∷ rs) k = grind (arith, and_both, judged rs (classified_by k r))
 
   record HasKey (k : Keys) (deep number : ℕ) : Type 0 where
@@ -148,21 +140,13 @@ module _ (scene : SceneView) (l : KeyedPixel) where
       (plus (face_plane s far (face_found s plain far l.x l.y)) (2 ^ d.fraction_bits - 1)))
       ≡ value_of d (cell_found s plain d l.x l.y)
   loaded_deep s true met =
-      let more = 2 ^ d.fraction_bits - 1 in
-      ap (λ v. without_fraction scene (modulo v (scene.depth_bits + scene.fraction_bits)))
-      (value_at-plus (face_plane s far (covering_front s l.x l.y)) more l.x l.y
-      ∙ ap (λ v. v +ℤ pos more) (covered_once s far l.x l.y).front.value)
-      ∙ rounded scene (enters_at s l.x l.y) (enters_depth far s l.x l.y met)
+      rounded scene l _ _ (covered_once s far l.x l.y).front.value (enters_depth far s l.x l.y met)
   loaded_deep s false both =
-      let more = 2 ^ d.fraction_bits - 1 in
-      let met = and_left (is_met s far l.x l.y) _ both in
-      ap (λ v. without_fraction scene (modulo v (scene.depth_bits + scene.fraction_bits)))
-      (value_at-plus (face_plane s far (covering_back s far l.x l.y)) more l.x l.y
-      ∙ ap (λ v. v +ℤ pos more) (covered_once s far l.x l.y).back.value)
-      ∙ rounded scene (leaves_at s far l.x l.y) (leaves_depth far s l.x l.y met)
+      rounded scene l _ _ (covered_once s far l.x l.y).back.value
+      (leaves_depth far s l.x l.y (and_left (is_met s far l.x l.y) _ both))
 
   cell_test : (solid : ℕ) (plain : Bool) → let s = solid_of scene solid in is_covered s plain far l.x l.y ≡ true
-      → ((d.fraction_bits == 0) || test scene l solid plain (value_of d (cell_found s plain d l.x l.y)))
+      → sure scene l solid plain (value_of d (cell_found s plain d l.x l.y))
       ≡ has_cell s plain d l.x l.y (cell_found s plain d l.x l.y)
   cell_test solid plain met = grind (arith, plain_test, barred_test, and_left)
 
@@ -175,7 +159,7 @@ module _ (scene : SceneView) (l : KeyedPixel) where
 
   kept : (solid : ℕ) (plain : Bool) (k start new : Keys) → let s = solid_of scene solid in k.alive ≡ false
       → start ≡ (if is_covered s plain far l.x l.y then loaded scene l s k (face_found s plain far l.x l.y) else k)
-      → IsConfirmed scene l solid plain start new → IsKept s plain k new
+      → AreKept (sure scene l solid plain start.deep) start new → IsKept s plain k new
   kept solid plain k start new dead is c = let s = solid_of scene solid in
       elim (cases_Bool (is_covered s plain far l.x l.y)) [
         | inl yea ↦ grind (arith, loaded_deep, cell_test)

@@ -11,7 +11,7 @@ use Rattle.px_sched.proofs.Words.{lt_false, lt_holds, lt_is_not_le, lt_true, lt_
 use Rattle.px_sched.proofs.Words.{solid_of, SolidView, Step, turned_from_false, value_at, value_at-plus, value_of}
 use Rattle.px_sched.proofs.Words.{where_fraction}
 use Rattle.px_num.proofs.TruthLaws.{le_same}
-use Rattle.px_sched.proofs.RunLemmas.{ended, flips, keys_of, more_at_most}
+use Rattle.px_sched.proofs.RunLemmas.{AreKept, ended, flips, keys_of, more_at_most}
 use Rattle.px_sched.proofs.CoverLaws.{no_fraction, at_most_is, enters_depth, leaves_depth}
 use Rattle.px_sched.proofs.FoldLemmas.{fold_single, where_test}
 
@@ -161,26 +161,22 @@ module _ (scene : SceneView) (l : KeyedPixel) (solid : ℕ) where
   abbrev pub test : (plain : Bool) → (v : ℕ) → Bool
   test plain v = if plain then not (met && le_z leaves (pos v)) else (met && le_z (enters +ℤ pos unit) (pos v))
 
-  -- what the passes leave that look for a cell, but for the parity
-  pub record IsConfirmed (plain : Bool) (k new : Keys) : Type 0 where
-    pub best : new.best ≡ k.best
-    pub deep : new.deep ≡ k.deep
-    pub number : new.number ≡ k.number
-    pub alive : new.alive ≡ (k.alive && ((d.fraction_bits == 0) || test plain k.deep))
+  abbrev pub sure : (plain : Bool) → (v : ℕ) → Bool
+  sure plain v = (d.fraction_bits == 0) || test plain v
 
   abbrev confirming : (plain : Bool) → List Step
   confirming plain = if plain then drop_steps else (Clear ∷ turns ++ Confirm ∷ [])
 
   by_kind : (plain : Bool) (k : Keys) → (d.fraction_bits == 0) ≡ false
-      → IsConfirmed plain k (after_steps scene l k (confirming plain))
+      → AreKept (sure plain k.deep) k (after_steps scene l k (confirming plain))
   by_kind plain k some = grind (arith, confirm_plain, confirm_barred)
 
   pub confirmed : (plain : Bool) (k : Keys)
-      → IsConfirmed plain k (after_steps scene l k (where_fraction d (confirming plain)))
+      → AreKept (sure plain k.deep) k (after_steps scene l k (where_fraction d (confirming plain)))
   confirmed plain k = grind (arith, and_true, by_kind)
 
   -- the cell of a plain solid's candidate
-  pub plain_test : (c : ℕ) → cell_of d enters ≡ c → met ≡ true → ((d.fraction_bits == 0) || test true (value_of d c))
+  pub plain_test : (c : ℕ) → cell_of d enters ≡ c → met ≡ true → sure true (value_of d c)
       ≡ is_inside s d l.x l.y c
   plain_test c e m =
       let v = value_of d c in
@@ -202,7 +198,7 @@ module _ (scene : SceneView) (l : KeyedPixel) (solid : ℕ) where
 
   -- the cell of a barred solid's candidate
   pub barred_test : (c : ℕ) → cell_of d leaves ≡ c → met ≡ true
-      → ((d.fraction_bits == 0) || test false (value_of d c)) ≡ is_inside_before s d l.x l.y c
+      → sure false (value_of d c) ≡ is_inside_before s d l.x l.y c
   barred_test c e m = elim (cases_Bool (d.fraction_bits == 0)) [
     | inl none ↦ ap (λ b. b || test false (value_of d c)) none ∙ sym (before c e ∙ rw (m, whole none) refl)
     | inr some ↦ ap (λ b. b || test false (value_of d c)) some ∙ sym (before c e)

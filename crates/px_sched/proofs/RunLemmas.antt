@@ -7,6 +7,7 @@ use Rattle.px_sched.proofs.Words.{after_step, after_steps, cell_of, covered_once
 use Rattle.px_sched.proofs.Words.{face_count, face_plane, flipped, is_inside_at, is_odd, is_passed_at, is_passing}
 use Rattle.px_sched.proofs.Words.{judge, KeyedPixel, Keys, le_z, Literal, literal_at, modulo, SceneView, solid_of}
 use Rattle.px_sched.proofs.Words.{SolidView, Step, Turn, turned_from_false, value_of, odd_inside_at, without_fraction}
+use Rattle.px_sched.proofs.Words.{Linear, plus, residue, value_at, value_at-plus}
 use Rattle.px_face.proofs.ParityLaws.{turned_is_odd, turned_where}
 use Rattle.px_sched.proofs.CoverLaws.{and_same, IsDepth, mod_small, le_same, at_most_is, covering_value}
 
@@ -27,10 +28,26 @@ fold_agree f g a (suc n) same s =
     ∙ ap (λ t. fold g t (range_with_len (a + 1) n)) (same a (omega arith) (omega arith) s)
 
 -- a value that is rounded up is that of its cell
-pub rounded : (scene : SceneView) (v : ℤ) → let d = depths_of scene in IsDepth v (end_of d)
+rounded_value : (scene : SceneView) (v : ℤ) → let d = depths_of scene in IsDepth v (end_of d)
     → without_fraction scene (modulo (v +ℤ pos (2 ^ d.fraction_bits - 1)) (scene.depth_bits + scene.fraction_bits))
     ≡ value_of d (cell_of d v)
-rounded scene v is = grind (arith, pow_pos, mod_small, mul-le-mul, pow-add)
+rounded_value scene v is = grind (arith, pow_pos, mod_small, mul-le-mul, pow-add)
+
+pub rounded : (scene : SceneView) (l : KeyedPixel) (form : Linear) (v : ℤ) → let d = depths_of scene in
+    value_at form l.x l.y ≡ v → IsDepth v (end_of d)
+    → without_fraction scene (residue scene l (plus form (2 ^ d.fraction_bits - 1))) ≡ value_of d (cell_of d v)
+rounded scene l form v same is =
+    let more = 2 ^ scene.fraction_bits - 1 in
+    ap (λ u. without_fraction scene (modulo u (scene.depth_bits + scene.fraction_bits)))
+    (value_at-plus form more l.x l.y ∙ ap (λ u. u +ℤ pos more) same)
+    ∙ rounded_value scene v is
+
+-- keys of which no more than the parity and whether the candidate is alive have changed: it is alive where a test holds
+pub record AreKept (test : Bool) (k new : Keys) : Type 0 where
+  pub best : new.best ≡ k.best
+  pub deep : new.deep ≡ k.deep
+  pub number : new.number ≡ k.number
+  pub alive : new.alive ≡ (k.alive && test)
 
 -- a value with something added, as a test
 pub more_at_most : (v : ℤ) (n bits z : ℕ) (d : IsDepth v n) (more : ℕ) → d.depth + more < 2 ^ bits
