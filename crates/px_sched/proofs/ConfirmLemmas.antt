@@ -213,9 +213,4 @@ module _ (scene : SceneView) (l : KeyedPixel) (solid : ℕ) where
           (covered_once s end l.x l.y).values (value_of d z) ∙ rw (m, high) (one_more enters z unit)
 
       whole : (d.fraction_bits == 0) ≡ true → le_z (enters +ℤ pos unit) (pos (value_of d c)) ≡ true
-      whole none =
-          let is = leaves_depth end s l.x l.y m in
-          let below = (covered_once s end l.x l.y).depths m in
-          let same : value_of d c ≡ is.depth = ap (value_of d) (sym e ∙ ap (cell_of d) is.is)
-          ∙ whole_value d is.depth none in
-          at_most (enters +ℤ pos unit) (value_of d c) (omega (arith, ints, is.is, below.1, same, one_unit d none))
+      whole none = grind (arith, leaves_depth, covered_once, whole_value, at_most, one_unit, ints)

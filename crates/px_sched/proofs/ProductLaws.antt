@@ -67,9 +67,7 @@ fit count p low apart = record {
 }
   where
     never : (q : ℕ) → In q (solids p.plain) → In q (solids p.barred) → ⊥
-    never q h g =
-        let both : is_void p ≡ true = any_in (has p.barred) (solids p.plain) q h (in_solids p.barred q g).1 in
-        absurd (cc)
+    never q h g = grind (arith, any_in, in_solids)
 
 pub leaf_is : (scene : SceneView) (d : Depths) (x y z q : ℕ) → q < length scene.solids
     → leaf_cell scene.solids d x y z q ≡ solid_cell d x y z (solid_of scene q)

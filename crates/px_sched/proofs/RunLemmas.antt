@@ -36,11 +36,7 @@ rounded_value scene v is = grind (arith, pow_pos, mod_small, mul-le-mul, pow-add
 pub rounded : (scene : SceneView) (l : KeyedPixel) (form : Linear) (v : ℤ) → let d = depths_of scene in
     value_at form l.x l.y ≡ v → IsDepth v (end_of d)
     → without_fraction scene (residue scene l (plus form (2 ^ d.fraction_bits - 1))) ≡ value_of d (cell_of d v)
-rounded scene l form v same is =
-    let more = 2 ^ scene.fraction_bits - 1 in
-    ap (λ u. without_fraction scene (modulo u (scene.depth_bits + scene.fraction_bits)))
-    (value_at-plus form more l.x l.y ∙ ap (λ u. u +ℤ pos more) same)
-    ∙ rounded_value scene v is
+rounded scene l form v same is = grind (arith, value_at-plus, rounded_value)
 
 -- keys of which no more than the parity and whether the candidate is alive have changed: it is alive where a test holds
 pub record AreKept (test : Bool) (k new : Keys) : Type 0 where

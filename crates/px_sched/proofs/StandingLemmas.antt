@@ -136,18 +136,7 @@ module _ (scene : SceneView) where
     pub stands_onward : (d : Cursor) → d.given ≡ c.given + 1 → d.at ≡ 0 → length (ops s) ≡ c.at + 1
         → behind c.stage ≡ from_stage scene (plan_of scene) d.stage → IsStage scene (plan_of scene) d.stage
         → Stands scene d
-    stands_onward d given at last next is = grind (
-      arith,
-      step_of,
-      length,
-      left,
-      more_left,
-      drop,
-      drop-append_seam,
-      flat_map,
-      few_given,
-      below,
-    )
+    stands_onward d given at last next is = grind (arith, left, more_left, drop-append_seam, few_given, below)
 
   pub all_given : (c : Cursor) → Stands scene c → None ≡ step_of c.stage → c.given ≡ length (passes scene)
   all_given c stands here = grind (arith, left, ended)
