@@ -2,10 +2,9 @@
 use Rattle.px_num.proofs.Basics.{◌≡◌, ◌<◌, ◌≤◌, ◌+◌, ◌-◌, ◌*◌, ◌^◌, ◌∙◌, ℕ, List, length, refl, ap, subst, sym, arith}
 use Rattle.px_num.proofs.Basics.{All, All-weaker}
 use Rattle.px_shadow.proofs.Words.{all_clocked, all_micros, bit_at, CanCarryOut, Device, IsBelow, IsLawful}
-use Rattle.px_shadow.proofs.Words.{IsLawfulScene, IsLawfulSolid, layout_of, light_bit, MaskLaw}
-use Rattle.px_shadow.proofs.Words.{MAX_LIGHTS, need_with, number_same, nx-after_clocks, ny-after_clocks, pixel_of}
-use Rattle.px_shadow.proofs.Words.{PixelBits, plan_of, same_image, ShadedGridLaw, ShadedLaw, shadow_passes}
-use Rattle.px_shadow.proofs.Words.{SolidSet}
+use Rattle.px_shadow.proofs.Words.{IsLawfulScene, IsLawfulSolid, layout_of, light_bit, MaskLaw, MAX_LIGHTS, need_with}
+use Rattle.px_shadow.proofs.Words.{number_same, nx-after_clocks, ny-after_clocks, pixel_of, PixelBits, plan_of}
+use Rattle.px_shadow.proofs.Words.{same_image, ShadedGridLaw, ShadedLaw, shadow_passes, SolidSet}
 use Rattle.px_asm.specs.Microprograms.{bits_of}
 use Rattle.px_asm.proofs.ProgramLemmas.{micros_leave_the_meanings}
 use Rattle.px_macro.proofs.MacroLemmas.{is_lawful_in_more}
@@ -13,8 +12,7 @@ use Rattle.px_sched.proofs.LayoutLaws.{scene_layout}
 use Rattle.px_control.proofs.BoundLemmas.{few_clocks}
 use Rattle.px_control.proofs.GridLaws.{covers_the_picture, is_sized_array}
 use Rattle.px_control.proofs.PictureLemmas.{picture_law}
-use Rattle.px_shadow.proofs.FewLemmas.{passes_few}
-use Rattle.px_shadow.proofs.FitLemmas.{passes_lawful}
+use Rattle.px_shadow.proofs.FitLemmas.{passes_fit, passes_lawful}
 use Rattle.px_shadow.proofs.SightLemmas.{shadow_law}
 use Rattle.px_model.specs.Scenes.{SceneView}
 use Rattle.px_control.specs.Program.{IsAt, array_after, rows_of, total}
@@ -96,14 +94,16 @@ can_shade bits scene lights device lawful solids products at known enough most =
     let l = layout_of scene in
     let need = need_with l (length lights) in
     let ms = shadow_passes scene l lights in
-    let fit = passes_lawful scene lawful solids lights known in
+    let fits = passes_fit scene lawful solids lights known in
+    let fit = fits.lawful in
+    let few = fits.few in
     let layout = scene_layout scene lawful in
     let small : need ≤ 256 = omega (arith, layout.depth, layout.number, most) in
     record {
       sized = is_sized_array bits scene (total scene) device lawful at;
       lawful = grind (arith, is_lawful_in_more);
       places = grind (arith, is_lawful_in_more);
-      counted = grind (arith, clocks_at, passes_few, few_clocks);
+      counted = grind (arith, clocks_at, few_clocks);
     }
 
 pub is_shaded : (bits : ℕ) (scene : SceneView) (lights : List SolidSet) (device now : Device)

@@ -1,12 +1,10 @@
 -- Operations that are carried out on an array, one after another.
 use Rattle.px_num.proofs.Basics.{nat_tests, common_steps, flat_map-append, drop-cons, drop, get_or, ◌≡◌, ◌<◌, ◌≤◌, ◌+◌}
-use Rattle.px_num.proofs.Basics.{◌*◌, ◌∙◌, ℕ, List, [], ◌∷◌, ◌++◌, length, All, refl, ap, sym, arith}
-use Rattle.px_num.proofs.Basics.{append_assoc, add-zero, length-append, flat_map, drop_all, All-cons, All-head}
-use Rattle.px_num.proofs.Basics.{All-nil, All-tail}
-use Rattle.px_shadow.proofs.Words.{after_clocks, all_clocked-append, all_micros, append-nil, CanCarryOut}
-use Rattle.px_shadow.proofs.Words.{CarriesOut, cycles, Device, grid_after_clocks, HasGrid, IsLawful, IsRestOf}
-use Rattle.px_shadow.proofs.Words.{IsSizedArray, Macro, micro_at, micros, nx-after_clocks, ny-after_clocks, State}
-use Rattle.px_shadow.proofs.Words.{ArrayView, HasRun}
+use Rattle.px_num.proofs.Basics.{◌*◌, ◌∙◌, ℕ, List, [], ◌∷◌, ◌++◌, length, All, refl, ap, sym, arith, append_assoc}
+use Rattle.px_num.proofs.Basics.{add-zero, length-append, flat_map, drop_all, All-cons, All-head, All-nil, All-tail}
+use Rattle.px_shadow.proofs.Words.{after_clocks, all_clocked-append, all_micros, append-nil, CanCarryOut, CarriesOut}
+use Rattle.px_shadow.proofs.Words.{cycles, Device, grid_after_clocks, HasGrid, IsLawful, IsRestOf, IsSizedArray, Macro}
+use Rattle.px_shadow.proofs.Words.{micro_at, micros, nx-after_clocks, ny-after_clocks, State, ArrayView, HasRun}
 use Rattle.px_array.proofs.WorkLaws.{run_none, run_on}
 use Rattle.px_num.proofs.ListLaws.{length-tabulate}
 use Rattle.px_tree.specs.Nodes.{IsGrid}
@@ -93,72 +91,55 @@ pub rest_of : (xs ys : List Macro) (d now : Device) → now ≡ carried_out xs d
     ≡ carried_out (xs ++ ys) d
 rest_of xs ys d now is = ap (carried_out ys) is ∙ sym (carried_both xs ys d)
 
--- an array whose pixels have so many memory bits
-module _ (bits : ℕ) where
-  pub all_left : (whole : List Macro) (start : ArrayView) → CanCarryOut bits whole start.device
-      → IsRestOf bits whole whole start start
-  all_left whole start can = record { can = can; same = refl; run = run_none start }
+-- they are made
+pub made_out : (ms : List Macro) (before now : ArrayView) → now.device ≡ all_made ms before.device
+    → HasRun before now → CarriesOut ms before now
+unfolding carried_out
+made_out ms before now is run = record { device = is; run = run }
 
-  pub left_first : (whole xs ys : List Macro) (start now : ArrayView)
-      → IsRestOf bits whole (xs ++ ys) start now → CanCarryOut bits xs now.device
-  left_first whole xs ys start now left = can_first bits xs ys now.device left.can
+-- of a whole, carried out from a start on by an array whose pixels have so many memory bits
+module _ (bits : ℕ) (whole : List Macro) (start : ArrayView) where
+  abbrev Left : List Macro → ArrayView → Type 0
+  Left rest now = IsRestOf bits whole rest start now
 
-  pub left_next : (whole xs ys : List Macro) (start before now : ArrayView)
-      → IsRestOf bits whole (xs ++ ys) start before
-      → CarriesOut xs before now
-      → IsRestOf bits whole ys start now
-  left_next whole xs ys start before now left made = record {
+  pub all_left : CanCarryOut bits whole start.device → Left whole start
+  all_left can = record { can = can; same = refl; run = run_none start }
+
+  pub left_first : (xs ys : List Macro) (now : ArrayView) → Left (xs ++ ys) now → CanCarryOut bits xs now.device
+  left_first xs ys now left = can_first bits xs ys now.device left.can
+
+  pub left_next : (xs ys : List Macro) (before now : ArrayView) → Left (xs ++ ys) before → CarriesOut xs before now
+      → Left ys now
+  left_next xs ys before now left made = record {
     can = can_second bits xs ys before.device now.device left.can made.device;
     same = rest_of xs ys before.device now.device made.device ∙ left.same;
     run = run_on start before now left.run made.run;
   }
 
-  pub none_left : (whole : List Macro) (start now : ArrayView) → IsRestOf bits whole [] start now
-      → CarriesOut whole start now
-  none_left whole start now left = grind (arith, carried_none)
+  pub none_left : (now : ArrayView) → Left [] now → CarriesOut whole start now
+  none_left now left = grind (arith, carried_none)
 
   -- the last ones are carried out
-  pub last_made : (whole ms : List Macro) (start before now : ArrayView) → IsRestOf bits whole ms
-      start before →
-      CarriesOut ms before now → CarriesOut whole start now
-  last_made whole ms start before now left made =
-      none_left whole start now (left_next whole ms [] start before now (rw (append-nil ms) left) made)
-
-  -- they are made
-  pub made_out : (ms : List Macro) (before now : ArrayView) → now.device ≡ all_made ms before.device
-      → HasRun before now → CarriesOut ms before now
-  unfolding carried_out
-  made_out ms before now is run = record { device = is; run = run }
+  pub last_made : (ms : List Macro) (before now : ArrayView) → Left ms before → CarriesOut ms before now
+      → CarriesOut whole start now
+  last_made ms before now left made = none_left now (left_next ms [] before now (rw (append-nil ms) left) made)
 
   -- some operations for each element of a list
-  cut_each : {X : Type 0} (f : X → List Macro) (xs : List X) (i : ℕ) (x d : X) → i < length xs → get_or xs i d ≡ x →
-      flat_map f (drop i xs) ≡ f x ++ flat_map f (drop (i + 1) xs)
-  cut_each f xs i x d there is = grind (arith, drop-cons)
+  module _ {X : Type 0} (f : X → List Macro) (xs : List X) (tail : List Macro) where
+    each_cut : (i : ℕ) (x d : X) (now : ArrayView) → i < length xs → get_or xs i d ≡ x
+        → Left (flat_map f (drop i xs) ++ tail) now → Left (f x ++ (flat_map f (drop (i + 1) xs) ++ tail)) now
+    each_cut i x d now there is left = grind (arith, nat_tests, common_steps, drop-cons, append_assoc)
 
-  pub each_cut : {X : Type 0} (f : X → List Macro) (xs : List X) (i : ℕ) (x d : X) (whole tail : List Macro)
-      (start now : ArrayView) → i < length xs → get_or xs i d ≡ x →
-      IsRestOf bits whole (flat_map f (drop i xs) ++ tail) start now →
-      IsRestOf bits whole (f x ++ (flat_map f (drop (i + 1) xs) ++ tail)) start now
-  each_cut f xs i x d whole tail start now there is left =
-      grind (arith, nat_tests, common_steps, cut_each, append_assoc)
+    pub each_first : (i : ℕ) (x d : X) (now : ArrayView) → i < length xs → get_or xs i d ≡ x
+        → Left (flat_map f (drop i xs) ++ tail) now → CanCarryOut bits (f x) now.device
+    each_first i x d now there is left = left_first (f x) _ now (each_cut i x d now there is left)
 
-  pub each_first : {X : Type 0} (f : X → List Macro) (xs : List X) (i : ℕ) (x d : X) (whole tail : List Macro)
-      (start now : ArrayView) → i < length xs → get_or xs i d ≡ x →
-      IsRestOf bits whole (flat_map f (drop i xs) ++ tail) start now
-      → CanCarryOut bits (f x) now.device
-  each_first f xs i x d whole tail start now there is left =
-      grind (arith, nat_tests, common_steps, left_first, each_cut)
+    pub each_next : (i : ℕ) (x d : X) (before now : ArrayView) → i < length xs → get_or xs i d ≡ x
+        → Left (flat_map f (drop i xs) ++ tail) before → CarriesOut (f x) before now
+        → Left (flat_map f (drop (i + 1) xs) ++ tail) now
+    each_next i x d before now there is left made =
+        left_next (f x) _ before now (each_cut i x d before there is left) made
 
-  pub each_next : {X : Type 0} (f : X → List Macro) (xs : List X) (i : ℕ) (x d : X) (whole tail : List Macro)
-      (start before now : ArrayView) → i < length xs → get_or xs i d ≡ x →
-      IsRestOf bits whole (flat_map f (drop i xs) ++ tail) start before
-      → CarriesOut (f x) before now →
-      IsRestOf bits whole (flat_map f (drop (i + 1) xs) ++ tail) start now
-  each_next f xs i x d whole tail start before now there is left made =
-      left_next whole (f x) _ start before now (each_cut f xs i x d whole tail start before there is left) made
-
-  pub each_done : {X : Type 0} (f : X → List Macro) (xs : List X) (i : ℕ) (whole tail : List Macro)
-      (start now : ArrayView)
-      → length xs ≤ i → IsRestOf bits whole (flat_map f (drop i xs) ++ tail) start now
-      → IsRestOf bits whole tail start now
-  each_done f xs i whole tail start now past left = grind (arith, drop_all)
+    pub each_done : (i : ℕ) (now : ArrayView) → length xs ≤ i → Left (flat_map f (drop i xs) ++ tail) now
+        → Left tail now
+    each_done i now past left = grind (arith, drop_all)

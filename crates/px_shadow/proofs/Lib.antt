@@ -1,6 +1,5 @@
 pub mod ArrayLemmas
 pub mod DeviceLemmas
-pub mod FewLemmas
 pub mod FitLemmas
 pub mod LightLemmas
 pub mod LineLemmas

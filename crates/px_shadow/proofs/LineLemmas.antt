@@ -1,13 +1,13 @@
 -- The first bad line, and the lights of the lines before it.
-use Rattle.px_num.proofs.Basics.{nat_tests, common_steps, ◌≡◌, ◌<◌, ◌≤◌, ◌+◌, ◌∙◌, ℕ, Bool, true, false, ◌&&◌, List}
-use Rattle.px_num.proofs.Basics.{[], ◌∷◌, ◌++◌, All, Some, None, length, map, take, get_or, nat_lt, cond, refl, ap}
-use Rattle.px_num.proofs.Basics.{sym, arith, if◌then◌else◌, length-take-le, filter_map, fold, list_all, get_or-map}
-use Rattle.px_num.proofs.Basics.{take_all, take_more, filter_map-append, Ok, Err, OnOk, Result, codes, not, bytes_eq}
+use Rattle.px_num.proofs.Basics.{nat_tests, common_steps, ◌≡◌, ◌<◌, ◌≤◌, ◌+◌, ◌∙◌, ℕ, Bool, true, false, ◌&&◌, List, []}
+use Rattle.px_num.proofs.Basics.{◌∷◌, ◌++◌, All, Some, None, length, map, take, get_or, nat_lt, cond, refl, ap, sym}
+use Rattle.px_num.proofs.Basics.{arith, if◌then◌else◌, length-take-le, filter_map, fold, list_all, get_or-map, take_all}
+use Rattle.px_num.proofs.Basics.{take_more, filter_map-append, Ok, Err, OnOk, Result, codes, not, bytes_eq}
 use Rattle.px_shadow.proofs.Words.{all_good, and_left, and_right, AreGood, AreRead, as_light, empty, first_is}
-use Rattle.px_shadow.proofs.Words.{good_next, is_name, is_solid_name, IsBelow, light_fault_behind}
-use Rattle.px_shadow.proofs.Words.{light_in, light_of, LightFault, lights_fault, lights_of, line_fault, lt_holds}
-use Rattle.px_shadow.proofs.Words.{lt_true, named, one, set_of, sets_joined, solid_named, solids, solids_laws, SolidSet}
-use Rattle.px_shadow.proofs.Words.{SolidView, Words, words_of}
+use Rattle.px_shadow.proofs.Words.{good_next, is_name, is_solid_name, IsBelow, light_fault_behind, light_in, light_of}
+use Rattle.px_shadow.proofs.Words.{LightFault, lights_fault, lights_of, line_fault, lt_holds, lt_true, named, one}
+use Rattle.px_shadow.proofs.Words.{set_of, sets_joined, solid_named, solids, solids_laws, SolidSet, SolidView, Words}
+use Rattle.px_shadow.proofs.Words.{words_of}
 use Rattle.std.specs.List.{cons_option}
 use Rattle.px_show.specs.declared.fault.Cause.TheVariants.{BadName, Unexpected, UnknownName}
 

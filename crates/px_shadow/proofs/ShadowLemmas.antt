@@ -1,11 +1,9 @@
 -- What is found of the shadows of a text that was read is found of the input, and what stops it.
-use Rattle.px_num.proofs.Basics.{ℕ, ◌≡◌, ◌<◌, ◌≤◌, List, length, take, drop, unwrap_or, None, Result, arith}
-use Rattle.px_num.proofs.Basics.{Err, refl, ap, sym, subst, ◌∙◌, Consumes}
-use Rattle.px_shadow.proofs.Words.{ConsumesAtMost, done, IsFrontOf, LayoutView}
-use Rattle.px_shadow.proofs.Words.{lights_in, lights_refusal}
-use Rattle.px_shadow.proofs.Words.{line_behind, lit_by_lines, lit_drawable, mask_image, Outcome}
-use Rattle.px_shadow.proofs.Words.{parts_lit, PerformsShadow, refusal, refused}
-use Rattle.px_shadow.proofs.Words.{Shades, SinkState, SolidSet, State, stop_serves, stored_masks}
+use Rattle.px_num.proofs.Basics.{ℕ, ◌≡◌, ◌<◌, ◌≤◌, List, length, take, drop, unwrap_or, None, Result, arith, Err, refl}
+use Rattle.px_num.proofs.Basics.{ap, sym, subst, ◌∙◌, Consumes}
+use Rattle.px_shadow.proofs.Words.{ConsumesAtMost, done, IsFrontOf, LayoutView, lights_in, lights_refusal, line_behind}
+use Rattle.px_shadow.proofs.Words.{lit_by_lines, lit_drawable, mask_image, Outcome, parts_lit, PerformsShadow, refusal}
+use Rattle.px_shadow.proofs.Words.{refused, Shades, SinkState, SolidSet, State, stop_serves, stored_masks}
 use Rattle.px_shadow.proofs.Words.{StoresTheLights, text_refusal, too_long, unless_refused, worded}
 use Rattle.px_io.specs.declared.reading.ReadError.{ReadError}
 use Rattle.px_scene.specs.Scenes.{SceneView}

@@ -1,14 +1,14 @@
 -- Where a pixel stores what it shows, the stored key says by which lights it is lit.
-use Rattle.px_num.proofs.Basics.{◌≡◌, ◌+◌, ◌==◌, ◌∙◌, ℕ, Bool, true, ◌&&◌, not, List, Option, Some, None, refl, ap}
-use Rattle.px_num.proofs.Basics.{sym, arith, nat_tests}
+use Rattle.px_num.proofs.Basics.{◌≡◌, ◌+◌, ◌==◌, ◌∙◌, ℕ, Bool, true, ◌&&◌, not, List, Option, Some, None, refl, ap, sym}
+use Rattle.px_num.proofs.Basics.{arith, nat_tests}
 use Rattle.px_shadow.proofs.Words.{and_false, and_true, deep_part, depths_of, end_is_small, end_of, first_cell, is_lit}
-use Rattle.px_shadow.proofs.Words.{is_lit_at, layout_of, light_at, light_bit, number_in, number_part}
-use Rattle.px_shadow.proofs.Words.{picture, ShadowLaw, sight_at, solids, SolidSet, value_of}
+use Rattle.px_shadow.proofs.Words.{is_lit_at, layout_of, light_at, light_bit, number_in, number_part, picture}
+use Rattle.px_shadow.proofs.Words.{ShadowLaw, sight_at, solids, SolidSet, value_of}
 use Rattle.px_model.specs.Scenes.{SceneView}
 use Rattle.px_face.specs.Surfaces.{ShowsBackground}
 use Rattle.px_face.proofs.BackgroundLemmas.{shows_background}
 use Rattle.px_face.proofs.SurfaceLemmas.{scene_surface}
-use Rattle.px_macro.proofs.NumberLaws.{number_of_two_parts}
+use Rattle.px_sched.proofs.BridgeLemmas.{number_cut}
 use Rattle.px_sched.specs.PassesLaw.{HasSight}
 use Rattle.px_shadow.proofs.LightLemmas.{IsReady, are_lit, lit, outside}
 
@@ -22,11 +22,7 @@ deep_is : (scene : SceneView) (memory : List Bool) (x y : ℕ) → HasSight (lay
     number_in (deep_part (layout_of scene) (layout_of scene).key_b) memory ≡ value_of (depths_of scene)
     (picture scene x y).depth
 deep_is scene memory x y sight =
-    let w = scene.depth_bits in
-    let f = scene.fraction_bits in
-    let at = 0 + (layout_of scene).number_bits in
-    let swap : w + f ≡ f + w = omega arith in
-    ap (λ n. number_in (record { at = at; len = n }) memory) swap ∙ number_of_two_parts at f w memory
+    number_cut (0 + (layout_of scene).number_bits) scene.depth_bits scene.fraction_bits memory
     ∙ rw (sight.whole, sight.depth) (grind arith)
 
 not_zero : (n : ℕ) → (n ≡ 0 → ⊥) → not (n == 0) ≡ true

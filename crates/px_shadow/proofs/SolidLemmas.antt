@@ -3,8 +3,8 @@ use Rattle.px_num.proofs.Basics.{◌≡◌, ◌≢◌, ◌<◌, ◌≤◌, ◌+�
 use Rattle.px_num.proofs.Basics.{length, slice_set, if◌then◌else◌, refl, ap, sym, arith, get_or-set_same}
 use Rattle.px_num.proofs.Basics.{get_or-set_other, length-set, beq, flat_map, range_with_len}
 use Rattle.px_shadow.proofs.Words.{after_macros, and_false, and_true, bit_at, deep_part, face_count, Field}
-use Rattle.px_shadow.proofs.Words.{is_inside_at, LayoutView, light_bit, number_in, number_same, PixelBits}
-use Rattle.px_shadow.proofs.Words.{solid_passes, SolidView, stored_turn}
+use Rattle.px_shadow.proofs.Words.{is_inside_at, LayoutView, light_bit, number_in, number_same, PixelBits, solid_passes}
+use Rattle.px_shadow.proofs.Words.{SolidView, stored_turn}
 use Rattle.px_sched.proofs.BridgeLemmas.{pixel}
 use Rattle.px_shadow.proofs.TurnLemmas.{all_turned}
 use Rattle.px_macro.proofs.MacroLemmas.{meanings_join}

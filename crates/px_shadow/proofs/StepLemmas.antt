@@ -1,23 +1,12 @@
 -- The steps of the shadow passes as the functions make them, one after another.
-use Rattle.px_num.proofs.Basics.{nat_tests, common_steps, ◌≡◌, ◌<◌, ◌+◌, ◌∙◌, ℕ, false, List, [], ◌∷◌, ◌++◌, drop}
-use Rattle.px_num.proofs.Basics.{length, map, ap, arith, set, sym, take, map-append}
-use Rattle.px_num.proofs.Basics.{take_more, flat_map, range_with_len, get_or-range_with_len, get_or, All}
-use Rattle.px_num.proofs.Basics.{nat_lt, true, All-weaker, drop-cons}
-use Rattle.px_shadow.proofs.Words.{IsBelow, LayoutView, light_passes, Linear, lt_holds, lt_true, Macro}
-use Rattle.px_shadow.proofs.Words.{number_part, passes_from, solid_passes, solids, solids_laws, SolidSet, SolidView}
-use Rattle.std.proofs.lemmas.List.Concat.{flat_map_single}
-use Rattle.std.proofs.lemmas.List.Sums.{AllPass-from_list_all}
-use Rattle.std.proofs.Math.Seq.{take-suc-set}
-use Rattle.px_model.specs.Scenes.{SceneView}
+use Rattle.px_num.proofs.Basics.{nat_tests, common_steps, map, take, take_more, map-append, ◌∷◌, [], ◌≡◌, ◌<◌, ◌+◌, ◌∙◌}
+use Rattle.px_num.proofs.Basics.{ℕ, List, ◌++◌, drop, length, arith, set, range_with_len, get_or-range_with_len, get_or}
+use Rattle.px_num.proofs.Basics.{All, nat_lt, true, All-weaker, drop-cons}
+use Rattle.px_shadow.proofs.Words.{Linear, Macro, IsBelow, LayoutView, light_passes, lt_holds, lt_true, passes_from}
+use Rattle.px_shadow.proofs.Words.{solids, solids_laws, SolidSet}
 use Rattle.px_macro.specs.declared.operation.Macro.TheVariants as m
-
--- the test of a bit of the stored face number
-abbrev pub bit_test : LayoutView → (t : ℕ) → List Macro
-bit_test l t = m.KeepBit ((number_part l l.key_b).at + t) false ∷ []
-
-pub tests_are : {X : Type 0} (f : X → Macro) (xs : List X) (tail : List Macro) → map f xs ++ tail
-    ≡ flat_map (λ x. f x ∷ []) xs ++ tail
-tests_are f xs tail = ap (λ ms. ms ++ tail) (sym (flat_map_single f xs))
+use Rattle.std.proofs.lemmas.List.Sums.{AllPass-from_list_all}
+use Rattle.px_model.specs.Scenes.{SceneView}
 
 pub number_at : (n t : ℕ) → t < n → get_or (range_with_len 0 n) t 0 ≡ t
 number_at n t low = get_or-range_with_len 0 n t 0 low ∙ omega arith
@@ -29,10 +18,6 @@ all_known count set known =
     (AllPass-from_list_all (λ q. nat_lt q count) (solids set)
     ((solids_laws.each (λ q. nat_lt q count) set).1 (λ q low h. lt_true q count (known q low h))))
 
-pub same_solid : (l : LayoutView) (light : ℕ) (a b : ℕ) (s t : SolidView) → a ≡ b → s ≡ t → solid_passes l a light s
-    ≡ solid_passes l b light t
-same_solid l light a b s t ends same = ap (λ e. solid_passes l e light s) ends ∙ ap (λ u. solid_passes l b light u) same
-
 -- stands where no light is
 abbrev pub no_light : SolidSet
 no_light = record { words = [] }
@@ -42,10 +27,8 @@ pub next_lights : (scene : SceneView) (l : LayoutView) (sets : List SolidSet) (i
     ++ passes_from scene l (i + 1 + 1) (drop (i + 1) sets)
 next_lights scene l sets i there = grind (arith, drop-cons)
 
--- ---- the operations of a face, stored one after another
-
-pub turn_more : (xs : List Linear) (i : ℕ) (d e : Linear) (ops : List Macro)
-    → take (i + 1) ops ≡ m.All ∷ map m.KeepSign (take i xs) → e ≡ get_or xs i d → i < length xs → i + 1 < length ops
-    → take (i + 1 + 1) (set ops (i + 1) (m.KeepSign e)) ≡ m.All ∷ map m.KeepSign (take (i + 1) xs)
-turn_more xs i d e ops so_far is there inside =
-    grind (arith, nat_tests, common_steps, take_more, map-append, set, take-suc-set)
+-- one edge more
+pub turn_more : (xs : List Linear) (i : ℕ) (d e : Linear) (ops now : List Macro) → ops ≡ m.All ∷ map m.KeepSign (take i xs)
+    → e ≡ get_or xs i d → i < length xs → now ≡ ops ++ m.KeepSign e ∷ []
+    → now ≡ m.All ∷ map m.KeepSign (take (i + 1) xs)
+turn_more xs i d e ops now so_far is there more = grind (arith, nat_tests, common_steps, take_more, map-append)

@@ -44,7 +44,7 @@ module _ (s : SolidView) (end x y : ℕ) where
         (number_in (deep_part l l.key_b) (with_parity odd))) ≡ passed i =
         ap (λ n. c && nat_le (modulo v (deep_part l l.key_b).len) n) (apart odd)
         ∙ and_same c _ _ (λ h. at_most_is v end (deep_part l l.key_b).len stored big
-        (covering_value covered_once end s x y i there h)) in
+        (covering_value end s x y i there h)) in
         grind (arith, signed, turned_memory, get_or-set_same, meanings_join)
 
     some_turned : (a n : ℕ) → a + n ≤ face_count s → (odd e : Bool) →

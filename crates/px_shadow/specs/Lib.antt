@@ -1,7 +1,6 @@
 pub mod Carrying
 pub mod LightLines
 pub mod Lights
-pub mod Passing
 pub mod Saying
 pub mod Shaded
 pub mod ShadowLaws

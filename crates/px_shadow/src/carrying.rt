@@ -5,6 +5,7 @@ use px_asm::{Operating, make_operations};
 use px_macro::Macro;
 
 /// Makes some operations, one after another, and leaves what their clocks leave.
+#[tactic(auto, using(crate::proofs::DeviceLemmas::made_out))]
 pub(crate) fn carry_out<A: Operating>(array: &mut A, operations: &[Macro])
     requires { CanCarryOut A.BITS operations.now (A.view array.old).device }
     ensures { CarriesOut operations.now (A.view array.old) (A.view array.new) }

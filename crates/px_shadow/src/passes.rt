@@ -1,11 +1,12 @@
 //! The shadow passes, made on an array that stores the picture of a scene.
-ghost use Rattle.std.specs.Prelude.{◌≡◌, ◌+◌, ◌-◌, ◌<◌, ◌≤◌, All, length, take};
+ghost use Rattle.std.specs.Prelude.{◌≡◌, ◌+◌, ◌-◌, ◌<◌, ◌≤◌, All, length};
 ghost use Rattle.px_array.specs.Slots.{HasWorked, IsRunOnce};
-ghost use Rattle.px_face.specs.Edges.{edge_count};
 ghost use Rattle.px_face.specs.Faces.{face_count};
 ghost use Rattle.px_normal.specs.Sets.{IsBelow};
+ghost use Rattle.px_model.specs.Cells.{depths_of, end_of};
 ghost use Rattle.px_prune.specs.Kept.{plan_of};
 ghost use Rattle.px_sched.specs.Layouts.{layout_of};
+ghost use Rattle.px_sched.specs.Passes.{solid_of};
 ghost use Rattle.px_control.specs.GridLaw.{CoversThePicture};
 ghost use Rattle.px_control.specs.Program.{IsAt, total};
 ghost use Rattle.px_shadow.specs.declared.passes.TheConstants.{MAX_LIGHTS};
@@ -27,7 +28,7 @@ use arrayvec::ArrayVec;
 use px_asm::Operating;
 use px_face::{edge_at, edge_count, face_count, laws_of_edges, plane_of};
 use px_macro::Macro;
-use px_model::{Scene, Solid, laws_of_scenes};
+use px_model::{Scene, laws_of_scenes};
 use px_normal::{MAX_PRODUCTS, SolidSet};
 use px_sched::{Layout, solid_at};
 
@@ -36,6 +37,9 @@ pub const MAX_LIGHTS: usize = 8;
 
 /// A face has at most 97 edges, and three operations besides those of its edges.
 const TURN_OPERATIONS: usize = 100;
+
+/// A face number has at most 12 bits, and the background has two operations besides those of the bits.
+const BACKGROUND_OPERATIONS: usize = 14;
 
 /// How many memory bits a pixel needs for the keys of a layout and so many lights, at most
 /// `MAX_LIGHTS` (docs/SCENES.md, "Memory").
@@ -109,21 +113,24 @@ fn one_light<A: Operating>(
     );
     let list = solids.solids();
     for solid in list.as_slice() {
-        one_solid(array, layout, scene.end(), light, solid_at(scene, *solid));
+        one_solid(array, scene, layout, light, *solid);
     }
-    background(array, layout, light);
+    carry_out(array, background_of(layout, light).as_slice());
 }
 
 /// The passes of a solid of a light, which put the light out where the stored cell is inside it.
-fn one_solid<A: Operating>(array: &mut A, layout: &Layout, end: u32, light: u32, solid: &Solid)
+fn one_solid<A: Operating>(array: &mut A, scene: &Scene, layout: &Layout, light: u32, solid: u8)
     requires number { light ≤ MAX_LIGHTS }
-    requires can { CanCarryOut A.BITS (solid_passes layout.now end light solid.now)
+    requires solid { solid < length scene.now.solids }
+    requires can { CanCarryOut A.BITS
+        (solid_passes layout.now (end_of (depths_of scene.now)) light (solid_of scene.now solid))
         (A.view array.old).device }
-    ensures { CarriesOut (solid_passes layout.now end light solid.now) (A.view array.old) (A.view array.new) }
+    ensures { CarriesOut (solid_passes layout.now (end_of (depths_of scene.now)) light (solid_of scene.now solid))
+        (A.view array.old) (A.view array.new) }
 {
     carry_out(array, &[Macro::All, Macro::SetBit(layout.par, false)]);
-    for face in 0..face_count(solid) {
-        one_face(array, layout, end, solid, face);
+    for face in 0..face_count(solid_at(scene, solid)) {
+        carry_out(array, turn_of(scene, layout, solid, face).as_slice());
     }
     carry_out(
         array,
@@ -135,46 +142,45 @@ fn one_solid<A: Operating>(array: &mut A, layout: &Layout, end: u32, light: u32,
     );
 }
 
-/// The passes of a face, which turn the parity where it is not behind the stored cell: its edges at
-/// once, so that the clocks are those of one comparison.
-fn one_face<A: Operating>(array: &mut A, layout: &Layout, end: u32, solid: &Solid, face: usize)
-    requires face { face < face_count solid.now }
-    requires can { CanCarryOut A.BITS (stored_turn layout.now end solid.now face)
-        (A.view array.old).device }
-    ensures { CarriesOut (stored_turn layout.now end solid.now face) (A.view array.old) (A.view array.new) }
-{
-    let operations = turn_of(layout, end, solid, face);
-    carry_out(array, &operations[..edge_count(solid) + 3]);
-}
-
-/// The operations of a face, one for each edge and three, and others behind them.
-fn turn_of(layout: &Layout, end: u32, solid: &Solid, face: usize) -> [Macro; TURN_OPERATIONS]
-    requires face { face < face_count solid.now }
-    ensures { take (edge_count solid.now + 3) result ≡ stored_turn layout.now end solid.now face }
+/// The operations of a face, which turn the parity where it is not behind the stored cell: its edges
+/// at once, so that the clocks are those of one comparison.
+fn turn_of(
+    scene: &Scene,
+    layout: &Layout,
+    solid: u8,
+    face: usize,
+) -> ArrayVec<Macro, TURN_OPERATIONS>
+    requires solid { solid < length scene.now.solids }
+    requires face { face < face_count (solid_of scene.now solid) }
+    ensures { result.items
+        ≡ stored_turn layout.now (end_of (depths_of scene.now)) (solid_of scene.now solid) face }
 {
     laws_of_edges();
-    let mut operations = [Macro::All; TURN_OPERATIONS];
-    let edges = edge_count(solid);
-    for place in 0..edges {
-        operations[place + 1] = Macro::KeepSign(edge_at(solid, end, face, place));
+    let solid = solid_at(scene, solid);
+    let end = scene.end();
+    let mut operations = ArrayVec::new();
+    operations.push(Macro::All);
+    for place in 0..edge_count(solid) {
+        operations.push(Macro::KeepSign(edge_at(solid, end, face, place)));
     }
-    operations[edges + 1] = Macro::KeepAtMost(plane_of(solid, end, face), layout.b_deep());
-    operations[edges + 2] = Macro::Toggle(layout.par);
+    operations.push(Macro::KeepAtMost(plane_of(solid, end, face), layout.b_deep()));
+    operations.push(Macro::Toggle(layout.par));
     operations
 }
 
 /// The passes that put a light out where no face is stored.
-fn background<A: Operating>(array: &mut A, layout: &Layout, light: u32)
+fn background_of(layout: &Layout, light: u32) -> ArrayVec<Macro, BACKGROUND_OPERATIONS>
     requires number { light ≤ MAX_LIGHTS }
-    requires can { CanCarryOut A.BITS (background_passes layout.now light) (A.view array.old).device }
-    ensures { CarriesOut (background_passes layout.now light) (A.view array.old) (A.view array.new) }
+    ensures { result.items ≡ background_passes layout.now light }
 {
     let number = layout.b_number();
-    carry_out(array, &[Macro::All]);
+    let mut operations = ArrayVec::new();
+    operations.push(Macro::All);
     for t in 0..number.len {
-        carry_out(array, &[Macro::KeepBit(number.at + t, false)]);
+        operations.push(Macro::KeepBit(number.at + t, false));
     }
-    carry_out(array, &[Macro::SetBit(light_bit(layout, light), false)]);
+    operations.push(Macro::SetBit(light_bit(layout, light), false));
+    operations
 }
 
 /// The memory bit of a light; lights are counted from 1.

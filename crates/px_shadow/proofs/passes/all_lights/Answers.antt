@@ -11,8 +11,8 @@ one_light-requires-clause-can g c =
     let lights = c.args.lights.now in
     let i = c.loop-i.i in
     let next = next_lights scene l lights i c.loop-i-test.true in
-    left_first _ (shadow_passes scene l lights) (light_passes scene l (i + 1) (get_or lights i no_light))
-    (passes_from scene l (i + 1 + 1) (drop (i + 1) lights)) _ _
+    left_first _ (shadow_passes scene l lights) _ (light_passes scene l (i + 1) (get_or lights i no_light))
+    (passes_from scene l (i + 1 + 1) (drop (i + 1) lights)) _
     (subst (λ ms. IsRestOf g.A.Array.BITS (shadow_passes scene l lights)
     ms (g.A.Array.view c.args.array.now) (g.A.Array.view c.loop-i.array)) next c.loop-i.invariant)
 
@@ -23,8 +23,8 @@ loop-i-preserved g c =
     let lights = c.args.lights.now in
     let i = c.loop-i.i in
     let next = next_lights scene l lights i c.loop-i-test.true in
-    left_next _ (shadow_passes scene l lights) (light_passes scene l (i + 1) (get_or lights i no_light))
-    (passes_from scene l (i + 1 + 1) (drop (i + 1) lights)) _ _ _
+    left_next _ (shadow_passes scene l lights) _ (light_passes scene l (i + 1) (get_or lights i no_light))
+    (passes_from scene l (i + 1 + 1) (drop (i + 1) lights)) _ _
     (subst (λ ms. IsRestOf g.A.Array.BITS (shadow_passes scene l lights)
     ms (g.A.Array.view c.args.array.now) (g.A.Array.view c.loop-i.array)) next c.loop-i.invariant)
     c.one_light.ensures

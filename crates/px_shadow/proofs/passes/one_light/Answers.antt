@@ -1,8 +1,7 @@
-use Rattle.px_num.proofs.Basics.{◌<◌, true, [], ◌∷◌, ℕ, List, length, get_or, ap, subst, sym, arith, ◌∙◌}
-use Rattle.px_shadow.proofs.Words.{CanCarryOut, CarriesOut, depths_of, end_of, light_bit, light_passes, Macro}
-use Rattle.px_shadow.proofs.Words.{solid_of, solid_passes, solids}
+use Rattle.px_num.proofs.Basics.{◌<◌, true, [], ◌∷◌, ℕ, List, length, get_or, ap, sym, arith, ◌∙◌}
+use Rattle.px_shadow.proofs.Words.{depths_of, end_of, light_bit, light_passes, Macro, solid_of, solid_passes, solids}
 use Rattle.px_shadow.proofs.DeviceLemmas.{all_left, can_first, each_first, each_next, left_next}
-use Rattle.px_shadow.proofs.StepLemmas.{all_known, same_solid}
+use Rattle.px_shadow.proofs.StepLemmas.{all_known}
 use Rattle.px_macro.specs.declared.operation.Macro.TheVariants as m
 use Rattle.px_shadow.proofs.passes.one_light.Goals as goal
 
@@ -15,11 +14,11 @@ pub loop-solid-init : goal.loop-solid-init
 loop-solid-init g c =
     let start = all_left _ (light_passes c.args.scene.now c.args.layout.now c.args.light c.args.solids.now) _
     c.requires.can in
-    left_next _ _ (m.All ∷ m.SetBit (light_bit c.args.layout.now c.args.light) true ∷ []) _ _ _ _ start
+    left_next _ _ _ (m.All ∷ m.SetBit (light_bit c.args.layout.now c.args.light) true ∷ []) _ _ _ start
     (rw c.light_bit.ensures at c.carry_out.ensures)
 
-pub solid_at-requires : goal.solid_at-requires
-solid_at-requires g c = grind (arith, all_known)
+pub one_solid-requires-clause-solid : goal.one_solid-requires-clause-solid
+one_solid-requires-clause-solid g c = grind (arith, all_known)
 
 pub one_solid-requires-clause-can : goal.one_solid-requires-clause-can
 one_solid-requires-clause-can g c =
@@ -30,10 +29,8 @@ one_solid-requires-clause-can g c =
     let i = c.loop-solid.solid-index in
     let there : i < length (solids c.args.solids.now) =
     omega (arith, ap (λ (qs : List ℕ). length qs) items, c.loop-solid-test.true) in
-    let same = same_solid c.args.layout.now c.args.light _ _ _ _ c.end.ensures.value c.solid_at.ensures in
-    subst (λ ms. CanCarryOut g.A.Array.BITS ms (g.A.Array.view c.loop-solid.array).device) (sym same)
-    (each_first _ f (solids c.args.solids.now) i _ 0 _ _ _ _ there
-    (ap (λ (qs : List ℕ). get_or qs i 0) (sym items)) c.loop-solid.invariant)
+    each_first _ _ _ f (solids c.args.solids.now) _ i _ 0 _ there
+    (ap (λ (qs : List ℕ). get_or qs i 0) (sym items)) c.loop-solid.invariant
 
 pub loop-solid-preserved : goal.loop-solid-preserved
 loop-solid-preserved g c =
@@ -44,8 +41,5 @@ loop-solid-preserved g c =
     let i = c.loop-solid.solid-index in
     let there : i < length (solids c.args.solids.now) =
     omega (arith, ap (λ (qs : List ℕ). length qs) items, c.loop-solid-test.true) in
-    let same = same_solid c.args.layout.now c.args.light _ _ _ _ c.end.ensures.value c.solid_at.ensures in
-    each_next _ f (solids c.args.solids.now) i _ 0 _ _ _ _ _ there
-    (ap (λ (qs : List ℕ). get_or qs i 0) (sym items)) c.loop-solid.invariant
-    (subst (λ ms. CarriesOut ms (g.A.Array.view c.loop-solid.array)
-    (g.A.Array.view c.one_solid.new.array)) same c.one_solid.ensures)
+    each_next _ _ _ f (solids c.args.solids.now) _ i _ 0 _ _ there
+    (ap (λ (qs : List ℕ). get_or qs i 0) (sym items)) c.loop-solid.invariant c.one_solid.ensures

@@ -1,6 +1,6 @@
 use Rattle.px_num.proofs.Basics.{◌++◌, drop, flat_map}
-use Rattle.px_shadow.proofs.Words.{background_passes, depths_of, end_of, IsRestOf, light_passes, solid_of}
-use Rattle.px_shadow.proofs.Words.{solid_passes, solids}
+use Rattle.px_shadow.proofs.Words.{background_passes, depths_of, end_of, IsRestOf, light_passes, solid_of, solid_passes}
+use Rattle.px_shadow.proofs.Words.{solids}
 use Rattle.px_shadow.proofs.passes.one_light.Given as goal
 
 -- the solids from one on are left
