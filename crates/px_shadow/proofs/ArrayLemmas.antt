@@ -1,10 +1,10 @@
 -- What the shadow passes leave in an array that stores the picture, and the image of it.
 use Rattle.px_num.proofs.Basics.{◌≡◌, ◌<◌, ◌≤◌, ◌+◌, ◌-◌, ◌*◌, ◌^◌, ◌∙◌, ℕ, List, length, refl, ap, subst, sym, arith}
 use Rattle.px_num.proofs.Basics.{All, All-weaker}
-use Rattle.px_shadow.proofs.Words.{all_clocked, all_micros, bit_at, CanCarryOut, Device, IsBelow, IsLawful}
-use Rattle.px_shadow.proofs.Words.{IsLawfulScene, IsLawfulSolid, layout_of, light_bit, MaskLaw, MAX_LIGHTS, need_with}
-use Rattle.px_shadow.proofs.Words.{number_same, nx-after_clocks, ny-after_clocks, pixel_of, PixelBits, plan_of}
-use Rattle.px_shadow.proofs.Words.{same_image, ShadedGridLaw, ShadedLaw, shadow_passes, SolidSet}
+use Rattle.px_shadow.proofs.Words.{all_clocked, all_micros, bit_at, CanMake, Device, IsBelow, IsLawful, IsLawfulScene}
+use Rattle.px_shadow.proofs.Words.{IsLawfulSolid, layout_of, light_bit, MaskLaw, MAX_LIGHTS, need_with, number_same}
+use Rattle.px_shadow.proofs.Words.{nx-after_clocks, ny-after_clocks, pixel_of, PixelBits, plan_of, same_image}
+use Rattle.px_shadow.proofs.Words.{ShadedGridLaw, ShadedLaw, shadow_passes, SolidSet}
 use Rattle.px_asm.specs.Microprograms.{bits_of}
 use Rattle.px_asm.proofs.ProgramLemmas.{micros_leave_the_meanings}
 use Rattle.px_macro.proofs.MacroLemmas.{is_lawful_in_more}
@@ -89,7 +89,7 @@ clocks_at bits scene n = refl
 pub can_shade : (bits : ℕ) (scene : SceneView) (lights : List SolidSet) (device : Device) → IsLawfulScene scene
     → All IsLawfulSolid scene.solids → length (plan_of scene) ≤ MAX_PRODUCTS → IsAt bits scene (total scene) device
     → All (IsBelow (length scene.solids)) lights → need_with (layout_of scene) (length lights) ≤ bits
-    → length lights ≤ MAX_LIGHTS → CanCarryOut bits (shadow_passes scene (layout_of scene) lights) device
+    → length lights ≤ MAX_LIGHTS → CanMake bits (shadow_passes scene (layout_of scene) lights) device
 can_shade bits scene lights device lawful solids products at known enough most =
     let l = layout_of scene in
     let need = need_with l (length lights) in
@@ -99,8 +99,10 @@ can_shade bits scene lights device lawful solids products at known enough most =
     let few = fits.few in
     let layout = scene_layout scene lawful in
     let small : need ≤ 256 = omega (arith, layout.depth, layout.number, most) in
+    let sized = is_sized_array bits scene (total scene) device lawful at in
     record {
-      sized = is_sized_array bits scene (total scene) device lawful at;
+      grid = sized.grid;
+      pixels = sized.pixels;
       lawful = grind (arith, is_lawful_in_more);
       places = grind (arith, is_lawful_in_more);
       counted = grind (arith, clocks_at, few_clocks);

@@ -2,14 +2,11 @@
 use Rattle.px_num.proofs.Basics.{nat_tests, common_steps, flat_map-append, drop-cons, drop, get_or, ◌≡◌, ◌<◌, ◌≤◌, ◌+◌}
 use Rattle.px_num.proofs.Basics.{◌*◌, ◌∙◌, ℕ, List, [], ◌∷◌, ◌++◌, length, All, refl, ap, sym, arith, append_assoc}
 use Rattle.px_num.proofs.Basics.{add-zero, length-append, flat_map, drop_all, All-cons, All-head, All-nil, All-tail}
-use Rattle.px_shadow.proofs.Words.{after_clocks, all_clocked-append, all_micros, append-nil, CanCarryOut, CarriesOut}
-use Rattle.px_shadow.proofs.Words.{cycles, Device, grid_after_clocks, HasGrid, IsLawful, IsRestOf, IsSizedArray, Macro}
-use Rattle.px_shadow.proofs.Words.{micro_at, micros, nx-after_clocks, ny-after_clocks, State, ArrayView, HasRun}
+use Rattle.px_shadow.proofs.Words.{all_made, after_clocks, all_clocked-append, all_micros, append-nil, CanMake}
+use Rattle.px_shadow.proofs.Words.{CarriesOut, Device, grid_after_clocks, HasGrid, IsLawful, IsRestOf, Macro, micros}
+use Rattle.px_shadow.proofs.Words.{nx-after_clocks, ny-after_clocks, State, ArrayView, HasRun}
 use Rattle.px_array.proofs.WorkLaws.{run_none, run_on}
-use Rattle.px_num.proofs.ListLaws.{length-tabulate}
 use Rattle.px_tree.specs.Nodes.{IsGrid}
-use Rattle.px_asm.proofs.CycleLaws.{few_cycles}
-use Rattle.px_asm.specs.Operations.{all_made}
 use Rattle.px_shadow.specs.Carrying.{carried_out}
 
 pub carried_none : (d : Device) → carried_out [] d ≡ d
@@ -25,36 +22,17 @@ sized_with : (bits nx ny a b : ℕ) (s : State) → a ≡ nx → b ≡ ny → Is
     → IsGrid a b × HasGrid bits a b s
 sized_with bits nx ny a b s columns rows grid pixels = rw (columns, rows) (grid, pixels)
 
-pub sized_after : (bits : ℕ) (ms : List Macro) (d : Device) → IsSizedArray bits d → IsSizedArray bits (carried_out ms d)
+sized_after : (bits : ℕ) (ms : List Macro) (d : Device) → IsGrid d.state.tree.nx d.state.tree.ny
+    → HasGrid bits d.state.tree.nx d.state.tree.ny d.state
+    → let now = carried_out ms d in
+    IsGrid now.state.tree.nx now.state.tree.ny × HasGrid bits now.state.tree.nx now.state.tree.ny now.state
 unfolding carried_out
-sized_after bits ms d sized =
+sized_after bits ms d grid pixels =
     let nx = d.state.tree.nx in
     let ny = d.state.tree.ny in
     let all = all_micros ms nx ny in
-    let both = sized_with bits nx ny _ _ (after_clocks all d.state) (nx-after_clocks all d.state)
-    (ny-after_clocks all d.state)
-    sized.grid (grid_after_clocks bits nx ny all d.state sized.pixels) in
-    record { grid = both.0; pixels = both.1 }
-
-micros_few : (m : Macro) (nx ny : ℕ) → IsLawful m 256 → IsGrid nx ny → length (micros m nx ny) ≤ 82
-micros_few m nx ny lawful grid =
-    omega (arith, length-tabulate (cycles m nx ny) (micro_at m nx ny), few_cycles m nx ny grid lawful)
-
-all_micros_few : (ms : List Macro) (nx ny : ℕ) → All (λ m. IsLawful m 256) ms → IsGrid nx ny
-    → length (all_micros ms nx ny) ≤ 82 * length ms
-all_micros_few [] nx ny lawful grid = omega arith
-all_micros_few (m ∷ ms) nx ny lawful grid =
-    omega (
-      arith,
-      length-append (micros m nx ny) (all_micros ms nx ny),
-      micros_few m nx ny (All-head (λ m. IsLawful m 256) m ms lawful) grid,
-      all_micros_few ms nx ny (All-tail (λ m. IsLawful m 256) m ms lawful) grid,
-    )
-
-pub clocks_after : (ms : List Macro) (d : Device) → (carried_out ms d).clocks ≡ d.clocks
-    + length (all_micros ms d.state.tree.nx d.state.tree.ny)
-unfolding carried_out
-clocks_after ms d = refl
+    sized_with bits nx ny _ _ (after_clocks all d.state) (nx-after_clocks all d.state) (ny-after_clocks all d.state)
+    grid (grid_after_clocks bits nx ny all d.state pixels)
 
 all_first : {X : Type 0} (P : X → Type 0) (xs ys : List X) → All P (xs ++ ys) → All P xs
 all_first P [] ys all = All-nil P
@@ -66,25 +44,28 @@ all_second P [] ys all = all
 all_second P (x ∷ xs) ys all = all_second P xs ys (All-tail P x (xs ++ ys) all)
 
 -- operations in two parts
-pub can_first : (bits : ℕ) (xs ys : List Macro) (d : Device) → CanCarryOut bits (xs ++ ys) d → CanCarryOut bits xs d
+pub can_first : (bits : ℕ) (xs ys : List Macro) (d : Device) → CanMake bits (xs ++ ys) d → CanMake bits xs d
 can_first bits xs ys d can = record {
-  sized = can.sized;
+  grid = can.grid;
+  pixels = can.pixels;
   lawful = all_first (λ m. IsLawful m 256) xs ys can.lawful;
   places = all_first (λ m. IsLawful m bits) xs ys can.places;
   counted = omega (arith, can.counted, length-append xs ys);
 }
 
-pub can_second : (bits : ℕ) (xs ys : List Macro) (d now : Device) → CanCarryOut bits (xs ++ ys) d
-    → now ≡ carried_out xs d → CanCarryOut bits ys now
-can_second bits xs ys d now can is =
-    let few = all_micros_few xs d.state.tree.nx d.state.tree.ny (all_first (λ m. IsLawful m 256) xs ys can.lawful)
-    can.sized.grid in
-    rw is (record {
-      sized = sized_after bits xs d can.sized;
+can_second : (bits : ℕ) (xs ys : List Macro) (before now : ArrayView) → CanMake bits (xs ++ ys) before.device
+    → CarriesOut xs before now → CanMake bits ys now.device
+can_second bits xs ys before now can made =
+    let sized : IsGrid now.device.state.tree.nx now.device.state.tree.ny
+    × HasGrid bits now.device.state.tree.nx now.device.state.tree.ny now.device.state =
+    rw made.device (sized_after bits xs before.device can.grid can.pixels) in
+    record {
+      grid = sized.0;
+      pixels = sized.1;
       lawful = all_second (λ m. IsLawful m 256) xs ys can.lawful;
       places = all_second (λ m. IsLawful m bits) xs ys can.places;
-      counted = omega (arith, can.counted, length-append xs ys, few, clocks_after xs d);
-    })
+      counted = omega (arith, can.counted, length-append xs ys, made.few);
+    }
 
 -- the rest is carried out on what the first part leaves
 pub rest_of : (xs ys : List Macro) (d now : Device) → now ≡ carried_out xs d → carried_out ys now
@@ -93,26 +74,27 @@ rest_of xs ys d now is = ap (carried_out ys) is ∙ sym (carried_both xs ys d)
 
 -- they are made
 pub made_out : (ms : List Macro) (before now : ArrayView) → now.device ≡ all_made ms before.device
-    → HasRun before now → CarriesOut ms before now
+    → now.device.clocks ≤ before.device.clocks + 82 * length ms → HasRun before now → CarriesOut ms before now
 unfolding carried_out
-made_out ms before now is run = record { device = is; run = run }
+made_out ms before now is few run = record { device = is; few = few; run = run }
 
 -- of a whole, carried out from a start on by an array whose pixels have so many memory bits
 module _ (bits : ℕ) (whole : List Macro) (start : ArrayView) where
   abbrev Left : List Macro → ArrayView → Type 0
   Left rest now = IsRestOf bits whole rest start now
 
-  pub all_left : CanCarryOut bits whole start.device → Left whole start
-  all_left can = record { can = can; same = refl; run = run_none start }
+  pub all_left : CanMake bits whole start.device → Left whole start
+  all_left can = record { can = can; same = refl; few = omega arith; run = run_none start }
 
-  pub left_first : (xs ys : List Macro) (now : ArrayView) → Left (xs ++ ys) now → CanCarryOut bits xs now.device
+  pub left_first : (xs ys : List Macro) (now : ArrayView) → Left (xs ++ ys) now → CanMake bits xs now.device
   left_first xs ys now left = can_first bits xs ys now.device left.can
 
   pub left_next : (xs ys : List Macro) (before now : ArrayView) → Left (xs ++ ys) before → CarriesOut xs before now
       → Left ys now
   left_next xs ys before now left made = record {
-    can = can_second bits xs ys before.device now.device left.can made.device;
+    can = can_second bits xs ys before now left.can made;
     same = rest_of xs ys before.device now.device made.device ∙ left.same;
+    few = omega (arith, left.few, made.few, length-append xs ys);
     run = run_on start before now left.run made.run;
   }
 
@@ -131,7 +113,7 @@ module _ (bits : ℕ) (whole : List Macro) (start : ArrayView) where
     each_cut i x d now there is left = grind (arith, nat_tests, common_steps, drop-cons, append_assoc)
 
     pub each_first : (i : ℕ) (x d : X) (now : ArrayView) → i < length xs → get_or xs i d ≡ x
-        → Left (flat_map f (drop i xs) ++ tail) now → CanCarryOut bits (f x) now.device
+        → Left (flat_map f (drop i xs) ++ tail) now → CanMake bits (f x) now.device
     each_first i x d now there is left = left_first (f x) _ now (each_cut i x d now there is left)
 
     pub each_next : (i : ℕ) (x d : X) (before now : ArrayView) → i < length xs → get_or xs i d ≡ x

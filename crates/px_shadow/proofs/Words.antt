@@ -3,8 +3,8 @@ pub use Rattle.px_array.proofs.ClockLaws.{all_clocked-append, grid_after_clocks,
 pub use Rattle.px_array.specs.Arrays.{Device, HasGrid, pixel_of, State}
 pub use Rattle.px_array.specs.Clocks.{after_clocks, all_clocked}
 pub use Rattle.px_array.specs.Slots.{ArrayView, HasRun}
-pub use Rattle.px_asm.specs.Micros.{all_micros, cycles, micro_at, micros}
-pub use Rattle.px_control.specs.GridLaw.{IsSizedArray}
+pub use Rattle.px_asm.specs.Micros.{all_micros, micros}
+pub use Rattle.px_asm.specs.Operations.{all_made, CanMake}
 pub use Rattle.px_face.specs.Edges.{covers, edges}
 pub use Rattle.px_face.specs.Faces.{face_count, face_plane}
 pub use Rattle.px_frame.proofs.RowLaws.{same_image}
@@ -33,7 +33,7 @@ pub use Rattle.px_sched.specs.Passes.{keep_covered, no_solid, solid_of}
 pub use Rattle.px_normal.proofs.SolidsLaws.{solids_laws}
 pub use Rattle.px_normal.specs.Sets.{empty, IsBelow, one, sets_joined, solids}
 pub use Rattle.px_normal.specs.declared.set.SolidSet.{SolidSet}
-pub use Rattle.px_shadow.specs.Carrying.{CanCarryOut, carried_out, CarriesOut, IsRestOf}
+pub use Rattle.px_shadow.specs.Carrying.{carried_out, CarriesOut, IsRestOf}
 pub use Rattle.px_shadow.specs.LightLines.{as_light, is_solid_name, light_fault_behind, light_in, light_of}
 pub use Rattle.px_shadow.specs.LightLines.{lights_fault, lights_of, line_fault, named, solid_named}
 pub use Rattle.px_shadow.specs.Lights.{is_lit, is_lit_at, light_at, mask_image}

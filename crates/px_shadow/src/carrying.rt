@@ -1,5 +1,6 @@
 //! Operations that are carried out on an array, one after another.
-ghost use Rattle.px_shadow.specs.Carrying.{CanCarryOut, CarriesOut};
+ghost use Rattle.px_asm.specs.Operations.{CanMake};
+ghost use Rattle.px_shadow.specs.Carrying.{CarriesOut};
 
 use px_asm::{Operating, make_operations};
 use px_macro::Macro;
@@ -7,7 +8,7 @@ use px_macro::Macro;
 /// Makes some operations, one after another, and leaves what their clocks leave.
 #[tactic(auto, using(crate::proofs::DeviceLemmas::made_out))]
 pub(crate) fn carry_out<A: Operating>(array: &mut A, operations: &[Macro])
-    requires { CanCarryOut A.BITS operations.now (A.view array.old).device }
+    requires { CanMake A.BITS operations.now (A.view array.old).device }
     ensures { CarriesOut operations.now (A.view array.old) (A.view array.new) }
 {
     make_operations(array, operations);

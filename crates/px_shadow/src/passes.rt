@@ -10,7 +10,8 @@ ghost use Rattle.px_sched.specs.Passes.{solid_of};
 ghost use Rattle.px_control.specs.GridLaw.{CoversThePicture};
 ghost use Rattle.px_control.specs.Program.{IsAt, total};
 ghost use Rattle.px_shadow.specs.declared.passes.TheConstants.{MAX_LIGHTS};
-ghost use Rattle.px_shadow.specs.Carrying.{CanCarryOut, CarriesOut};
+ghost use Rattle.px_asm.specs.Operations.{CanMake};
+ghost use Rattle.px_shadow.specs.Carrying.{CarriesOut};
 ghost use Rattle.px_shadow.specs.Shaded.{IsShaded, shadow_program};
 ghost use Rattle.px_shadow.specs.Stored.{StoresTheLights};
 ghost use Rattle.px_shadow.specs.ShadowPasses.{
@@ -84,7 +85,7 @@ pub fn shade<A: Operating>(
 fn all_lights<A: Operating>(array: &mut A, scene: &Scene, layout: &Layout, lights: &[SolidSet])
     requires few { length lights.now ≤ MAX_LIGHTS }
     requires known { All (IsBelow (length scene.now.solids)) lights.now }
-    requires can { CanCarryOut A.BITS (shadow_passes scene.now layout.now lights.now)
+    requires can { CanMake A.BITS (shadow_passes scene.now layout.now lights.now)
         (A.view array.old).device }
     ensures { CarriesOut (shadow_passes scene.now layout.now lights.now) (A.view array.old) (A.view array.new) }
 {
@@ -103,7 +104,7 @@ fn one_light<A: Operating>(
 )
     requires number { light ≤ MAX_LIGHTS }
     requires known { IsBelow (length scene.now.solids) solids.now }
-    requires can { CanCarryOut A.BITS (light_passes scene.now layout.now light solids.now)
+    requires can { CanMake A.BITS (light_passes scene.now layout.now light solids.now)
         (A.view array.old).device }
     ensures { CarriesOut (light_passes scene.now layout.now light solids.now) (A.view array.old) (A.view array.new) }
 {
@@ -122,7 +123,7 @@ fn one_light<A: Operating>(
 fn one_solid<A: Operating>(array: &mut A, scene: &Scene, layout: &Layout, light: u32, solid: u8)
     requires number { light ≤ MAX_LIGHTS }
     requires solid { solid < length scene.now.solids }
-    requires can { CanCarryOut A.BITS
+    requires can { CanMake A.BITS
         (solid_passes layout.now (end_of (depths_of scene.now)) light (solid_of scene.now solid))
         (A.view array.old).device }
     ensures { CarriesOut (solid_passes layout.now (end_of (depths_of scene.now)) light (solid_of scene.now solid))

@@ -1,5 +1,5 @@
 use Rattle.px_num.proofs.Basics.{◌≤◌, List, length, ap, subst, sym, arith, ◌∙◌}
-use Rattle.px_shadow.proofs.Words.{CanCarryOut, carried_out, layout_of, MAX_LIGHTS, need_with, shadow_passes, SolidSet}
+use Rattle.px_shadow.proofs.Words.{CanMake, carried_out, layout_of, MAX_LIGHTS, need_with, shadow_passes, SolidSet}
 use Rattle.px_shadow.specs.Shaded.{IsShaded}
 use Rattle.px_shadow.proofs.ArrayLemmas.{can_shade, clocks_made, grid_law, is_shaded, shaded_law}
 use Rattle.px_shadow.proofs.passes.shade.Given.{Over}
@@ -16,8 +16,8 @@ all_lights-requires-clause-can g c =
     subst (λ l. need_with l (length lights) ≤ bits) layout c.requires.need in
     let few : length lights ≤ MAX_LIGHTS =
     omega (arith, c.as_slice.ensures.fits, ap (λ (sets : List SolidSet). length sets) c.as_slice.ensures.value) in
-    subst (λ sets. CanCarryOut bits (shadow_passes scene c.args.layout.now sets) device) (sym c.as_slice.ensures.value)
-    (subst (λ l. CanCarryOut bits (shadow_passes scene l lights) device) (sym layout)
+    subst (λ sets. CanMake bits (shadow_passes scene c.args.layout.now sets) device) (sym c.as_slice.ensures.value)
+    (subst (λ l. CanMake bits (shadow_passes scene l lights) device) (sym layout)
     (can_shade bits scene lights device c.laws_of_scenes.ensures.scene c.laws_of_scenes.ensures.solids
     c.requires.products c.requires.at c.requires.known enough few))
 
