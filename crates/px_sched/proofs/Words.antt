@@ -1,8 +1,8 @@
 -- The words of definitions, and the laws of crates below, that proofs here cite.
 pub use Rattle.arrayvec.specs.ArrayVec.{array_vec_len}
 pub use Rattle.px_expr.proofs.LeafLaws.{leaves_below, some_solid}
-pub use Rattle.px_expr.specs.Cells.{cell, Cell, has_face}
-pub use Rattle.px_expr.specs.Tree.{HasLeavesBelow, Tree}
+pub use Rattle.px_expr.specs.Cells.{Cell, has_face}
+pub use Rattle.px_expr.specs.Tree.{HasLeavesBelow}
 pub use Rattle.px_face.specs.Covering.{covering_back, covering_front, is_met, is_odd, is_passed_at}
 pub use Rattle.px_face.proofs.CellLemmas.{has_cells}
 pub use Rattle.px_face.proofs.CoveringLemmas.{covered_once}
@@ -22,9 +22,9 @@ pub use Rattle.px_model.specs.Cells.{sight_at, solid_cell, value_of}
 pub use Rattle.px_model.specs.Scenes.{AreNumberedFrom, faces_in, faces_of, IsLawfulScene, IsLawfulSolid, IsNumberedFrom}
 pub use Rattle.px_model.specs.Scenes.{IsPlane, SceneView, SolidView}
 pub use Rattle.px_model.specs.declared.solid.Face.{Face}
-pub use Rattle.px_normal.specs.Forms.{forms, HasPlain, HasSolidsBelow, sum_of_products}
+pub use Rattle.px_normal.specs.Forms.{HasPlain, HasSolidsBelow, sum_of_products}
 pub use Rattle.px_normal.specs.Live.{is_void}
-pub use Rattle.px_normal.specs.NormalLaw.{holds, IsNormalForm, shows, some_shows}
+pub use Rattle.px_normal.specs.NormalLaw.{holds, shows, some_shows}
 pub use Rattle.px_normal.specs.declared.product.Product.{Product}
 pub use Rattle.px_num.proofs.BitLaws.{modulo_below, pow_above}
 pub use Rattle.px_num.proofs.FormLaws.{value_at-plus, wider}
@@ -37,7 +37,6 @@ pub use Rattle.px_num.specs.Bits.{bit_at, modulo}
 pub use Rattle.px_num.specs.Forms.{IsInTreeRange, plus, value_at}
 pub use Rattle.px_num.specs.declared.linear.Linear.{Linear}
 pub use Rattle.px_prune.specs.Kept.{kept_of, plan_of}
-pub use Rattle.px_prune.specs.PruningLaw.{PruningLaw}
 pub use Rattle.px_sched.specs.Groups.{BeginAt, behind_stage, from_stage, IsStage, literal_of, literals_from, no_product}
 pub use Rattle.px_sched.specs.Groups.{others_of, product_at, products_from, step_of}
 pub use Rattle.px_sched.specs.Layouts.{bit_length, deep_part, depth_part, fraction_part, IsLayout, layout_of}

@@ -7,7 +7,7 @@ use Rattle.px_num.specs.Bits.{modulo}
 use Rattle.px_num.specs.Forms.{plus, value_at}
 use Rattle.px_num.specs.declared.linear.Linear.{Linear}
 use Rattle.px_model.specs.Scenes.{SceneView, SolidView}
-use Rattle.px_model.specs.Cells.{Depths, depths_of, end_of}
+use Rattle.px_model.specs.Cells.{depths_of, end_of}
 use Rattle.px_face.specs.Faces.{face_number, face_plane}
 use Rattle.px_face.specs.Edges.{covers}
 use Rattle.px_sched.specs.declared.step.Step.{Step}
