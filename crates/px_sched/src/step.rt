@@ -9,8 +9,8 @@ ghost use Rattle.px_model.specs.Scenes.{SceneView};
 ghost use Rattle.px_num.specs.Forms.{IsInHalfRange, plus};
 ghost use Rattle.px_sched.specs.declared.literal.Literal.{Literal};
 ghost use Rattle.px_sched.specs.declared.step.Step.TheVariants as st;
-ghost use Rattle.px_sched.specs.Layouts.{LayoutView};
-ghost use Rattle.px_sched.specs.Passes.{candidate, load_candidate, operations, solid_of, where_passed};
+ghost use Rattle.px_sched.specs.Layouts.{LayoutView, deep_part};
+ghost use Rattle.px_sched.specs.Passes.{candidate, operations, solid_of};
 ghost use Rattle.px_sched.specs.StepCursors.{opens_literal};
 ghost use Rattle.px_sched.specs.Steps.{IsStep, IsStepOf, behind_step, candidates_end, candidates_from, confirmed_from, drops_from, fronts_from, first_candidate, judged_from, turns_from};
 ghost use Rattle.px_sched.specs.Onward.{AreKnown, BeginIfAny, BeginWith, around_edges};
@@ -86,6 +86,7 @@ impl Step {
         requires at { at < length (operations scene.now layout.now self) }
         ensures { result ≡ get_or (operations scene.now layout.now self) at m.All }
     {
+        let live = [Macro::All, Macro::KeepBit(layout.alive, true)];
         match self {
             Step::Start => [Macro::All, background(scene, layout)][at],
             Step::Open => [Macro::All, Macro::SetBit(layout.alive, false)][at],
@@ -93,19 +94,40 @@ impl Step {
             Step::Drop(solid, face) => {
                 let plane = plane_at(scene, solid, face);
                 let set = Macro::SetBit(layout.alive, false);
-                where_passed(scene, solid, face, &plane, layout, set, at)
+                around(
+                    scene,
+                    solid,
+                    face,
+                    &live,
+                    &where_passed(layout, &plane, set),
+                    at,
+                )
             }
             Step::Clear | Step::Begin(_) => [Macro::All, Macro::SetBit(layout.par, false)][at],
             Step::Front(solid, face) => {
                 let form = cell_behind(scene, solid, face);
                 let turn = Macro::Toggle(layout.par);
-                where_passed(scene, solid, face, &form, layout, turn, at)
+                around(
+                    scene,
+                    solid,
+                    face,
+                    &live,
+                    &where_passed(layout, &form, turn),
+                    at,
+                )
             }
             Step::Confirm => judged(layout, false, at),
             Step::Turn(_, solid, face) => {
                 let plane = plane_at(scene, solid, face);
                 let turn = Macro::Toggle(layout.par);
-                where_passed(scene, solid, face, &plane, layout, turn, at)
+                around(
+                    scene,
+                    solid,
+                    face,
+                    &live,
+                    &where_passed(layout, &plane, turn),
+                    at,
+                )
             }
             Step::Close(_, plain) => judged(layout, !plain, at),
             Step::Merge => [
@@ -351,27 +373,12 @@ fn cell_behind(scene: &Scene, solid: u8, face: usize) -> Linear
     plane_at(scene, solid, face).plus(power(scene.fraction_bits()) as u32)
 }
 
-/// An operation of a step that does something where a face covers and a form is not above the candidate.
+/// The operations of a step behind those of a face's edges: one is carried out where a form is not above the candidate.
 #[inline(always)]
-fn where_passed(
-    scene: &Scene,
-    solid: u8,
-    face: usize,
-    form: &Linear,
-    layout: &Layout,
-    operation: Macro,
-    at: usize,
-) -> Macro
-    requires solid { solid < length scene.now.solids }
-    requires face { face < face_count (solid_of scene.now solid) }
-    requires at { at < length (where_passed layout.now (end_of (depths_of scene.now))
-        (solid_of scene.now solid) face form.now operation) }
-    ensures { result ≡ get_or (where_passed layout.now (end_of (depths_of scene.now))
-        (solid_of scene.now solid) face form.now operation) at m.All }
+fn where_passed(layout: &Layout, form: &Linear, operation: Macro) -> [Macro; 2]
+    ensures { result ≡ m.KeepAtMost form.now (deep_part layout.now layout.now.key_t) ∷ operation ∷ [] }
 {
-    let head = [Macro::All, Macro::KeepBit(layout.alive, true)];
-    let tail = [Macro::KeepAtMost(*form, layout.t_deep()), operation];
-    around(scene, solid, face, &head, &tail, at)
+    [Macro::KeepAtMost(*form, layout.t_deep()), operation]
 }
 
 /// An operation of a head, one for each edge of a face, and a tail.
