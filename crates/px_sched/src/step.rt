@@ -61,7 +61,9 @@ impl Step {
     {
         match self {
             Step::Start | Step::Open | Step::Clear | Step::Begin(_) => 2,
-            Step::Candidate(solid, _) => candidate_count(scene, solid_at(scene, solid)),
+            Step::Candidate(solid, _) => {
+                edge_count(solid_at(scene, solid)) + 4 + usize::from(scene.fraction_bits() != 0)
+            }
             Step::Drop(solid, _) => edge_count(solid_at(scene, solid)) + 4,
             Step::Front(solid, _) => edge_count(solid_at(scene, solid)) + 4,
             Step::Turn(_, solid, _) => edge_count(solid_at(scene, solid)) + 4,
@@ -287,18 +289,6 @@ pub fn solid_at(scene: &Scene, solid: u8) -> &Solid
     ensures { result.now ≡ solid_of scene.now solid }
 {
     &scene.solids()[usize::from(solid)]
-}
-
-/// How many operations make a face the candidate.
-fn candidate_count(scene: &Scene, solid: &Solid) -> usize
-    ensures count { result ≡ edge_count solid.now + (if scene.now.fraction_bits == 0 then 4 else 5) }
-    ensures few { result ≤ 102 }
-{
-    if scene.fraction_bits() == 0 {
-        edge_count(solid) + 4
-    } else {
-        edge_count(solid) + 5
-    }
 }
 
 /// An operation of a step that ends the life of a candidate where the parity is so.
