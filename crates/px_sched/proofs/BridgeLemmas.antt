@@ -31,7 +31,8 @@ outside f place past = grind (arith, nat_tests)
 
 -- the number in a field, by its low part and its high one
 pub number_cut : (at high low : ℕ) (memory : List Bool) → number_in (record { at = at; len = high + low }) memory
-    ≡ number_in (record { at = at; len = low }) memory + 2 ^ low * number_in (record { at = at + low; len = high }) memory
+    ≡ number_in (record { at = at; len = low }) memory
+    + 2 ^ low * number_in (record { at = at + low; len = high }) memory
 number_cut at high low memory =
     let swap : high + low ≡ low + high = omega arith in
     ap (λ n. number_in (record { at = at; len = n }) memory) swap ∙ number_of_two_parts at low high memory
@@ -255,7 +256,8 @@ module _ (scene : SceneView) (i x y : ℕ)
             → keys (after_macros (m.LoadLinear form (t_deep w f i) ∷ numbered ∷ risen ∷ []) x y (pixel memory c)).memory
             ≡ (if c then loaded scene place s (keys memory) face else keys memory)
         without true e = named next (record (keys memory) { deep = without_fraction scene (residue scene place form) })
-            next_long (written ∙ ap (λ n. record (keys memory) { deep = n }) (cleared_none f (residue scene place form) e))
+            next_long (written ∙ ap (λ n. record (keys memory) { deep = n })
+            (cleared_none f (residue scene place form) e))
         without false e = refl
 
         with_one : (c : Bool)

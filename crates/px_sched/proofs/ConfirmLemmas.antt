@@ -97,7 +97,8 @@ module _ (scene : SceneView) (l : KeyedPixel) (solid : ℕ) where
       → (covers s end i l.x l.y && nat_le (residue scene l (plus (face_plane s end i) unit)) v)
       ≡ ((met && le_z (enters +ℤ pos unit) (pos v)) && eqb i (covering_front s l.x l.y))
   front_turns v i is =
-      rw is (where_here met (eqb i (covering_front s l.x l.y)) (nat_le (residue scene l (plus (face_plane s end i) unit)) v)
+      rw is (where_here met (eqb i (covering_front s l.x l.y))
+      (nat_le (residue scene l (plus (face_plane s end i) unit)) v)
       (le_z (enters +ℤ pos unit) (pos v))
       (λ m here.
       let e = enters_depth end s l.x l.y m in
@@ -152,7 +153,8 @@ module _ (scene : SceneView) (l : KeyedPixel) (solid : ℕ) where
       ∙ flips t start (range_with_len 0 nf)
       ∙ ap (λ b. keys_of k.best k.deep k.number k.alive b)
       (fold_single (λ i. k.alive && t k.deep i) (λ odd i. not odd) false 0 nf kf (k.alive && g)
-      (λ i low high. and_here k.alive (covers s end i l.x l.y) (nat_le (residue scene l (plus (face_plane s end i) unit))
+      (λ i low high. and_here k.alive (covers s end i l.x l.y)
+      (nat_le (residue scene l (plus (face_plane s end i) unit))
       k.deep) g (eqb i kf) (front_turns k.deep i (law.fronts i (lt_true i nf (omega arith)))))
       (omega arith) (omega (arith, lt_holds kf nf law.front.there))
       ∙ turned_from_false (k.alive && g)) in

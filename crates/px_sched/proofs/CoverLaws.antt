@@ -45,4 +45,5 @@ module _ (end : ℕ) (s : SolidView) (x y : ℕ) where
   pub covering_value : (i : ℕ) → i < face_count s → covers s end i x y ≡ true
       → IsDepth (value_at (face_plane s end i) x y) end
   covering_value i there c =
-      let law = covered_once s end x y in grind (arith, common_steps, leaves_depth, and_left, eqb_holds, and_right, enters_depth)
+      let law = covered_once s end x y in
+      grind (arith, common_steps, leaves_depth, and_left, eqb_holds, and_right, enters_depth)

@@ -67,7 +67,8 @@ module _ (scene : SceneView) (l : LayoutView) (lawful : All IsLawfulSolid scene.
   few_literal p q =
       let s = solid_of scene q.solid in
       let each : All (λ r. judged_worth once scene r ≤ 68) (others q p) =
-      λ k d low. let is = solid_lawful scene lawful (get_or (others q p) k d).solid in omega (arith, is.fronts.few, is.backs.few) in
+      λ k d low. let is = solid_lawful scene lawful (get_or (others q p) k d).solid in
+      omega (arith, is.fronts.few, is.backs.few) in
       omega (
         arith,
         literal_sum once scene q (others q p),

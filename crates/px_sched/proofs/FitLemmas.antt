@@ -32,7 +32,8 @@ module _ (scene : SceneView) (lawful : IsLawfulScene scene)
   unit_most = pow_mono {i = f} {j = 8} lawful.sizes.fraction_limit
 
   plane : (solid face : ℕ) → IsThere scene solid face → IsPlane (face_plane (solid_of scene solid) end face)
-  plane solid face there = plane_of_range (solid_of scene solid) (solid_lawful scene solids solid) end end_small face there
+  plane solid face there =
+      plane_of_range (solid_of scene solid) (solid_lawful scene solids solid) end end_small face there
 
   field_b : IsField l.key_b (need_of l)
   field_b = record { from_one = omega arith; to_forty = omega arith; within = omega arith }
@@ -68,7 +69,8 @@ module _ (scene : SceneView) (lawful : IsLawfulScene scene)
     faces = record {
       cleared = λ some. (fraction some, pow_pos f);
       number = λ solid face. (number, numbers_fit scene lawful solid face);
-      signs = λ solid face there. edges_range (solid_of scene solid) (solid_lawful scene solids solid) end end_small face there;
+      signs = λ solid face there.
+          edges_range (solid_of scene solid) (solid_lawful scene solids solid) end end_small face there;
       load = moved (2 ^ f - 1) (omega arith);
       at_most = λ solid face there. (plane_range _ (plane solid face there), deep);
       behind = moved (2 ^ f) (omega arith);

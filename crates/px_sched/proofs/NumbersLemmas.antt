@@ -99,7 +99,8 @@ module _ (scene : SceneView) (lawful : IsLawfulScene scene) (l : KeyedPixel)
   each_fit : (p : Product) → In p kept → IsFit (length scene.solids) p
   each_fit p there =
       fit (length scene.solids) p
-      (all_in (HasSolidsBelow (length scene.solids)) kept p (kept_below solids_laws (length scene.solids) (bounding_box scene) whole
+      (all_in (HasSolidsBelow (length scene.solids)) kept p
+      (kept_below solids_laws (length scene.solids) (bounding_box scene) whole
       (all_below (length scene.solids) scene.show below_256 lawful.shown)) there)
       (all_in (λ product. is_void product ≡ false) kept p (none_is_void scene whole) there)
 

@@ -24,7 +24,8 @@ pub record AreFit (bits most : ℕ) (ms : List Macro) : Type 0 where
   pub lawful : All (λ m. IsLawful m bits) ms
   pub few : length ms ≤ most
 
-each_fits : {X : Type 0} (bits most : ℕ) (P : X → Type 0) (f : X → List Macro) → ((x : X) → P x → AreFit bits most (f x))
+each_fits : {X : Type 0} (bits most : ℕ) (P : X → Type 0) (f : X → List Macro)
+    → ((x : X) → P x → AreFit bits most (f x))
     → (xs : List X) → All P xs → AreFit bits (most * length xs) (flat_map f xs)
 each_fits bits most P f each [] all = record { lawful = All-nil _; few = omega arith }
 each_fits bits most P f each (x ∷ xs) all =
@@ -69,7 +70,8 @@ module _ (scene : SceneView) (lawful : IsLawfulScene scene) (each : All IsLawful
       let tail : List Macro = m.KeepAtMost (face_plane s end face) (deep_part l l.key_b) ∷ m.Toggle l.par ∷ [] in
       record {
         lawful = All-cons Fits m.All (signs ++ tail) tt
-            (All-append Fits signs tail (All-map Fits m.KeepSign (edges s end face) (edges_range s h end small face there))
+            (All-append Fits signs tail (All-map Fits m.KeepSign (edges s end face)
+            (edges_range s h end small face there))
             (All-from_recursion Fits tail
             ((plane_range _ (plane_of_range s h end small face there), room.deep), (room.par, tt))));
         few = grind (arith, length-append, length-map, edges_count);
@@ -106,7 +108,12 @@ module _ (scene : SceneView) (lawful : IsLawfulScene scene) (each : All IsLawful
           lawful = All-cons Fits m.All (tests ++ (last ∷ [])) tt
               (All-push Fits tests last (All-map Fits test (range_with_len 0 l.number_bits)
               (range_all (λ t. Fits (test t)) 0 l.number_bits (λ i low high. omega (arith, room.number)))) there);
-          few = omega (arith, layout.number, length-append tests (last ∷ []), length-map-range_with_len test 0 l.number_bits);
+          few = omega (
+            arith,
+            layout.number,
+            length-append tests (last ∷ []),
+            length-map-range_with_len test 0 l.number_bits,
+          );
         }
 
     light_fits : (set : SolidSet) → IsBelow (length scene.solids) set
@@ -136,7 +143,8 @@ module _ (scene : SceneView) (lawful : IsLawfulScene scene) (each : All IsLawful
   lights_fit light [] there known = record { lawful = All-nil Fits; few = omega arith }
   lights_fit light (set ∷ sets) there known =
       let first = light_fits light (omega arith) set (All-head (IsBelow (length scene.solids)) set sets known) in
-      let others = lights_fit (light + 1) sets (omega arith) (All-tail (IsBelow (length scene.solids)) set sets known) in
+      let others = lights_fit (light + 1) sets (omega arith)
+      (All-tail (IsBelow (length scene.solids)) set sets known) in
       record {
         lawful = All-append Fits (light_passes scene l light set) (passes_from scene l (light + 1) sets) first.lawful
             others.lawful;

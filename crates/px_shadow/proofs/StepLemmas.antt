@@ -28,7 +28,8 @@ pub next_lights : (scene : SceneView) (l : LayoutView) (sets : List SolidSet) (i
 next_lights scene l sets i there = grind (arith, drop-cons)
 
 -- one edge more
-pub turn_more : (xs : List Linear) (i : ℕ) (d e : Linear) (ops now : List Macro) → ops ≡ m.All ∷ map m.KeepSign (take i xs)
+pub turn_more : (xs : List Linear) (i : ℕ) (d e : Linear) (ops now : List Macro)
+    → ops ≡ m.All ∷ map m.KeepSign (take i xs)
     → e ≡ get_or xs i d → i < length xs → now ≡ ops ++ m.KeepSign e ∷ []
     → now ≡ m.All ∷ map m.KeepSign (take (i + 1) xs)
 turn_more xs i d e ops now so_far is there more = grind (arith, nat_tests, common_steps, take_more, map-append)

@@ -7,6 +7,7 @@ use Rattle.px_shadow.proofs.passes.turn_of.Given as goal
 -- the first of them are those of the edges so far
 abbrev pub invariant-loop-place : goal.invariant-loop-place
 invariant-loop-place l = record {
-  first : l.operations.items ≡ m.All ∷ map m.KeepSign (take l.place (edges (solid_of l.scene l.fn.solid) (end_of (depths_of l.scene)) l.face));
+  first : l.operations.items ≡ m.All ∷ map m.KeepSign
+      (take l.place (edges (solid_of l.scene l.fn.solid) (end_of (depths_of l.scene)) l.face));
   room : array_vec_len l.operations ≡ l.place + 1;
 }
