@@ -73,7 +73,7 @@ LEFT = {"a sign": ("(pyramid - shaft)", "(pyramid _ shaft)"), "no sign": ("(pyra
         "a comma": ("0 0 320", "0 0 1,900"), "two brackets": ("((pyramid - shaft) + bar)", "(pyramid - shaft + bar)"), "a range": ("bar 200", "bar 2000"),
         "a solid's line": ("solid shaft 0 0 0 ", "# "), "a plane": ("front 0 0 320", "wall 0 0 320"), "a colour": ("bar 200 60 40", "bar"),
         "no show": ("show ((pyramid - shaft) + bar)\n", ""), "a mark of a comment": ("(pyramid - shaft)", "(pyramid # shaft)"),
-        "a word more": ("bar)\n", "bar) bar\n"), "an exclusive or": ("- shaft", "^ shaft")}
+        "a word more": ("bar)\n", "bar) bar\n"), "an exclusive or": ("- shaft", "^ shaft"), "a number that is two": ("picture 48 32", "picture 48")}
 
 
 @pytest.mark.parametrize("name", LEFT)

@@ -15,6 +15,7 @@ KEYS = "abcdefghijklmnopqrstuvwxyzABCDEFGHIJKLMNOPQRSTUVWXYZ0123456789_- ()+*^\n
 # No key is tried in a longer line, and no text of more lines is searched.
 LONGEST, MOST_LINES, MOST_MISTAKES = 300, 5000, 200
 DASHES = re.compile("[\u2010-\u2015\u2212\ufe63\uff0d]")
+NUMBER = re.compile(r"-?[0-9]+")
 NOTHING = re.compile("[\u200b-\u200d\u2060\ufeff]")
 # After these causes the rest of the text can be read on.
 OWN_LINE = ("not-number", "word-count", "bad-name", "second-name", "bad-expression", "unknown-name")
@@ -164,6 +165,11 @@ def numerals(words: list[str]) -> str:
     return re.sub(r"[^-\d]", "", "".join(words))
 
 
+def cuts_number(had: list[str], has: list[str]) -> bool:
+    """Whether a number of the old words is more than one of the new."""
+    return len(has) > len(had) and any(NUMBER.fullmatch(word) and word not in has for word in had)
+
+
 def keeps(old: str, new: str, names: Any) -> bool:
     """Whether an edited line has every number and sign of the old one, drops no solid, and takes in none that is there already."""
     had, has = old.split(), new.split()
@@ -175,7 +181,9 @@ def keeps(old: str, new: str, names: Any) -> bool:
         return signs == new_signs and not known - found and len(added) <= 1 and all(
             name not in known and len(name) > 2 for name in added)
     own = 2 if has[0] == "solid" else 1
-    return has[0] == "pxscene" or numerals(had) == numerals(has) or len(had) == len(has) and had[own:] == has[own:]
+    if has[0] == "pxscene" or len(had) == len(has) and had[own:] == has[own:]:
+        return True
+    return numerals(had) == numerals(has) and not cuts_number(had, has)
 
 
 class Search:
