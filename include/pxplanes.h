@@ -381,8 +381,9 @@ uint32_t pxplanes_clocks(uint64_t *words, size_t words_len, uint32_t grid_width,
  *
  * The text is refused as by the program: with MALFORMED and LIMIT found is what its note says, and with USAGE the
  * words name no command. `debug` is past a LIMIT where its lines are, though the program answers those before: then
- * nothing is written. NO_ROOM is answered after the work, which is then done for nothing, and also if there is no buffer. The room
- * of an image is known before the work: pxplanes_maps_size of pxplanes_image.h gives it. That of a text is not.
+ * nothing is written. NO_ROOM is answered also if there is no buffer. For "render", "colour", "refine" and "tile" it comes before the
+ * work: no array is opened and nothing is drawn, so a call without a buffer asks for the room. For "shadow" and for texts it comes after
+ * the work, which is then done for nothing; the room of "shadow" is that of "colour".
  *
  *     struct pxplanes_found found;
  *     size_t room = 1 << 20;

@@ -328,7 +328,8 @@ inline std::size_t run(std::string_view text, std::string_view words, std::uint8
     return detail::size_of(found.room);
 }
 
-/* The same as a value. Each thread keeps a buffer that grows: an output longer than two MiB, and than all before it, is made twice. */
+/* The same as a value. Each thread keeps a buffer that grows. An image longer than it is drawn once, since too little room is answered before
+   the drawing; a text longer than two MiB, and than all before it, is made twice. */
 inline std::string run(std::string_view text, std::string_view words)
 {
     thread_local std::size_t size = std::size_t{1} << 21;

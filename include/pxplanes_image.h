@@ -66,7 +66,7 @@ static inline void pxplanes_place_floats(void *first, ptrdiff_t stride, const ui
 }
 
 /*
- * The bytes that pxplanes_run writes for an image, before the work: two maps of the picture's size, as pxplanes_check finds it, for
+ * The bytes that pxplanes_run writes for an image, without a call of it: two maps of the picture's size, as pxplanes_check finds it, for
  * "render"; one for "colour", "shadow" and "refine"; and two of A by B for "tile A B".
  */
 static inline uint64_t pxplanes_maps_size(uint32_t width, uint32_t height, uint32_t maps)

@@ -209,7 +209,8 @@ export class Library {
     if (count > STRETCH) this.#ask(name, text, [[0, 1]], () => null, [BigInt(first) + BigInt(count)]);
   }
 
-  // The bytes that the program writes for a command's words, as "tile 600 400", with the text as its standard input.
+  // The bytes that the program writes for a command's words, as "tile 600 400", with the text as its standard input. If an image is longer
+  // than the first room, that is answered before it is drawn; a longer text is made twice.
   run(text, words = "render") {
     const bytes = bytesOf(text), asked = bytesOf(words, "words");
     for (let room = ROOM; ;) {

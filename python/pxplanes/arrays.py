@@ -39,21 +39,27 @@ def shaped(flat: memoryview, kind: str, shape: Sequence[int]) -> Any:
     return flat.cast(kind, list(shape)) if all(shape) else flat.cast(kind)
 
 
-def put(wholes: Sequence[Any], x: int, y: int, parts: Sequence[Any]) -> None:
-    """Writes arrays of two dimensions into others, from column x and row y on. Raises `ValueError` if these don't hold
-    the numbers afterwards."""
+def paste(wholes: Sequence[Any], x: int, y: int, parts: Sequence[Any]) -> None:
+    """Writes arrays of two dimensions into others, from column x and row y on."""
     high, wide = parts[0].shape
     if numpy is not None:
-        places = [numpy.asanyarray(whole)[y:y + high, x:x + wide] for whole in wholes]
-        for place, part in zip(places, parts):
-            place[...] = part
-        if not all(map(numpy.array_equal, places, parts)):
-            raise ValueError("the arrays of out overlap, or their type is too small for the numbers")
+        for whole, part in zip(wholes, parts):
+            whole[y:y + high, x:x + wide] = part
         return
     row = wholes[0].shape[1]
     for target, source in zip(*([each.cast("B").cast("I") for each in side] for side in (wholes, parts))):
         for at in range(high):
             target[(y + at) * row + x:(y + at) * row + x + wide] = source[at * wide:(at + 1) * wide]
+
+
+def put(wholes: Sequence[Any], x: int, y: int, parts: Sequence[Any]) -> None:
+    """The same into arrays of a caller's. Raises `ValueError` if these don't hold the numbers afterwards."""
+    if numpy is not None:
+        wholes = [numpy.asanyarray(whole) for whole in wholes]
+    paste(wholes, x, y, parts)
+    high, wide = parts[0].shape
+    if numpy is not None and not all(numpy.array_equal(whole[y:y + high, x:x + wide], part) for whole, part in zip(wholes, parts)):
+        raise ValueError("the arrays of out overlap, or their type is too small for the numbers")
 
 
 def spread(words: memoryview, wide: int, high: int, words_per_row: int) -> Any:

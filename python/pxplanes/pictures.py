@@ -8,7 +8,7 @@ import operator
 import os
 from typing import TYPE_CHECKING, Any, Callable, NamedTuple, Optional, Sequence, Tuple, Union
 
-from .arrays import Buffer, numpy, put, rows, shaped
+from .arrays import Buffer, numpy, paste, put, rows, shaped
 from .calls import LONGEST_NAME, FoundFace, Text, asked, content, word_of
 from .errors import OverBudget, Refused
 from .image import netpbm
@@ -185,12 +185,15 @@ def drawn(text: Text, windows: Sequence[Window], size: tuple[int, int], out: Out
           threads: int = 0, progress: Optional[Progress] = None, judges: Sequence[Callable[[], Cost]] = ()) -> Picture:
     """A picture made of windows, each (x, y, width, height), by so many threads, if no judge refuses it meanwhile."""
     maps, area, data = taken(out, *size), 0, content(text)
-    calls: list[Callable[[], Any]] = [*judges, *(functools.partial(piece, data, *each) for each in windows)]
+    # Only this thread writes to arrays of `out`: where the call has ended, a window under way is for nobody.
+    draw = functools.partial(pasted, maps, data) if out is None else functools.partial(piece, data)
+    calls: list[Callable[[], Any]] = [*judges, *(functools.partial(draw, *each) for each in windows)]
     with contextlib.closing(gathered(calls, threads)) as pieces:
         for found in pieces:
             if found is not None and not isinstance(found, Cost):
                 (x, y), part = found
-                put(maps, x, y, part[:2])
+                if out is not None:
+                    put(maps, x, y, part[:2])
                 area += part.width * part.height
             if progress is not None:
                 progress(area / (size[0] * size[1]))
@@ -201,7 +204,7 @@ def taken(out: Out, width: int, height: int) -> tuple[Any, Any]:
     """The two arrays that a picture is written to."""
     if out is None and numpy is not None:
         # NumPy takes their memory where it is first written to.
-        return numpy.zeros((height, width), numpy.uint32), numpy.zeros((height, width), numpy.uint32)
+        return numpy.empty((height, width), numpy.uint32), numpy.empty((height, width), numpy.uint32)
     if out is None:
         return Buffer("I", width * height).shaped(height, width), Buffer("I", width * height).shaped(height, width)
     found = [getattr(each, "shape", type(each).__name__) for each in out] if isinstance(out, (tuple, list)) else type(out).__name__
@@ -217,6 +220,13 @@ def piece(data: bytes, x: int, y: int, width: int, height: int) -> tuple[tuple[i
     depths, faces = Buffer("I", width * height), Buffer("I", width * height)
     asked("window", data, x, y, width, height, *depths.given(), *faces.given())
     return (x, y), Picture(depths.shaped(height, width), faces.shaped(height, width), width, height)
+
+
+def pasted(maps: tuple[Any, Any], data: bytes, *where: int) -> tuple[tuple[int, int], Picture]:
+    """A window that is written into arrays of our own, by the thread that draws it, so that memory is first touched there."""
+    found = piece(data, *where)
+    paste(maps, *found[0], found[1][:2])
+    return found
 
 
 def window(text: Text, x: int, y: int, width: int, height: int) -> Picture:

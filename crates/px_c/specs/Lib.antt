@@ -23,6 +23,7 @@ pub mod FaceAnswers
 pub mod Literals
 pub mod Names
 pub mod Numbers
+pub mod Rooms
 pub mod RunAnswers
 pub mod RunStops
 pub mod StateAnswers

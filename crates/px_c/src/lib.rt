@@ -15,6 +15,7 @@ mod names;
 mod numbered;
 mod products;
 mod render;
+mod room;
 mod run;
 mod state;
 mod status;

@@ -5,15 +5,16 @@ ghost use Rattle.px_commands.specs.Commands.{HasLawfulNumbers, command_of};
 ghost use Rattle.px_commands.specs.Outcomes.{done, output};
 ghost use Rattle.px_commands.specs.Results.{Meets};
 ghost use Rattle.px_draw.specs.Runs.{commanded};
-ghost use Rattle.px_c.specs.Answers.{TellsAnswer};
+ghost use Rattle.px_c.specs.Answers.{Answers, TellsAnswer};
 ghost use Rattle.px_c.specs.Buffers.{HoldsBytes};
-ghost use Rattle.px_c.specs.RunAnswers.{outcome_of, refusal_answer, run_answer, run_outcome};
+ghost use Rattle.px_c.specs.RunAnswers.{outcome_answer, outcome_of, refusal_answer, run_answer, run_outcome};
 ghost use Rattle.px_c.specs.RunStops.{IsCalm, stop_answer};
 ghost use Rattle.px_c.specs.declared.status.TheConstants.{OK};
 
 use crate::answer::{Answer, malformed, past_limit, refused};
 use crate::ends::{Lent, Output};
 use crate::found::{Found, limit_number, nothing};
+use crate::room::short_of_images;
 use crate::status::{BITS, NO_ROOM, OK, USAGE, WIDE_BITS};
 use px_commands::{Command, Refusal, Stop, command_in};
 use px_draw::perform;
@@ -38,7 +39,11 @@ pub extern "C" fn pxplanes_run(
     ensures output { result ≡ OK → HoldsBytes (output (run_outcome text.now words.now)) out.old out.new }
     ensures kept { (result ≡ OK → ⊥) → out.new ≡ out.old }
 {
-    let bytes = match output_of(alloc, text, command_in(words)) {
+    let command = command_in(words);
+    if let Some(answer) = short_of_output(alloc, text, command, out.len()) {
+        return answer.report_to(found);
+    }
+    let bytes = match output_of(alloc, text, command) {
         Ok(bytes) => bytes,
         Err(stop) => return stopped(stop).report_to(found),
     };
@@ -52,6 +57,24 @@ pub extern "C" fn pxplanes_run(
     let (front, _) = out.split_at_mut(bytes.len());
     front.copy_from_slice(bytes.as_slice());
     OK
+}
+
+/// The answer where what a command writes has no room, if that is known before the work, which is then not done.
+fn short_of_output(
+    alloc: Global,
+    text: &[u8],
+    command: Option<Command>,
+    room: usize,
+) -> Option<Answer>
+    requires lawful { IfSome command HasLawfulNumbers }
+    ensures answer { IfSome result (λ answer.
+        Answers (outcome_answer room (outcome_of command text.now)) answer) }
+    ensures refused { IfSome result (λ answer. answer.status ≡ OK → ⊥) }
+{
+    match command {
+        Some(Command::Make(work)) => short_of_images(alloc, text, work, room),
+        _ => None,
+    }
 }
 
 /// What a command writes for a text, on an array with as many bits a pixel as it needs.
@@ -90,7 +113,7 @@ fn output_on<const N: usize>(
 }
 
 /// The answer where a command does not do its work.
-fn stopped(stop: Stop) -> Answer
+pub(crate) fn stopped(stop: Stop) -> Answer
     requires { IsCalm stop }
     ensures answer { result ≡ stop_answer stop }
     ensures refused { result.status ≡ OK → ⊥ }

@@ -17,5 +17,7 @@ pub use make::make_of_input;
 pub use play::play_input;
 pub use px_commands::{Status, needs_wide_pixels};
 pub use px_frame::deliver;
+pub use refine::finer_scene;
 pub use running::{perform, run};
 pub use theorem::law_of_render;
+pub use tile::wide_stop;

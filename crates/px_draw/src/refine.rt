@@ -29,12 +29,12 @@ pub(crate) fn make_refined<O: Sink, A: Operating>(
     ensures array { Draws (status_in result) A.BITS (fine_scene (doublings fineness) scene.now)
         (A.view array.old) (A.view array.new) }
 {
-    let fine = finer(alloc, scene, fineness.doublings())?;
+    let fine = finer_scene(alloc, scene, fineness.doublings())?;
     make_images(alloc, &fine, &[Plane::Means(fineness)], out, array)
 }
 
-/// The finer scene.
-fn finer(alloc: Global, scene: &Scene, s: u32) -> Result<Scene, SceneStop>
+/// The finer scene, or why there is none.
+pub fn finer_scene(alloc: Global, scene: &Scene, s: u32) -> Result<Scene, SceneStop>
     requires { s ≤ 2 }
     ensures ok { IfOk result (λ fine.
         (fine_refusal s scene.now ≡ None) × (fine ≡ fine_scene s scene.now)) }

@@ -53,11 +53,11 @@ fn find_pixels<A: Operating>(
     ensures array { IfErr result (λ stop. DrawsTiles (status_of (stopped stop)) A.BITS size scene.now
         (A.view array.old) (A.view array.new)) }
 {
-    render_tiles(alloc, scene, size.width, size.height, array).map_err(stop_of)
+    render_tiles(alloc, scene, size.width, size.height, array).map_err(wide_stop)
 }
 
 /// Why a wide picture is not drawn.
-fn stop_of(fault: WideFault) -> SceneStop
+pub fn wide_stop(fault: WideFault) -> SceneStop
     ensures { result ≡ stop_at (wide_fault_refusal fault) }
 {
     match fault {

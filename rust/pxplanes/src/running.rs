@@ -1,7 +1,8 @@
 use crate::error::{ended, Result};
 use pxplanes_sys as sys;
 
-/// Room that is enough for what most commands write.
+/// Room that is enough for what most commands write. A longer image is drawn once all the same, since `NO_ROOM` is answered before it is
+/// drawn; a longer text is made twice.
 const ROOM: usize = 1 << 21;
 
 /// What the program writes for the words of a command, as `tidy` or `tile 600 400`, with a text as its standard input.

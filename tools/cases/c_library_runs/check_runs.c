@@ -26,7 +26,7 @@ struct run {
     uint32_t status;
 };
 
-static size_t of_status[PXPLANES_LIMIT + 1], sizes;
+static size_t of_status[PXPLANES_LIMIT + 1], sizes, early;
 
 /* The most bytes that a run may ask for at once: of its text as many as are read, 160 each; its output, while it grows; and two
  * arrays with their slots, which have 75 rows of 32 KiB and a tree of 128 KiB, five times, for 512 by 512 pixels. */
@@ -77,6 +77,19 @@ static void compare_found(const struct run *run, uint32_t status, struct pxplane
         differs(run->name, "status %u finds what does not apply", (unsigned) status);
 }
 
+static void tried(const struct run *run, size_t len, long refuse);
+
+/* With a byte too little an image is refused before an array is opened: no more is asked for at once than reading and planning take.
+ * That of a large picture asked for more when it was drawn, as `most` still says. */
+static void compare_early(const struct run *run)
+{
+    size_t drawn = most, due = 160 * run->text.len + (640 << 10);
+    tried(run, run->output.len - 1, 0);
+    if (most > due)
+        differs(run->name, "%zu bytes are wanted at once to refuse it", most);
+    early += drawn > due;
+}
+
 /* The size of an image, which pxplanes_maps_size gives before the work, is that of the output. */
 static void compare_size(const struct run *run)
 {
@@ -98,6 +111,8 @@ static void compare_size(const struct run *run)
     sizes++;
     if (size != run->output.len)
         differs(run->name, "its size is %llu before the work", (unsigned long long) size);
+    if (strcmp(words, "shadow") != 0)
+        compare_early(run);
 }
 
 /* One run, into a buffer of so many bytes. */
@@ -191,7 +206,8 @@ int main(int words, char **word)
             return 2;
         pthread_join(thread, NULL);
     }
-    printf("%s sizes, %s done, %s usage, %s malformed, %s limits, %s calls, %ld differences\n", sizes > 60 ? "many" : "few", of_status[PXPLANES_OK] > 100 ? "many" : "few",
+    printf("%s sizes, %s early, %s done, %s usage, %s malformed, %s limits, %s calls, %ld differences\n", sizes > 60 ? "many" : "few", early > 5 ? "many" : "few",
+           of_status[PXPLANES_OK] > 100 ? "many" : "few",
            of_status[PXPLANES_USAGE] > 15 ? "many" : "few", of_status[PXPLANES_MALFORMED] > 60 ? "many" : "few",
            of_status[PXPLANES_LIMIT] > 40 ? "many" : "few", atomic_load(&calls) > 10 * (long) count ? "many" : "few",
            atomic_load(&differences));

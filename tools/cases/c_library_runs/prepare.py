@@ -48,6 +48,9 @@ def others(folder):
     for number, words in enumerate(([b"render"], [b"tidy"], [b"shadow"], [b"play"], [b"refine", b"4"], [b"tile", b"9", b"9"], [b"list"])):
         yield put(folder, "own_long_%d" % number, b" ".join(words), LONG, answer(words, LONG))
         yield put(folder, "own_nothing_%d" % number, b" ".join(words), b"", answer(words, b""))
+    for side, words in ((512, []), (512, [b"colour"]), (256, [b"refine", b"2"]), (128, [b"refine", b"4"]), (512, [b"tile", b"1024", b"512"])):
+        large = FIRST.replace(b"picture 48 32", b"picture %d %d" % (side, side))
+        yield put(folder, "own_large_%s" % b"_".join(words or [b"render"]).decode(), b" ".join(words), large, answer(words, large))
 
 
 with open(os.path.join(sys.argv[1], "list"), "w") as file:
