@@ -115,6 +115,7 @@ impl<'s> Job<'s> {
     }
 
     /// Makes the clocks that are left: the keys that the array then stores are the picture.
+    #[tactic(auto, using(crate::proofs::PlaceLemmas::clocks_at, px_array::proofs::WorkLaws::still_once))]
     pub fn finish<A: Operating>(&mut self, array: &mut A)
         requires at { IsAt A.BITS self.old.scene self.old.place.clock (A.view array.old).device }
         ensures scene { self.new.scene ≡ self.old.scene }

@@ -20,6 +20,7 @@ pub fn law_of_pictures()
 
 /// An array on which a scene's broadcasts are made is open, and has a pixel for each one of the
 /// picture; its grid is the one that `Scene::grid` gives.
+#[tactic(auto, using(px_model::proofs::GridLaws::exponent_is))]
 pub fn law_of_grids()
     ensures covers { GridLaw }
     ensures least { LeastGridLaw }

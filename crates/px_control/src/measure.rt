@@ -34,6 +34,7 @@ impl Measure {
     }
 
     /// The operations of a step, but for those of its edges.
+    #[tactic(auto, using(crate::proofs::CostLemmas::operation_lawful))]
     pub(crate) fn of_step(self, scene: &Scene, layout: &Layout, step: Step) -> u64
         requires layout { layout.now ≡ layout_of scene.now }
         requires step { IsStep scene.now step }

@@ -116,6 +116,7 @@ impl<'s> Program<'s> {
     }
 
     /// Goes past the micros of the operation that runs, up to one of them.
+    #[tactic(auto, using(crate::proofs::PlaceLemmas::here_of))]
     pub(crate) fn go_on(&self, place: &mut Place, m: &Macro, cycles: u32, to: u32)
         requires stands { StandsFor self.now place.old }
         requires here { place.old.current ≡ Some m.now }
@@ -185,6 +186,7 @@ impl<'s> Program<'s> {
 
     /// Makes the broadcasts of the operation at a place up to a clock, or all that it has left, and
     /// answers the place behind them.
+    #[tactic(auto, using(crate::proofs::RunLemmas::grid_at, crate::proofs::PlaceLemmas::here_of, crate::proofs::RunLemmas::cycles_are, crate::proofs::PlaceLemmas::clocks_at, crate::proofs::PlaceLemmas::at_end))]
     pub(crate) fn run_on<A: Array>(&self, place: &Place, array: &mut A, end: u64) -> Place
         requires stands { StandsFor self.now place.now }
         requires before { place.now.clock < end }

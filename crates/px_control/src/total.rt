@@ -23,6 +23,7 @@ use px_sched::{Layout, Literal, literals};
 /// The plan is the scene's own, of at most `MAX_PRODUCTS` products. Of each kind of step one is walked,
 /// and the literals of the products are counted, each once: the faces of a solid cost alike. Takes no
 /// memory.
+#[tactic(auto, using(px_sched::proofs::DrawnLaws::kept_drawn))]
 pub fn cost(scene: &Scene, plan: &Plan, layout: &Layout) -> (u64, u64)
     requires products { plan.now.products.items ≡ plan_of scene.now }
     requires few { length (plan_of scene.now) ≤ MAX_PRODUCTS }
@@ -38,6 +39,7 @@ pub fn cost(scene: &Scene, plan: &Plan, layout: &Layout) -> (u64, u64)
 
 /// A scene of at most `MAX_PRODUCTS` kept products takes less than `2^43` clocks, and every scene at least one for
 /// each of its operations.
+#[tactic(auto, using(crate::proofs::BoundLemmas::few_clocks, crate::proofs::BoundLemmas::some_clocks))]
 pub fn law_of_clocks()
     ensures bound { ClockBound }
     ensures some { EachTakesAClock }

@@ -55,6 +55,7 @@ impl ExprBuilder {
     }
 
     /// The number of waiting subtrees.
+    #[tactic(auto, using(crate::proofs::WaitingLemmas::counts))]
     pub fn waiting(&self) -> usize
         ensures { result ≡ length self.now }
     {
@@ -82,6 +83,7 @@ impl ExprBuilder {
     }
 
     /// The last two waiting subtrees become one.
+    #[tactic(auto, using(crate::proofs::WaitingLemmas::counts, px_num::proofs::Basics::length))]
     pub fn join(&mut self, op: Op) -> Result<(), ExprFault>
         requires { 2 ≤ length self.old }
         ensures ok { OnOk result (self.new ≡ joined join op self.old) }
@@ -118,6 +120,7 @@ impl ExprBuilder {
     }
 
     /// The nesting of what the last two would become.
+    #[tactic(auto, using(crate::proofs::WaitingLemmas::nesting_most, crate::proofs::WaitingLemmas::counts))]
     fn joined_nesting(&self) -> u8
         requires { 2 ≤ length self.now }
         ensures nesting { (op : AnyOp) → result ≡ nesting (newest (joined join op self.now)) }

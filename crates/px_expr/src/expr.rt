@@ -40,6 +40,7 @@ impl Model for Expr {
 
 impl Expr {
     /// The nodes in postorder: each stands behind its sides, and the last is the root.
+    #[tactic(auto, using(crate::proofs::PostorderLemmas::tree_of_nodes, crate::proofs::PostorderLemmas::can_place, crate::proofs::PostorderLemmas::leaves_below))]
     pub fn nodes(&self) -> &[Node]
         ensures nodes { result.now ≡ nodes_of self.now }
         ensures tree { trees_after result.now ≡ self.now ∷ [] }
@@ -65,6 +66,7 @@ impl Expr {
     }
 
     /// Whether a cell is a member, by a truth value for each solid: whether the cell is inside it.
+    #[tactic(auto, using(crate::proofs::StackLaws::values_length, crate::proofs::StackLaws::values_more, crate::proofs::StackLaws::values_last))]
     pub fn holds(&self, inside: &[bool]) -> bool
         requires { HasLeavesBelow (length inside.now) self.now }
         ensures { result ≡ is_member (is_true inside.now) self.now }

@@ -248,6 +248,7 @@ fn constant_over(plane: &Linear, pixels: Pixels) -> i64
 }
 
 /// How many finer pixels stand along each side of a pixel.
+#[tactic(auto, using(px_num::proofs::Basics::pow_mono))]
 fn parts(s: u32) -> u32
     requires { s ≤ 2 }
     ensures value { result ≡ 2 ^ s }

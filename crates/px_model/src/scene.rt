@@ -154,6 +154,7 @@ impl Scene {
     }
 
     /// The value of the far limit, below `2^MAX_DEPTH_BITS`.
+    #[tactic(auto, using(crate::proofs::CellLaws::end_is_within))]
     pub fn end(&self) -> u32
         ensures value { result ≡ end_of (depths_of self.now) }
         ensures small { result < 2 ^ MAX_DEPTH_BITS }

@@ -131,8 +131,7 @@ below_empty count solid lt in_empty = grind (arith, has-empty)
 
 below_both : (count : ℕ) (p q : Product) → HasSolidsBelow count p → HasSolidsBelow count q
     → HasSolidsBelow count (both p q)
-below_both count p q first second =
-    (below_joined count p.plain q.plain first.0 second.0, below_joined count p.barred q.barred first.1 second.1)
+below_both count p q first second = search (below_joined)
 
 record AllBelow (count : ℕ) (x : Forms) : Type 0 where
   products : All (HasSolidsBelow count) x.products

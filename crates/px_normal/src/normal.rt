@@ -71,12 +71,14 @@ fn products_of(
 
 /// The laws of live products: how a list is made of its sides' live lists, what live products have
 /// and show at a place, and that without a `^` no wanted list is longer than the whole sum.
+#[tactic(auto, using(crate::proofs::ShorterLemmas::all_shorter, crate::proofs::ShorterLemmas::never_crowded))]
 pub fn laws_of_live_products()
     ensures live { (boxes : ℕ → Option AnyBox) → LiveLaw boxes }
     ensures crowd { (boxes : ℕ → Option AnyBox) → CrowdLaw boxes }
 {}
 
 /// What is known of the products of an expression, and of the live ones.
+#[tactic(auto, using(crate::proofs::ShorterLemmas::all_shorter, crate::proofs::ShorterLemmas::never_crowded))]
 fn law_of_products(expr: &Expr, boxes: &[Option<CellBox>])
     ensures law { (solid_at : ℕ → Cell) →
         IsNormalForm solid_at (forms expr.now) (cell solid_at expr.now) }
@@ -91,6 +93,7 @@ fn law_of_products(expr: &Expr, boxes: &[Option<CellBox>])
 }
 
 /// What is known of the products of every tree over at most 256 solids.
+#[tactic(auto, using(crate::proofs::NormalLemmas::all_plain))]
 pub fn laws_of_normal_forms()
     ensures law { (tree : Tree) → HasLeavesBelow 256 tree → (solid_at : ℕ → Cell) →
         IsNormalForm solid_at (forms tree) (cell solid_at tree) }

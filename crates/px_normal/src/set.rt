@@ -42,6 +42,7 @@ impl SolidSet {
     }
 
     /// Whether a solid is in both sets.
+    #[tactic(auto, using(crate::proofs::MeetsLaws::meets_is))]
     pub fn meets(&self, other: &SolidSet) -> bool
         ensures { result ≡ list_any (has other.now) (solids self.now) }
     {
@@ -82,6 +83,7 @@ impl SolidSet {
     }
 
     /// One more than the greatest solid of the set, or 0.
+    #[tactic(auto, using(crate::proofs::EndLemmas::none_past))]
     fn end(&self) -> usize
         ensures most { result ≤ 256 }
         ensures past { (q : ℕ) → q < 256 → result ≤ q → has self.now q ≡ false }
@@ -140,6 +142,7 @@ fn has_bit(word: u64) -> bool
 }
 
 /// The laws of sets, for whoever reasons of several of them: how a test goes over their solids.
+#[tactic(auto, using(crate::proofs::SolidsLaws::solids_laws))]
 pub fn laws_of_sets()
     ensures { LawsOfSets }
 {}

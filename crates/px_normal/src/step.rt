@@ -81,6 +81,7 @@ impl Wanted {
 ///
 /// The nodes are read from the root on: of it the products are wanted, and each says what is
 /// wanted of its sides.
+#[tactic(auto, using(crate::proofs::BuildingLemmas::walked_all))]
 pub(crate) fn steps(alloc: Global, expr: &Expr) -> Result<Vec<Step>, Memory>
     ensures { IfOk result (λ steps. reverse steps.items ≡ steps_of of_root expr.now) }
 {

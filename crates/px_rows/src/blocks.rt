@@ -43,6 +43,7 @@ pub fn step_block(carry: &mut [u64], value: u64x8, step: u64, at: usize) -> u64x
 }
 
 #[inline(always)]
+#[tactic(auto, using(crate::proofs::WordLemmas::summed_lane))]
 fn summed_lanes(a: u64x8, b: u64x8, c: u64x8) -> u64x8
     ensures { (i : ℕ) → i < 8 →
         IsSummed (slice_index result i) (slice_index a i) (slice_index b i) (slice_index c i) }

@@ -24,6 +24,7 @@ pub fn bit_of_all(k: i64, t: usize) -> u64
 
 /// The next bit of the sums, of which all three numbers are given bit by bit.
 #[inline(always)]
+#[tactic(auto, using(crate::proofs::LaneLemmas::sum_in_lane))]
 pub fn added_bit(carries: &mut Carries, a: u64, b: u64, c: u64) -> u64
     ensures bit { (j t : ℕ) (u v n : ℤ) → j < 64 → nat_bit a j ≡ bit_of u t → nat_bit b j ≡ bit_of v t
         → nat_bit c j ≡ bit_of n t → HasCarries carries.old j u v n t

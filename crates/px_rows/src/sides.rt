@@ -67,6 +67,7 @@ fn signs_in_column(slope: i64, base: i64) -> u64
 }
 
 /// How many multiples of a slope, from the one by 0 on, are at most so great, of 64.
+#[tactic(auto, using(crate::proofs::SignLemmas::steps_are))]
 fn steps_to(most: i64, slope: i64) -> usize
     requires most { pos 0 ≤ℤ most }
     requires slope { IsWithin (2 ^ 27) slope }

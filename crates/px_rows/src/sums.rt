@@ -83,6 +83,7 @@ fn add_blocks(
 }
 
 /// Adds such a value to the words of a row from `at` on, as many as the carries have (`add_steps_row`).
+#[tactic(auto, using(crate::proofs::PartLemmas::bit_in_part))]
 pub fn add_steps_part(
     row: &mut [u64],
     at: usize,

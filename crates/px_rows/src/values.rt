@@ -82,6 +82,7 @@ pub fn offset_of(form: &Linear, ny: u32, j: u32) -> i64
 }
 
 /// The value at the first pixel of word `w`.
+#[tactic(auto, using(px_num::proofs::Basics::pow_below))]
 pub fn base_of(form: &Linear, ny: u32, w: usize) -> i64
     requires range { IsInTreeRange form.now }
     requires rows { ny ≤ 9 }

@@ -7,6 +7,7 @@ ghost use Rattle.px_rows.specs.Rows.{HasAll};
 
 /// A word of which every bit is `v`.
 #[inline(always)]
+#[tactic(auto, using(crate::proofs::WordLemmas::all_ones))]
 pub fn all_of(v: bool) -> u64
     ensures { HasAll result v }
 {

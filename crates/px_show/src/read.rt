@@ -52,6 +52,7 @@ pub trait Drafting: Drop {
 
 /// Reads a text from the draft that stands before its first line: what it says, or its first bad line,
 /// otherwise the missing end, at the last line.
+#[tactic(auto, using(px_text::proofs::LineLaws::worded_is))]
 pub fn read_text<D: Drafting>(
     alloc: Global,
     text: &[u8],

@@ -63,6 +63,7 @@ fn lack_in(fault: ExprFault) -> Memory
 }
 
 /// The expression that steps build.
+#[tactic(auto, using(crate::proofs::StepLemmas::can_join, px_num::proofs::Basics::take_all, crate::proofs::StepLemmas::build_tree, crate::proofs::StepLemmas::room_for_leaf, crate::proofs::StepLemmas::room_for_join))]
 fn build(alloc: Global, steps: &[Step]) -> Result<Expr, ExprFault>
     requires { (tree : Tree) × (steps.now ≡ tree_steps tree) }
     ensures tree { (tree : Tree) → steps.now ≡ tree_steps tree → IfOk result (λ e. e ≡ tree) }
@@ -80,6 +81,7 @@ fn build(alloc: Global, steps: &[Step]) -> Result<Expr, ExprFault>
 }
 
 /// What is written as an expression is read as it, and what is read was written so.
+#[tactic(auto, using(crate::proofs::ExpressionLemmas::reads))]
 pub fn expression_law()
     ensures read { (tree : Named) → has_names tree ≡ true →
         expression_of (written tree) ≡ Some tree }
@@ -88,6 +90,7 @@ pub fn expression_law()
 {}
 
 /// What is printed of an expression is read as it, where the version has all of its signs.
+#[tactic(auto, using(crate::proofs::PrintedLaws::printed_tokens, crate::proofs::PrintedLaws::printed_tree, crate::proofs::PrintedLaws::printed_good))]
 pub fn printed_law()
     ensures tokens { (version : AnyVersion) (tree : Named) →
         has_names tree ≡ true → has_signs version tree ≡ true →

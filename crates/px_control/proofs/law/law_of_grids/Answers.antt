@@ -5,6 +5,3 @@ use Rattle.px_control.proofs.law.law_of_grids.Goals as goal
 
 pub returns-clause-covers : goal.returns-clause-covers
 returns-clause-covers c = covers_the_picture
-
-pub returns-clause-least : goal.returns-clause-least
-returns-clause-least c scene lawful = grind (arith, exponent_is)

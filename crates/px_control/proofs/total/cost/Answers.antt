@@ -4,9 +4,6 @@ use Rattle.px_sched.proofs.DrawnLaws.{kept_drawn}
 use Rattle.px_control.proofs.CostLemmas.{passes_come_to, total_is}
 use Rattle.px_control.proofs.total.cost.Goals as goal
 
-pub products_cost-requires-clause-known : goal.products_cost-requires-clause-known
-products_cost-requires-clause-known c = grind (arith, kept_drawn)
-
 pub returns-clause-macros : goal.returns-clause-macros
 returns-clause-macros c =
     let scene = c.args.scene.now in

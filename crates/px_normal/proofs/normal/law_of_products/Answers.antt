@@ -7,9 +7,6 @@ use Rattle.px_normal.proofs.normal.law_of_products.Goals as goal
 pub returns-clause-live : goal.returns-clause-live
 returns-clause-live c = record { sides = live_sides _; places = live_places _ }
 
-pub returns-clause-crowd : goal.returns-clause-crowd
-returns-clause-crowd c = record { shorter = all_shorter _; none = never_crowded _ }
-
 pub returns-clause-plain : goal.returns-clause-plain
 returns-clause-plain c = All-filter _ HasPlain _ (c.laws_of_normal_forms.ensures.plain _ c.nodes.ensures.lawful.solids)
 

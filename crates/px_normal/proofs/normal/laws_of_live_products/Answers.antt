@@ -4,6 +4,3 @@ use Rattle.px_normal.proofs.normal.laws_of_live_products.Goals as goal
 
 pub returns-clause-live : goal.returns-clause-live
 returns-clause-live c boxes = record { sides = live_sides boxes; places = live_places boxes }
-
-pub returns-clause-crowd : goal.returns-clause-crowd
-returns-clause-crowd c boxes = record { shorter = all_shorter boxes; none = never_crowded boxes }

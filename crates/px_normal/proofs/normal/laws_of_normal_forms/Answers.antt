@@ -4,8 +4,5 @@ use Rattle.px_normal.proofs.normal.laws_of_normal_forms.Goals as goal
 pub returns-clause-law : goal.returns-clause-law
 returns-clause-law c tree below solid_at = is_normal_form solid_at tree below
 
-pub returns-clause-plain : goal.returns-clause-plain
-returns-clause-plain c = all_plain
-
 pub returns-clause-known : goal.returns-clause-known
 returns-clause-known c = all_below

@@ -3,9 +3,6 @@ use Rattle.px_num.specs.Bits.{bit_of, nat_bit}
 use Rattle.px_rows.proofs.LaneLemmas.{sum_in_lane}
 use Rattle.px_rows.proofs.carries.added_bit.Goals as goal
 
-pub returns-clause-bit : goal.returns-clause-bit
-returns-clause-bit c j t u v n small first second third held = grind (arith, bit_xor, sum_in_lane)
-
 pub returns-clause-carries : goal.returns-clause-carries
 returns-clause-carries c j t u v n small first second third held =
     let carries = c.args.carries.now in

@@ -6,6 +6,3 @@ returns-then-v c = record {
   here = rw c.if-v.true (ap (λ b. b == 1) (bit_at_set_same w64 c.args.word c.args.j c.requires));
   beside = λ i other. ap (λ b. b == 1) (bit_at_set_other w64 c.args.word c.args.j c.requires i other);
 }
-
-pub returns-else-v-clause-here : goal.returns-else-v-clause-here
-returns-else-v-clause-here c = rw c.if-v.false

@@ -5,6 +5,3 @@ use Rattle.px_rows.proofs.sums.add_steps_part.Goals as goal
 pub returns-clause-inside : goal.returns-clause-inside
 returns-clause-inside c p small =
     grind (arith, bit_in_put, bit_in_part)
-
-pub returns-clause-second : goal.returns-clause-second
-returns-clause-second c p small = grind (arith, bit_in_part)

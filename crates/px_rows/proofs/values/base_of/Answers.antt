@@ -12,9 +12,6 @@ column_of place m n inside = grind arith
 pub value-requires-clause-x : goal.value-requires-clause-x
 value-requires-clause-x c = grind (arith, pow-add, column_of, height)
 
-pub value-requires-clause-y : goal.value-requires-clause-y
-value-requires-clause-y c = grind (arith, pow_below, one-le-pow, height)
-
 pub returns-clause-size : goal.returns-clause-size
 returns-clause-size c =
     let split : 2 ^ (9 + c.args.ny) ≡ 512 * 2 ^ c.args.ny = pow-add 2 9 c.args.ny in

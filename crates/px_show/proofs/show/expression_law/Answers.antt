@@ -3,8 +3,5 @@ use Rattle.px_show.specs.Expressions.{whole}
 use Rattle.px_show.proofs.ExpressionLemmas.{reads, was_written}
 use Rattle.px_show.proofs.show.expression_law.Goals as goal
 
-pub returns-clause-read : goal.returns-clause-read
-returns-clause-read c tree names = ap whole (reads tree [] names)
-
 pub returns-clause-written : goal.returns-clause-written
 returns-clause-written c = was_written

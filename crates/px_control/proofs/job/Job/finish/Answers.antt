@@ -13,6 +13,3 @@ returns-clause-picture g c =
     let end : c.advance.new.self.place.clock ≡ total scene = grind arith in
     c.law_of_pictures.ensures g.A.Array.BITS scene device can.lawful can.solids
     (subst (λ n. IsAt g.A.Array.BITS scene n device) end made.at)
-
-pub returns-clause-once : goal.returns-clause-once
-returns-clause-once g c = grind (arith, clocks_at, still_once)

@@ -3,8 +3,5 @@ use Rattle.std.proofs.Math.Seq.{take-length}
 use Rattle.px_control.proofs.CostLemmas.{counted_bare, operation_lawful}
 use Rattle.px_control.proofs.measure.Measure.of_step.Goals as goal
 
-pub but_edges-sum-requires : goal.but_edges-sum-requires
-but_edges-sum-requires c = grind (arith, operation_lawful)
-
 pub returns-clause-worth : goal.returns-clause-worth
 returns-clause-worth c = grind (arith, nat_tests, common_steps, take-length, counted_bare)

@@ -2,9 +2,6 @@ use Rattle.px_num.proofs.Basics.{arith}
 use Rattle.px_control.proofs.PlaceLemmas.{here_of, stands_next}
 use Rattle.px_control.proofs.program.Program.go_on.Goals as goal
 
-pub overflow_add-place : goal.overflow_add-place
-overflow_add-place c = grind (arith, here_of)
-
 pub returns-else-to-cycles-clause-stands : goal.returns-else-to-cycles-clause-stands
 returns-else-to-cycles-clause-stands c =
     let good = c.laws.ensures.good

@@ -4,12 +4,6 @@ use Rattle.px_expr.proofs.PostorderLemmas.{placed_op}
 use Rattle.px_expr.proofs.WaitingLemmas.{counts, kept_joined, after_push, same_kept}
 use Rattle.px_expr.proofs.builder.ExprBuilder.join.Goals as goal
 
-pub take_two-requires : goal.take_two-requires
-take_two-requires c = omega (arith, (counts _ _ _ c.self.invariant).subtrees, ap length c.self.view_is)
-
-pub put-requires-clause-few : goal.put-requires-clause-few
-put-requires-clause-few c = grind (arith, counts)
-
 pub invariant_of-self-2 : goal.invariant_of-self-2
 invariant_of-self-2 c =
     same_kept _ _ _ _ _ _

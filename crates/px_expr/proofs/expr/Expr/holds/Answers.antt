@@ -2,18 +2,6 @@ use Rattle.px_num.proofs.Basics.{nat_tests, common_steps, arith, length-reverse}
 use Rattle.px_expr.proofs.StackLaws.{values_more, values_last, values_length, value_popped}
 use Rattle.px_expr.proofs.expr.Expr.holds.Goals as goal
 
-pub place-requires-clause-place : goal.place-requires-clause-place
-place-requires-clause-place c = grind (arith, values_length)
-
 pub place-requires-clause-leaf : goal.place-requires-clause-leaf
 place-requires-clause-leaf c =
     rw c.shape.ensures (c.nodes-node-items.ensures.leaves _ c.requires _ _ c.loop-node-test.true)
-
-pub loop-node-preserved : goal.loop-node-preserved
-loop-node-preserved c = grind (arith, nat_tests, common_steps, values_more)
-
-pub unwrap-requires : goal.unwrap-requires
-unwrap-requires c = grind (arith, values_last, length-reverse)
-
-pub returns : goal.returns
-returns c = grind (arith, values_last, value_popped)

@@ -10,17 +10,8 @@ nodes_are c = c.as_slice.ensures.value ∙ c.self.invariant.0 ∙ ap nodes_of c.
 lawful : (c : goal.After-as_slice) → IsLawfulTree c.args.self.now
 lawful c = rw c.self.view_is at c.self.invariant.1
 
-pub returns-clause-tree : goal.returns-clause-tree
-returns-clause-tree c = rw (nodes_are c) (tree_of_nodes _)
-
 pub returns-clause-few : goal.returns-clause-few
 returns-clause-few c = grind (arith, nodes_are, lawful, size_leaves, length-nodes_behind)
-
-pub returns-clause-places : goal.returns-clause-places
-returns-clause-places c = rw (nodes_are c) (λ i any lt. can_place _ i any (lawful c).depth lt)
-
-pub returns-clause-leaves : goal.returns-clause-leaves
-returns-clause-leaves c = rw (nodes_are c) (λ count. leaves_below 0 count _)
 
 pub returns-clause-before : goal.returns-clause-before
 returns-clause-before c =
