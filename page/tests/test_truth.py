@@ -293,8 +293,9 @@ def test_a_cure_is_an_action(page: Browser, first: str) -> None:
 def test_a_refusal_has_its_place_and_at_most_one_change(page: Browser, typed: str, marked: str, says: str, action: str | None) -> None:
     """There is an action only if exactly one word is near that the library takes there: `gont` is two keys from `front`, `xyznt` three."""
     choose(page, "front 0 0 320")
-    assert written(page, typed) == "refused"
-    assert page.run("[...document.querySelectorAll('.wrong')].map(each => each.textContent).join('')") == marked
+    # (the text before may still be drawn on a busy machine)
+    written(page, typed)
+    page.until("document.body.dataset.drawn === 'refused' && [...document.querySelectorAll('.wrong')].map(each => each.textContent).join('') === %r" % marked)
     assert text_of(page, "#verdict .note").startswith(("malformed line 18: ", "limit line 18: "))
     assert says in text_of(page, "#verdict")
     assert page.run("document.querySelector('.cure button')?.textContent ?? null") == action
