@@ -125,6 +125,8 @@ export class Machine {
   /** Makes the states before a clock, so that going back finds them. */
   prepare(clock: Whole): void;
   micros(first: Whole, count: Whole): Micro[];
+  /** The state after a clock, made of one before it and not kept; its words are new ones, or written over those of `into`. */
+  after(known: State, clock: Whole, into?: Uint32Array | null): State;
 }
 
 /** A face: its solid and line, from 1 on; which front or back of the solid it is, from 1 on; red, green and blue. */
@@ -164,7 +166,7 @@ export class Library {
   /** What the program writes for a command's words, as "tidy" or "tile 600 400", with the text as its standard input. */
   run(text: Text, words?: Text): Uint8Array;
   /** The words of the state after some microinstructions, as `packed` gives them or your own. */
-  clocks(state: Pick<State, "words" | "width" | "height">, packed: BigUint64Array): Uint32Array;
+  clocks(state: Pick<State, "words" | "width" | "height">, packed: BigUint64Array, into?: Uint32Array | null): Uint32Array;
   /** `starts` are the clocks of all of `course`; with them a machine makes clocks of the states that it keeps. */
   machine(text: Text, starts?: readonly number[] | null): Machine;
 }

@@ -20,7 +20,7 @@ const FACES = ["near", "front", "back"];
 const ROLES = [null, "start", "open", "candidate", "drop", "clear", "front", "confirm", "begin", "turn", "close", "merge"];
 // A machine keeps so many states, and goes on from one that is so many clocks before at most; farther, a state of the text is faster. It
 // makes so many states ready to go back to.
-const LATEST = 1000, KEPT_BYTES = 1 << 27, NEAR = 128, READY = 24, STRETCH = 4096;
+const LATEST = 1000, KEPT_BYTES = 1 << 25, NEAR = 128, READY = 24, STRETCH = 4096;
 
 // Why a text is refused, or a call not answered: `status` is the program's, `line` the first bad line, `cause` or `kind` the word of
 // why, `number` what was found there, and `clocks` or `operations` how many there are, where one past the last was asked.
@@ -66,8 +66,9 @@ function kindOf(value) {
   return `of type ${arrayKind(value) ?? (typeof value === "object" ? Object.prototype.toString.call(value).slice(8, -1) : typeof value)}`;
 }
 
-// The name of a typed array's kind, whatever the array says of itself; undefined for another value.
-const ARRAY_KIND = Object.getOwnPropertyDescriptor(Object.getPrototypeOf(Uint8Array.prototype), Symbol.toStringTag).get;
+// What a typed array is, whatever it says of itself: the name of its kind, or undefined for another value, and where its elements are.
+const [ARRAY_KIND, BUFFER, OFFSET, LENGTH] = [Symbol.toStringTag, "buffer", "byteOffset", "length"].map(name =>
+  Object.getOwnPropertyDescriptor(Object.getPrototypeOf(Uint8Array.prototype), name).get);
 const arrayKind = value => ARRAY_KIND.call(value);
 
 const isBuffer = value => ["[object ArrayBuffer]", "[object SharedArrayBuffer]"].includes(Object.prototype.toString.call(value));
@@ -80,10 +81,10 @@ function bytesOf(text, name = "text") {
   throw new TypeError(`${name} is ${kindOf(text)}; a string, an ArrayBuffer or a Uint8Array is expected`);
 }
 
-// The elements of an array of a kind, as they are now.
-function copyOf(Kind, value, name) {
+// The elements of an array of a kind, where they are.
+function elementsOf(Kind, value, name) {
   if (arrayKind(value) !== Kind.name) throw new TypeError(`${name} is ${kindOf(value)}; a ${Kind.name} is expected`);
-  return new Kind(value);
+  return new Kind(BUFFER.call(value), OFFSET.call(value), LENGTH.call(value));
 }
 
 // A whole number from 0 to `most`, given as a Number or a BigInt.
@@ -227,19 +228,25 @@ export class Library {
     }
   }
 
-  // The words of the state after some packed microinstructions, of a state or of what has its words, width and height.
-  clocks(state, packed) {
+  // The words of the state after some packed microinstructions, of a state or of what has its words, width and height: new ones, or written
+  // over those of `into`.
+  clocks(state, packed, into = null) {
     if (state === null || typeof state !== "object") throw new TypeError(`state is ${kindOf(state)}; a State is expected`);
-    const {pxplanes_clocks: call} = this.#calls, words = copyOf(Uint32Array, state.words, "state.words"), half = Math.floor(words.length / 2);
+    const {pxplanes_clocks: call} = this.#calls;
     const width = whole(state.width, "state.width", MOST_SIDE), height = whole(state.height, "state.height", MOST_SIDE);
-    const given = copyOf(BigUint64Array, packed, "packed");
+    // (nothing of the caller's runs between these and the call)
+    const words = elementsOf(Uint32Array, state.words, "state.words"), half = Math.floor(words.length / 2), given = elementsOf(BigUint64Array, packed, "packed");
+    const out = into === null ? null : elementsOf(Uint32Array, into, "into");
+    if (out && out.length !== words.length) throw new RangeError(`into has ${out.length} words; ${words.length} are expected`);
     if (!call) throw new Error("this module makes no clocks of a state");
     return this.#with([words.byteLength, given.byteLength, FOUND], ([room, micros, found]) => {
       this.#put(room, words);
       this.#put(micros, given);
       const status = call(BigInt(room), BigInt(half), width, height, BigInt(micros), BigInt(given.length), BigInt(found));
       if (status !== STATUS.ok) throw this.#refusal(status, this.#found(found));
-      return this.#copy(Uint32Array, room, words.byteLength);
+      if (!out) return this.#copy(Uint32Array, room, words.byteLength);
+      out.set(new Uint32Array(this.#calls.memory.buffer, room, words.length));
+      return into;
     });
   }
 
@@ -476,24 +483,29 @@ export class Machine {
     const made = whole(clock, "clock", this.clocks);
     if (!this.canStep || made < READY || this.kept.has(made - 1)) return;
     let known = this.#keep(this.#ofText(made - READY));
-    while (known.clock + 1 < made) known = this.#keep(this.#after(known, known.clock + 1));
+    while (known.clock + 1 < made) known = this.#keep(this.after(known, known.clock + 1));
   }
 
   // Goes on from a state that is near.
   #found(clock) {
     if (this.canStep && clock <= this.clocks)
       for (let near = clock - 1; near >= Math.max(0, clock - NEAR); near--)
-        if (this.kept.has(near)) return this.#after(this.kept.get(near), clock);
+        if (this.kept.has(near)) return this.after(this.kept.get(near), clock);
     return this.#ofText(clock);
   }
 
   #ofText(clock) { return this.library.state(this.text, clock, this.first.words.length / 2); }
 
-  #after(known, clock) {
-    const words = this.library.clocks(known, this.#broadcast(known.clock, clock - known.clock)), isEnd = clock === this.clocks;
-    const operation = isEnd ? this.starts.length : this.starts.filter(start => start <= clock).length - 1;
-    return new State({...this.first, clock, operation, operationClock: isEnd ? 0 : clock - this.starts[operation],
-      next: isEnd ? null : this.micros(clock, 1)[0]}, words);
+  // The state after a clock, made of one before it; it is not kept. Its words are new ones, or written over those of `into`.
+  after(known, clock, into = null) {
+    if (!(known instanceof State)) throw new TypeError(`known is ${kindOf(known)}; a State is expected`);
+    if (!this.canStep) throw new TypeError("this machine has no starts, or its module makes no clocks of a state");
+    const made = whole(clock, "clock", this.clocks), words = this.library.clocks(known, this.#broadcast(known.clock, made - known.clock), into), isEnd = made === this.clocks;
+    let {operation} = known;
+    while (this.starts[operation] <= made) operation += 1;
+    operation -= isEnd ? 0 : 1;
+    return new State({...this.first, clock: made, operation, operationClock: isEnd ? 0 : made - this.starts[operation],
+      next: isEnd ? null : this.micros(made, 1)[0]}, words);
   }
 
   // Keeps a state, and forgets the one that was used longest ago.

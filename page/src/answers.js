@@ -9,11 +9,11 @@ import {rayOf} from "./ray.js";
 import {refusalOf} from "./refusals.js";
 import {Life} from "./replay.js";
 import {isListing, readScene} from "./scene.js";
-import {fillBits, kept, onesOf} from "./state.js";
+import {changedPlanes, fillBits, kept, onesOf, planesIn} from "./state.js";
 
 const MOST_CLOCKS = 100, MOST_SMALL = 256, MOST_GROUPS = 200, MALFORMED = 3, LIMIT = 4, NO_CLOCK = 9, IDLE = 200;
 // `idle` makes ready what may be asked next, where nothing is asked for a moment; `lived` is the pixel whose life was asked last.
-let px = null, idle = null, lived = null;
+let px = null, idle = null, lived = null, moved = null;
 
 // (`check` throws where the library refuses the text)
 const sceneIn = kept(text => px.check(text) && readScene(text));
@@ -59,11 +59,30 @@ function courseOf(text) {
   return {operations, passes, clocks};
 }
 
-// The state after a clock: its words, and what comes next.
+// The state after a clock: its words, and what comes next. If `from` is the clock of another state, the words of the planes alone that are
+// others than there, and which these are.
 function state(text, words) {
-  const machine = machineIn(text), {next, words: own, ...fields} = machine.state(wholeNumber(words, "clock"));
-  idle = setTimeout(() => machine.prepare(words.clock), IDLE);
-  return {...fields, words: own.slice(), next: next && {...next}, micro: next && String(next)};
+  const machine = machineIn(text), clock = wholeNumber(words, "clock"), [before, made] = movedTo(text, machine, clock, words);
+  const {next, words: own, ...fields} = made, changed = changedPlanes(before, made, written(machine, words.from, clock));
+  idle = setTimeout(() => machine.prepare(clock), IDLE);
+  return {...fields, changed, words: changed ? planesIn(own, made.perPlane, changed) : own.slice(), next: next && {...next}, micro: next && String(next)};
+}
+
+// The state after the clock `from`, or null, and after another. Of a text that goes on, the words of the state before the last are written
+// over: `moved` has the last state, and these words if the machine does not keep them.
+function movedTo(text, machine, clock, words) {
+  const {from} = words, isNear = moved?.text === text && moved.state.clock === from && clock > from && clock - from <= MOST_CLOCKS;
+  const before = isNear ? moved.state : from === undefined ? null : machine.state(wholeNumber(words, "from"));
+  const made = isNear ? machine.after(before, clock, moved.spare) : machine.state(clock);
+  moved = {text, state: made, isOwn: isNear, spare: isNear && moved.isOwn ? before.words : null};
+  return [before, made];
+}
+
+// Whether a plane may be written between two clocks: an act writes no bit of memory that it does not name. (To compare all of them takes long.)
+function written(machine, from, clock) {
+  if (!(clock >= from && clock - from <= MOST_CLOCKS)) return () => true;
+  const named = new Set(machine.micros(from, clock - from).map(({place}) => place));
+  return plane => plane >= machine.first.bits || named.has(plane);
 }
 
 // Enable after the last clock, as an image, and in how many pixels it is 1.

@@ -6,10 +6,20 @@ export const KINDS = {start: "the background", candidate: "a candidate", against
   open: "a solid begins"};
 const NONE = {said: "", kind: "open", face: 0, literal: 0, solid: null}, LEAST = 32;
 
+// The last of some clocks, which rise, that is there or before; -1 if none is.
+function lastUntil(clocks, clock) {
+  let [place, end] = [-1, clocks.length];
+  while (end - place > 1) {
+    const middle = place + end >> 1;
+    if (clocks[middle] <= clock) place = middle; else end = middle;
+  }
+  return place;
+}
+
 export class Course {
   // The answer to `program`: of each operation its pass, line, words and first clock; and the words of each pass.
   constructor({operations, passes, clocks}) {
-    Object.assign(this, {operations, passes, clocks, passStarts: []});
+    Object.assign(this, {operations, passes, clocks, passStarts: [], starts: operations.map(([, , , clock]) => clock)});
     for (const [pass, , , clock] of operations) if (this.passStarts.length === pass) this.passStarts.push(clock);
     // The stretch of clocks that the time line shows.
     this.view = [0, clocks];
@@ -33,13 +43,13 @@ export class Course {
   }
 
   // The operation under way after so many clocks: the last that begins there or before.
-  operationAt(clock) { return this.operations.findLastIndex(([, , , start]) => start <= clock); }
+  operationAt(clock) { return lastUntil(this.starts, clock); }
 
   pass(number) { return this.passes[number] ?? NONE; }
 
-  passAt(clock) { return this.passStarts.findLastIndex(start => start <= clock); }
+  passAt(clock) { return lastUntil(this.passStarts, clock); }
 
-  startOf(operation) { return this.operations[operation]?.[3] ?? this.clocks; }
+  startOf(operation) { return this.starts[operation] ?? this.clocks; }
 
   startOfPass(pass) { return this.passStarts[pass] ?? this.clocks; }
 

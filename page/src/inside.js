@@ -22,7 +22,8 @@ export class Inside {
 
   choose(part) {
     this.part = part;
-    at("machine").dataset.inside = part;
+    // (a name of its own: body has data-inside, and the style's selectors of that name would be matched again at each state)
+    at("machine").dataset.part = part;
     this.mark(part);
     at("life-part").hidden = part !== "life";
     at("inside").hidden = part === "life";
@@ -35,13 +36,13 @@ export class Inside {
     if (!state || at("machine").hidden) return;
     write(at("pixel-name"), isIn ? pixel.join(", ") : "");
     if (!isIn) return this.fill([this.none]);
-    const found = formOf(course?.operations[state.operation]?.[1] ?? ""), used = usedBits(state, fields);
+    const used = usedBits(state, fields), isQuick = at("machine").classList.contains("quick"), formNow = () => formOf(course?.operations[state.operation]?.[1] ?? "");
     // (what is asked of the layout takes long, so it is asked only where a part needs it)
     const circuit = high => [circuitOf(state.next, state.pixel(...pixel), used, [at("inside").clientWidth - GAP, high])];
     const room = ({parentElement, offsetTop}) => parentElement.clientHeight - offsetTop + parentElement.offsetTop - GAP;
     // (a wide page has room for the circuit below the bits)
-    const shown = {bits: () => [...this.bits.of(state, before, fields, ...pixel), ...matchMedia("(min-width: 100rem)").matches ? circuit(0) : []], circuit: () => circuit(room(at("inside"))),
-      way: () => [wayOf(state, found?.form ?? null, found?.bits, pixel)], life: () => []};
+    const shown = {bits: () => [...this.bits.of(state, before, fields, ...pixel, isQuick), ...matchMedia("(min-width: 100rem)").matches ? circuit(0) : []], circuit: () => circuit(room(at("inside"))),
+      way: () => [wayOf(state, formNow(), pixel)], life: () => []};
     // (a waveform is asked for where nobody waits for the next state)
     if (part === "waveform") return player.isPlaying || this.fetchWave(...pixel);
     this.fill(shown[part]());

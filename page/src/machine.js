@@ -9,13 +9,15 @@ import {NAMES, formOf} from "./passes.js";
 import {Inside} from "./inside.js";
 import {Player} from "./play.js";
 import {Predict} from "./predict.js";
-import {Screen, at, made, passChip, set, write, writeLines} from "./show.js";
-import {changedPlanes, fieldsOf, isAnyOf, onesOf, viewsOf} from "./state.js";
+import {Lines, Screen, at, made, passChip, set, write} from "./show.js";
+import {fieldsOf, isAnyOf, onesOf, planesIn, putPlanes, viewsOf} from "./state.js";
 import {Strip} from "./strip.js";
 import {isShown, treeOf} from "./tree.js";
 import {Triangle} from "./triangle.js";
 import {Wall} from "./wall.js";
 
+// The marks of the time line move by so many pixels at once where it plays too fast to be read.
+const COARSE = 8;
 const GAP = 4, PICTURE = "best colours", FIRST_VIEW = "enable";
 
 export class Machine {
@@ -35,6 +37,7 @@ export class Machine {
     this.onPoint = this.onShow = () => {};
     // What it does with the text of a scene that was made here.
     this.onScene = () => {};
+    this.lines = new Lines(at("quick"));
     this.parts = new Inside(this);
     this.edges = new Edges(this.screens[0]);
     this.predict = new Predict(this, this.screens[0]);
@@ -44,6 +47,7 @@ export class Machine {
     at("view").addEventListener("change", () => this.choose(at("view").value, false));
     at("beside").addEventListener("change", () => this.choose(at("beside").value, true));
     at("clock").addEventListener("input", () => this.go(Number(at("clock").value)));
+    at("clock").addEventListener("keydown", () => { if (this.isShown) at("clock").value = this.state.clock; });
     at("until").addEventListener("change", () => this.until());
     at("until").addEventListener("keydown", event => {
       if (event.key === "Escape") at("until").value = this.wanted;
@@ -131,13 +135,11 @@ export class Machine {
   async take() {
     const text = this.text, clock = this.wanted, began = performance.now();
     if (!this.course) return;
-    const state = await this.stateAt(clock);
+    const before = this.stateOf === text ? this.state : null, {words, changed, ...fields} = await this.answerAt(clock, before?.clock);
     if (text !== this.text || !this.course) return;
-    this.before = this.stateOf === text ? this.state : null;
-    this.stateOf = text;
-    this.state = state;
-    // (what the move to this state changed; null if all is new)
-    this.changed = this.before && changedPlanes(this.before, state);
+    const state = new State(fields, changed ? this.moved(changed, words) : words);
+    // (`changed` is what the move to this state changed; null if all is new)
+    Object.assign(this, {before, state, changed, stateOf: text});
     at("machine").classList.remove("empty");
     at("machine").classList.toggle("old", !this.isCurrent());
     this.show();
@@ -157,7 +159,6 @@ export class Machine {
     this.paint(this.changed);
     if (isAnyOf(this.changed, this.planesOfFaces())) this.onShow();
     document.body.dataset.read = this.wall.show(state, this.changed);
-    this.strip.at(state.clock);
     this.showEdges();
     this.predict.offer(state);
     this.tellPlace();
@@ -172,15 +173,15 @@ export class Machine {
 
   // The numbers along the edges, while the tree makes their sums; a clear takes a clock, and each level of the tree one more.
   showEdges() {
-    const {state, course} = this, operation = course.operations[state.operation], found = operation ? formOf(operation[1]) : null;
+    const {state, course, edges: {isOn}} = this, operation = course.operations[state.operation], found = isOn && operation ? formOf(operation[1]) : null;
     const {width, height} = state, now = state.operationClock - 1 - state.levels;
     this.edges.show(found && {...found, width, height, now});
-    const isSaid = this.edges.isOn && found && this.pixel;
+    const isSaid = found && this.pixel;
     write(at("sum"), isSaid ? saidOf({...found, now}, this.pixel) : "");
     set(at("sum"), "hidden", !isSaid);
   }
 
-  // The clock, and what comes next, in words: on one canvas while they cannot be read.
+  // The clock on the time line and the slider, and what comes next, in words: as an image while they cannot be read.
   tellPlace() {
     const {state, course, player: {isQuick}, screens: [{said: ones}]} = this;
     at("machine").classList.toggle("quick", isQuick);
@@ -192,10 +193,8 @@ export class Machine {
       : `operation ${operation} (of 0 to ${count - 1}), next its clock ${state.operationClock} (of 0 to ${course.startOf(operation + 1) - first - 1})`;
     const own = isDone ? {line: "", words: this.head.layout ? "all is done: key B has the picture" : "all is done"} : {line, words};
     const micro = state.micro ?? "nothing", does = state.micro ? treeWords(state.micro) : "";
-    // (the slider is painted with the array, by whole pixels where it is quick; it stays under a hand that moved on)
-    if (this.isShown) at("clock").value = state.clock - state.clock % (isQuick && Math.ceil(state.clocks / innerWidth) || 1);
-    if (isQuick) return writeLines(at("quick"), [`clock ${state.clock}   ${ones}`, `pass ${pass + 1}: ${said}`, own.words,
-      `${own.line}   ${place}`, `next ${micro}   ${does}`]);
+    this.markClock(state.clock, isQuick);
+    if (isQuick) return this.lines.write([`clock ${state.clock}   operation ${operation} (of 0 to ${count - 1})   ${ones}`, `pass ${pass + 1}: ${said}`, own.words]);
     at("until").value = state.clock;
     write(at("count"), ones);
     if (this.told?.course !== course || this.told.pass !== pass)
@@ -204,6 +203,15 @@ export class Machine {
     this.told = {course, pass, words: own.words};
     const parts = {"#line code": own.line, "#line .quiet": place, "#micro code": micro, "#micro .quiet": does};
     for (const [selector, said] of Object.entries(parts)) write(document.querySelector(selector), said);
+  }
+
+  // The clock on the time line and the slider, where it is quick seldom, as a browser paints all that lies between what moves.
+  markClock(clock, isQuick) {
+    const [from, to] = this.course.view, marked = clock - clock % (isQuick && Math.ceil(COARSE * (to - from) / innerWidth) || 1);
+    if (isQuick && this.strip.clock === marked) return;
+    this.strip.at(marked);
+    // (the slider stays under a hand that moved on)
+    if (this.isShown) at("clock").value = marked;
   }
 
   fillViews() {
@@ -224,10 +232,22 @@ export class Machine {
     return new Set(fields.flatMap(([first, length]) => Array.from({length}, (_, bit) => first + bit)));
   }
 
+  // The words of the state that is shown with the planes that changed since, in the place of those of the state before it.
+  moved(changed, planes) {
+    const {state: {words, perPlane}, before} = this;
+    const own = before ? putPlanes(before.words, perPlane, this.changed, planesIn(words, perPlane, this.changed)) : words.slice();
+    return putPlanes(own, perPlane, changed, planes);
+  }
+
+  async answerAt(clock, from) {
+    const answer = await ask("state", {clock, from}, this.text);
+    if (answer.trouble || answer.refused) throw new Trouble(answer.trouble ?? answer.refused.note);
+    return answer;
+  }
+
   // The state at a clock, which is not shown.
   async stateAt(clock) {
-    const {words, trouble, refused, ...fields} = await ask("state", {clock}, this.text);
-    if (trouble || refused) throw new Trouble(trouble ?? refused.note);
+    const {words, ...fields} = await this.answerAt(clock);
     return new State(fields, words);
   }
 

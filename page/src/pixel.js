@@ -1,5 +1,5 @@
 // What a pixel holds: its registers, its keys as numbers, and the bits of its memory in rows.
-import {made, set, write} from "./show.js";
+import {Lines, made, set, write} from "./show.js";
 import {REGISTERS} from "../library/pxplanes.mjs";
 
 const BITS_IN_ROW = 24, KEYS = [["best", "key B"], ["candidate", "key T"]];
@@ -9,12 +9,27 @@ export const usedBits = (state, fields) => fields.length ? fields[fields.length 
 
 // The elements are made once for the fields of a text; of each state only what is another one is written.
 export class Bits {
-  constructor() { Object.assign(this, {fields: null, bits: 0, used: 0, cells: [], keys: [], parts: []}); }
+  constructor() {
+    Object.assign(this, {fields: null, bits: 0, used: 0, cells: [], keys: [], parts: []});
+    this.canvas = made("canvas", "quick-words");
+    this.lines = new Lines(this.canvas);
+  }
 
   // The elements, as a state has them. `before` is the state that was shown before, or null; `fields` says what the bits are for, and has none
-  // for a listing.
-  of(state, before, fields, x, y) {
+  // for a listing. Where it is quick they are words on an image.
+  of(state, before, fields, x, y, isQuick) {
     if (fields !== this.fields || state.bits !== this.bits) this.make(state, fields);
+    if (isQuick) this.lines.write(this.inWords(state, x, y)); else this.fill(state, before, x, y);
+    return this.parts;
+  }
+
+  inWords(state, x, y) {
+    const {memory, ...registers} = state.pixel(x, y), rows = [];
+    for (let first = 0; first < this.used; first += BITS_IN_ROW) rows.push(`${first}: ${memory.slice(first, Math.min(this.used, first + BITS_IN_ROW))}`);
+    return [Object.entries(registers).map(each => each.join(" ")).join("   "), ...this.keys.map(key => `${key.label}: ${numbersOf(key, state, x, y)}`), ...rows];
+  }
+
+  fill(state, before, x, y) {
     const isAlike = before?.width === state.width && before.height === state.height && before.clock !== state.clock;
     const next = state.next?.hasPlace ? state.next.place : -1;
     for (const {which, element, words, kind} of this.cells) {
@@ -22,9 +37,7 @@ export class Bits {
       set(element, "className", kinds(kind, bit && "on", isChanged && "changed", which === next && "next"));
       write(words, String(bit));
     }
-    for (const {words, own} of this.keys)
-      write(words, own.map(({name, at, length}) => `${name.split(" ")[1]} ${state.number(at, length, x, y)}`).join(", "));
-    return this.parts;
+    for (const key of this.keys) write(key.words, numbersOf(key, state, x, y));
   }
 
   make(state, fields) {
@@ -35,10 +48,10 @@ export class Bits {
     });
     this.keys = !fields.length ? [] : KEYS.map(([key, label]) => {
       const words = made("b");
-      return {words, element: made("span", "key " + key, label, words), own: fields.filter(field => field.name.startsWith(key + " ")).reverse()};
+      return {label, words, element: made("span", "key " + key, label, words), own: fields.filter(field => field.name.startsWith(key + " ")).reverse()};
     });
     const unused = made("div", "quiet small", `The bits ${this.used} to ${state.bits - 1} are not used by this scene.`);
-    this.parts = [made("div", "registers", "", ...registers, ...this.keys.map(({element}) => element)), this.memory(),
+    this.parts = [made("div", "pixel-bits", "", made("div", "registers", "", ...registers, ...this.keys.map(({element}) => element)), this.memory(), this.canvas),
       ...this.used < state.bits ? [unused] : []];
   }
 
@@ -61,5 +74,8 @@ export class Bits {
     return table;
   }
 }
+
+// A key's numbers in words.
+const numbersOf = ({own}, state, x, y) => own.map(({name, at, length}) => `${name.split(" ")[1]} ${state.number(at, length, x, y)}`).join(", ");
 
 const kinds = (...names) => names.filter(Boolean).join(" ");

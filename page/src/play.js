@@ -62,6 +62,8 @@ export class Player {
     clearInterval(this.timer);
     this.timer = null;
     at("play").textContent = "play";
-    if (at("machine").classList.contains("quick")) this.machine.tellPlace();
+    if (!at("machine").classList.contains("quick")) return;
+    this.machine.tellPlace();
+    this.machine.inside();
   }
 }

@@ -11,6 +11,7 @@ export class Screen {
   // called when a pixel is kept, or none is any more.
   constructor(canvas, onPixel, onKeep = () => {}) {
     this.canvas = canvas;
+    this.pen = canvas.getContext("2d", {alpha: false});
     this.stage = canvas.parentElement;
     this.onPixel = onPixel;
     this.onKeep = onKeep;
@@ -49,7 +50,7 @@ export class Screen {
     if (isOther || !this.image) this.image = new ImageData(width, height);
     this.inner = inner;
     fill(new Uint32Array(this.image.data.buffer));
-    this.canvas.getContext("2d", {alpha: false}).putImageData(this.image, 0, 0);
+    this.pen.putImageData(this.image, 0, 0);
     if (this.kept && (this.kept[0] >= width || this.kept[1] >= height)) this.keep(null);
     if (!isPlaced) this.place();
   }
@@ -182,17 +183,39 @@ export function follow(element, {pointerId}, moved, ended = () => {}) {
 export const painted = paint => pixels => { for (let at = 0; at < pixels.length; at++) pixels[at] = packed(paint(at)); };
 
 // A canvas with as many pixels as the screen has for it, and its pen.
-export function fitted(canvas) {
+export function fitted(canvas, form = {}) {
   canvas.width = canvas.clientWidth * devicePixelRatio;
   canvas.height = canvas.clientHeight * devicePixelRatio;
-  return canvas.getContext("2d");
+  return canvas.getContext("2d", form);
 }
 
-// Writes some lines on a canvas; a long one is made narrower. (A browser takes longer to lay out words and to paint them.)
-export function writeLines(canvas, lines) {
-  const {color, fontFamily, fontSize} = getComputedStyle(canvas), high = parseFloat(fontSize) * devicePixelRatio, pen = fitted(canvas);
-  Object.assign(pen, {fillStyle: color, font: `${high}px ${fontFamily}`, textBaseline: "top"});
-  lines.forEach((words, row) => pen.fillText(words.replaceAll("`", ""), 0, 1.5 * row * high, canvas.width));
+// Lines of words as an image, a long one made narrower. (A browser takes longer to lay out words and to paint them.)
+export class Lines {
+  constructor(canvas) {
+    Object.assign(this, {canvas, lines: [], theme: null});
+    new ResizeObserver(() => this.fit()).observe(canvas);
+  }
+
+  write(lines) {
+    const isSame = lines.join() === this.lines.join();
+    this.lines = lines;
+    if (this.theme !== document.documentElement.dataset.theme) this.fit(); else if (!isSame) this.draw();
+  }
+
+  fit() {
+    const {canvas} = this, {color, backgroundColor, fontFamily, fontSize} = getComputedStyle(canvas), high = parseFloat(fontSize) * devicePixelRatio;
+    Object.assign(this, {pen: fitted(canvas, {alpha: false}), theme: document.documentElement.dataset.theme, colours: [backgroundColor, color], high});
+    Object.assign(this.pen, {font: `${high}px ${fontFamily}`, textBaseline: "top"});
+    this.draw();
+  }
+
+  draw() {
+    const {pen, colours: [paper, ink], high, canvas: {width, height}} = this;
+    pen.fillStyle = paper;
+    pen.fillRect(0, 0, width, height);
+    pen.fillStyle = ink;
+    this.lines.forEach((words, row) => pen.fillText(words.replaceAll("`", ""), 0, 1.5 * row * high, width));
+  }
 }
 
 // Gives a canvas an image of its size, of colours as `packed` gives them.

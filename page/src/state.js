@@ -1,5 +1,5 @@
 // What there is to show of a state of the array: its fields, and images of its planes and of numbers made of them.
-import {REGISTERS} from "../library/pxplanes.mjs";
+import {REGISTERS, State} from "../library/pxplanes.mjs";
 import {ON, OFF, greys, hue, packed} from "./palette.js";
 
 // What is made of something, kept for what came last.
@@ -21,17 +21,36 @@ export function onesOf({words, perPlane}, plane) {
   return count;
 }
 
-// Of each plane 1 where a word of it is another one than in the state before, which has the same size; null without one.
-export function changedPlanes(before, state) {
-  if (before?.width !== state.width || before.height !== state.height) return null;
-  const {words, perPlane} = state, out = new Uint8Array(Math.ceil(words.length / perPlane));
-  for (let plane = 0; plane < out.length; plane++) {
-    const end = Math.min(words.length, (plane + 1) * perPlane);
-    let at = plane * perPlane;
-    while (at < end && words[at] === before.words[at]) at += 1;
-    out[plane] = Number(at < end);
-  }
+// Of each plane 1 where a word of it is another one than in the state before, which has the same size; null without one. `mayDiffer` says
+// of a plane whether it is looked at.
+export function changedPlanes(before, {words, perPlane}, mayDiffer) {
+  if (!before) return null;
+  const isOther = plane => mayDiffer(plane) && !isAlike(words, before.words, plane * perPlane, Math.min(words.length, (plane + 1) * perPlane));
+  return Uint8Array.from({length: Math.ceil(words.length / perPlane)}, (_, plane) => Number(isOther(plane)));
+}
+
+function isAlike(words, old, from, end) {
+  let at = from;
+  while (at < end && words[at] === old[at]) at += 1;
+  return at === end;
+}
+
+// The words of the planes that changed, one plane after the other; and the words of a state with these in their places.
+export function planesIn(words, perPlane, changed) {
+  const parts = [...changed.keys()].filter(plane => changed[plane]).map(plane => words.subarray(plane * perPlane, (plane + 1) * perPlane));
+  const out = new Uint32Array(parts.reduce((sum, {length}) => sum + length, 0));
+  parts.reduce((at, part) => { out.set(part, at); return at + part.length; }, 0);
   return out;
+}
+
+export function putPlanes(words, perPlane, changed, planes) {
+  let from = 0;
+  for (let plane = 0; plane < changed.length; plane++) {
+    if (!changed[plane]) continue;
+    const end = Math.min(words.length, (plane + 1) * perPlane);
+    words.set(planes.subarray(from, from += end - plane * perPlane), plane * perPlane);
+  }
+  return words;
 }
 
 // Whether one of some planes changed, from one on and before another.
@@ -50,8 +69,8 @@ export function fieldsOf(layout) {
 }
 
 // What there is to show of the array: each has a name, a label, a group, the planes that it is made of, `fill(state, pixels)`, which gives
-// each pixel its colour, row by row, as an image holds them, and `fillSmall(state, place)`, which draws it on a larger image, where `gridIn`
-// says; one of bits has its plane. `layout` is null for a listing, and `faces` has the colour of each face of a scene.
+// each pixel its colour, row by row, as an image holds them, and `fillSmall(state, place, before)`, which draws it on a larger image, where
+// `gridIn` says, with the state that is drawn there, or null; one of bits has its plane. `layout` is null for a listing, and `faces` has the colour of each face of a scene.
 export function viewsOf(layout, bits, faces) {
   const fields = fieldsOf(layout);
   const registers = REGISTERS.map((name, number) => bitView(name, name, "registers", bits + number));
@@ -66,7 +85,7 @@ export function viewsOf(layout, bits, faces) {
 
 function bitView(name, label, group, plane, field = "") {
   return {name, label, group, plane, planes: [plane, plane + 1], field, fill: (state, pixels) => fillBits(state, plane, pixels),
-    fillSmall: (state, place) => fillShares(state, plane, place)};
+    fillSmall: (state, place, before) => fillShares(state, plane, place, before)};
 }
 
 const [ONE, ZERO] = [ON, OFF].map(packed), FULL = 255;
@@ -84,12 +103,13 @@ function parted(side, count) {
 export const gridIn = (pixels, wide, [left, top, columns, rows], {width, height}) =>
   ({pixels, wide, start: top * wide + left, x: parted(width, columns), y: parted(height, rows), counts: new Uint16Array(columns)});
 
-// A plane in small: a place is as light as many of its bits are 1.
-function fillShares({words, perRow, perPlane}, plane, {pixels, wide, start, x, y, counts}) {
+// A plane in small: a place is as light as many of its bits are 1. Rows that are as in the state that was drawn there before stay.
+function fillShares({words, perRow, perPlane}, plane, {pixels, wide, start, x, y, counts}, before) {
   for (let row = 0; row < y.first.length; row++) {
+    const top = plane * perPlane + y.first[row] * perRow, bottom = top + y.many[row] * perRow;
+    if (before && isAlike(words, before.words, top, bottom)) continue;
     counts.fill(0);
-    for (let line = y.first[row]; line < y.first[row] + y.many[row]; line++) {
-      const from = plane * perPlane + line * perRow;
+    for (let from = top; from < bottom; from += perRow) {
       for (let column = 0; column < counts.length; column++) {
         const bit = x.first[column], many = x.many[column], at = from + (bit >> 5), shift = bit & 31;
         const own = words[at] >>> shift | (shift + many > 32 ? words[at + 1] << 32 - shift : 0);
@@ -111,24 +131,34 @@ export function fillBits({words, width, height, perRow, perPlane}, plane, pixels
   }
 }
 
+// Some rows of a field's planes, as a state of these alone.
+function rowsOf({words, perRow, perPlane, width, wordsPerRow}, {at, length}, rows) {
+  const out = new Uint32Array(length * rows.length * perRow);
+  for (let bit = 0, to = 0; bit < length; bit++) for (const row of rows) {
+    const from = (at + bit) * perPlane + row * perRow;
+    out.set(words.subarray(from, from + perRow), to);
+    to += perRow;
+  }
+  return new State({width, height: rows.length, wordsPerRow, bits: length}, out);
+}
+
 function keyViews(fields, key, label, faces) {
-  const own = field => fields.find(({name}) => name === `${key} ${field}`), numbersOf = field => kept(state => state.numbers(own(field).at, own(field).length));
-  const numbersIn = {face: numbersOf("face"), depth: numbersOf("depth")};
-  const view = (what, field, colour) => {
-    const {at, length} = own(field);
-    const coloured = state => {
-      const numbers = numbersIn[field](state), of = colour(numbers, 2 ** length - 1), known = new Map();
-      return place => known.get(numbers[place]) ?? known.set(numbers[place], packed(of(numbers[place]))).get(numbers[place]);
+  const view = (what, part, colour) => {
+    const field = fields.find(({name}) => name === `${key} ${part}`), {at, length} = field;
+    const coloured = numbers => {
+      const of = colour(numbers, 2 ** length - 1), known = new Map();
+      let [number, last] = [null, 0];
+      return place => numbers[place] === number ? last : last = known.get(number = numbers[place]) ?? known.set(number, packed(of(number))).get(number);
     };
-    return {name: `${key} ${what}`, label: `${label} ${what}`, group: "numbers", planes: [at, at + length], field: `${key} ${field}`,
-      fill: (state, pixels) => { for (let to = 0, of = coloured(state); to < pixels.length; to++) pixels[to] = of(to); },
-      fillSmall: (state, place) => fillFirsts(state.width, place, coloured(state))};
+    return {name: `${key} ${what}`, label: `${label} ${what}`, group: "numbers", planes: [at, at + length], field: field.name,
+      fill: (state, pixels) => { for (let to = 0, of = coloured(state.numbers(at, length)); to < pixels.length; to++) pixels[to] = of(to); },
+      fillSmall: (state, place) => fillFirsts(state.width, place, coloured(rowsOf(state, field, place.y.first).numbers(0, length)))};
   };
   return [view("colours", "face", () => number => faces[number] ?? OFF), view("depth", "depth", greys), view("face", "face", () => hue)];
 }
 
-// Numbers in small: a place has the colour of the first of its pixels.
+// Numbers in small, of the rows that it shows: a place has the colour of the first of its pixels.
 function fillFirsts(width, {pixels, wide, start, x, y}, colour) {
   for (let row = 0; row < y.first.length; row++)
-    for (let column = 0, to = start + row * wide; column < x.first.length; column++, to++) pixels[to] = colour(y.first[row] * width + x.first[column]);
+    for (let column = 0, to = start + row * wide; column < x.first.length; column++, to++) pixels[to] = colour(row * width + x.first[column]);
 }

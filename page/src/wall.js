@@ -13,6 +13,7 @@ export class Wall {
   constructor(root, onChoose) {
     Object.assign(this, {root, onChoose, tiles: [], framed: [], of: null, shown: null, sheet: made("canvas", "sheet")});
     this.sheet.setAttribute("aria-hidden", "true");
+    this.pen = this.sheet.getContext("2d");
     root.addEventListener("keydown", event => this.key(event));
     rove(root, ".tile");
     new ResizeObserver(() => this.fit()).observe(root);
@@ -46,10 +47,10 @@ export class Wall {
   // Shows a state, in which some planes changed, null for all of them. Gives how many words were read.
   show(state, changed) {
     if (this.of !== `${state.width} ${state.height}`) this.size(state);
-    const drawn = this.tiles.filter(({view: {planes}}) => isAnyOf(changed, planes)), before = this.framed;
+    const drawn = this.tiles.filter(({view: {planes}}) => isAnyOf(changed, planes)), {framed, shown} = this;
     this.shown = state;
     this.framed = changed ? drawn : [];
-    this.draw(drawn, before);
+    this.draw(drawn, framed, changed && shown);
     return drawn.reduce((read, {view: {planes: [first, end]}}) => read + (end - first) * state.perPlane, changed ? state.words.length : 0);
   }
 
@@ -59,15 +60,13 @@ export class Wall {
     this.fit();
   }
 
-  // Draws some tiles on the sheet, and no more of it than they and those that were framed before take. A frame is a part
-  // of the sheet too, as a browser takes long to style and paint a tile again.
-  draw(tiles, before = []) {
-    const touched = [...tiles, ...before], pen = this.sheet.getContext("2d"), wide = FRAME * devicePixelRatio;
-    if (!touched.length || !this.image) return;
-    for (const {view, grid} of tiles) view.fillSmall(this.shown, grid);
-    const [left, top] = [0, 1].map(way => Math.min(...touched.map(({box}) => box[way])) - wide);
-    const [right, bottom] = [0, 1].map(way => Math.max(...touched.map(({box}) => box[way] + box[way + 2])) + wide);
-    pen.putImageData(this.image, 0, 0, left, top, right - left, bottom - top);
+  // Draws some tiles on the sheet, which has another state until now, and takes away what framed some others. A frame is a part of the sheet
+  // too, as a browser takes long to style and paint a tile again.
+  draw(tiles, framed = [], before = null) {
+    const {pen} = this, wide = FRAME * devicePixelRatio;
+    if (!this.image) return;
+    for (const {view, grid} of tiles) view.fillSmall(this.shown, grid, before);
+    for (const {box: [x, y, columns, rows]} of new Set([...tiles, ...framed])) pen.putImageData(this.image, 0, 0, x - wide, y - wide, columns + 2 * wide, rows + 2 * wide);
     Object.assign(pen, {strokeStyle: FRAMED, lineWidth: wide});
     for (const {box: [x, y, columns, rows]} of this.framed) pen.strokeRect(x - wide / 2, y - wide / 2, columns + wide, rows + wide);
   }

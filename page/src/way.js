@@ -14,9 +14,9 @@ function bitsOf(number, bits, now) {
 const cells = (kind, name, line, node, adds, sum, bits) => made("tr", kind, "", Object.assign(made("th", "", name), {scope: "row"}),
   ...[line, node, adds, sum].map(text => made("td", "", String(text))), made("td", "bits", "", ...bits));
 
-// `form` has A, B and C of the operation under way, whose value has so many `bits`; null if it has none.
-export function wayOf(state, form, bits, [x, y]) {
-  const {width, height, levels, next} = state, nx = Math.log2(width), leaf = x * height + y, feeds = state.operationClock - 1, isFed = next?.tree === "feed";
+// `found` has A, B and C of the operation under way, as its `form`, and how many bits its value has; null if it has none.
+export function wayOf(state, found, [x, y]) {
+  const {form, bits} = found ?? {}, {width, height, levels, next} = state, nx = Math.log2(width), leaf = x * height + y, feeds = state.operationClock - 1, isFed = next?.tree === "feed";
   const [a, b, c] = form ?? [0, 0, 0], own = form && needed({form, bits, width, height}), known = (...shown) => form ? shown : ["", []];
   const titles = ["level", "line", "node", "adds", "sum", "bits"].map(name => Object.assign(made("th", "", name), {scope: "col"})), rows = [made("tr", "", "", ...titles)];
   // A number whose lowest bit is on its line in the feed after so many.

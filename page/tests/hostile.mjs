@@ -41,12 +41,12 @@ const WRONG = [
   () => new SharedArrayBuffer(9), detached, lying, () => below(1e6), () => BigInt(below(1e9)), () => BigInt(below(9)), () => [0, below(9)], () => text.slice(0, below(text.length)),
   () => text.replace(/\d/g, digit => share() < 0.1 ? String(below(10)) : digit), ...KINDS.map(Kind => () => arrayOf(Kind))];
 
-const state = px.state(text, 3000), machine = px.machine(text), packed = px.packed(text, 3000, 5);
+const state = px.state(text, 3000), machine = px.machine(text, px.course(text).map(({clock}) => clock)), packed = px.packed(text, 3000, 5);
 const CALLS = {
   check: [text], render: [text, {isFloat: true}], window: [text, 1, 2, 3, 4, {isFromBottom: true}], colour: [text], imageData: [text], products: [text], counts: [text], state: [text, 9, 0], micros: [text, 4, 3], packed: [text, 4, 3], course: [text, 2, 3],
-  run: [text, "cost"], clocks: [state, packed], machine: [text, null]};
+  run: [text, "cost"], clocks: [state, packed, null], machine: [text, null]};
 const OTHERS = [[state, "bit", ["enable", 3, 4]], [state, "pixel", [3, 4]], [state, "number", [3, 9, 3, 4]], [state, "numbers", [3, 9]], [state, "node", [2, 1]],
-  [state, "planeOf", [7]], [machine, "state", [9]], [machine, "micros", [4, 3]], [machine, "prepare", [900]]];
+  [state, "planeOf", [7]], [machine, "state", [9]], [machine, "micros", [4, 3]], [machine, "prepare", [900]], [machine, "after", [state, 3005, null]]];
 const calls = [...Object.entries(CALLS).map(([name, words]) => [px, name, words]), ...OTHERS];
 const FIELDS = ["words", "width", "height"];
 // What an engine says where nothing looked at an argument.
@@ -55,7 +55,7 @@ const BY_ACCIDENT = /Cannot mix|Cannot convert|Cannot read|can't convert|not a f
 // The bytes of an answer, as a text to compare.
 const shownAs = value => JSON.stringify(value, (_, own) => typeof own === "bigint" ? String(own) : ArrayBuffer.isView(own) ? Array.from(own, String).join() : own);
 const RIGHT = [() => px.render(text), () => px.window(text, 20, 9, 8, 8), () => px.colour(text), () => px.state(text, 3000).words, () => px.clocks(state, packed), () => px.products(text), () => px.run(text, "cost"),
-  () => machine.state(2999).words, () => px.counts(text)];
+  () => machine.state(2999).words, () => machine.after(state, 3005).words, () => px.counts(text)];
 const right = RIGHT.map(call => shownAs(call())), outcomes = {}, failures = [];
 
 function all() {

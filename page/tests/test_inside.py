@@ -36,6 +36,22 @@ ROWS = """() => [...document.querySelectorAll("table.way tr")].slice(1).map(row 
   [...row.children].map(cell => cell.textContent).concat(row.querySelector(".now")?.textContent ?? ""))"""
 
 
+# Where the planes that changed between two clocks are not those that differ in the whole states, or lead to another state.
+MOVES = """async pairs => {
+  const text = studio.editor.text, wrong = [];
+  for (const [from, clock] of pairs) {
+    const [first, last, moved] = await Promise.all([{clock: from}, {clock}, {clock, from}].map(words => studio.ask("state", words, text)));
+    const size = 2 * last.wordsPerRow * last.height, parts = state => Array.from({length: Math.ceil(state.words.length / size)}, (_, plane) => state.words.slice(plane * size, (plane + 1) * size));
+    const due = parts(last).map((part, plane) => Number(String(part) !== String(parts(first)[plane])));
+    const words = parts(last).filter((_, plane) => due[plane]).flatMap(part => [...part]);
+    if (String(due) !== String(moved.changed) || String(words) !== String(moved.words)) wrong.push([from, clock]);
+  }
+  return wrong;
+}"""
+
+CLOCKS = "() => studio.ask('program', {}, studio.editor.text).then(({clocks}) => clocks)"
+
+
 def opened(page: Browser, fragment: str) -> None:
     page.open("about:blank")
     page.open("file://" + pages.PAGE + fragment)
@@ -45,6 +61,14 @@ def opened(page: Browser, fragment: str) -> None:
 def at_clock(page: Browser, clock: int, x: int, y: int) -> None:
     go(page, clock)
     page.until("document.body.dataset.inside === '%d %d %d'" % (x, y, clock))
+
+
+def test_a_move_has_the_planes_that_it_changed(page: Browser) -> None:
+    """By some thousand clocks of a scene, and by each clock of a listing with all fourteen acts, on and back."""
+    assert called(page, MOVES, [(0, 3000), (3000, 20), (1200, 1260), (7, 7)]) == []
+    pages.pasted(page, LISTING)
+    steps = [(clock, clock + 1) for clock in range(called(page, CLOCKS))]
+    assert steps[9:] and called(page, MOVES, steps + [(end, start) for start, end in steps[::7]]) == []
 
 
 @pytest.mark.parametrize("x, y", [(0, 0), (1, 3)])

@@ -293,26 +293,36 @@ def test_a_cure_is_an_action(page: Browser, first: str) -> None:
 def test_a_refusal_has_its_place_and_at_most_one_change(page: Browser, typed: str, marked: str, says: str, action: str | None) -> None:
     """There is an action only if exactly one word is near that the library takes there: `gont` is two keys from `front`, `xyznt` three."""
     choose(page, "front 0 0 320")
-    assert written(page, typed) == "refused"
-    assert page.run("[...document.querySelectorAll('.wrong')].map(each => each.textContent).join('')") == marked
+    # (the text before may still be drawn on a busy machine)
+    written(page, typed)
+    page.until("document.body.dataset.drawn === 'refused' && [...document.querySelectorAll('.wrong')].map(each => each.textContent).join('') === %r" % marked)
     assert text_of(page, "#verdict .note").startswith(("malformed line 18: ", "limit line 18: "))
     assert says in text_of(page, "#verdict")
     assert page.run("document.querySelector('.cure button')?.textContent ?? null") == action
 
 
 def test_what_quick_play_hides_is_of_the_clock_that_is_shown_after_it(page: Browser) -> None:
-    """While it plays too fast to be read, no word of an earlier clock is in sight; where it stops, the words are those of that clock."""
-    words = "['until', 'clock', 'of', 'count', 'line', 'micro', 'operation'].map(id => document.getElementById(id)).map(each => each.value ?? each.textContent)"
-    alone(page, fragment="#s=first&t=machine&c=0&v=enable")
+    """While it plays too fast to be read, no word of an earlier clock is in sight; where it stops, all is of that clock: the words, the
+    bits of the pixel that is kept, the time line, the images, and the state itself, of which each move brought a part."""
+    shown = """(async () => {
+      const {machine} = studio, {words} = await studio.ask("state", {clock: machine.state.clock}, machine.text), {sheet} = machine.wall;
+      const fields = ["until", "clock", "of", "count", "line", "micro", "operation", "inside"].map(id => document.getElementById(id)).map(each => each.value ?? each.textContent);
+      const images = [document.getElementById("array"), sheet].map(canvas => [...canvas.getContext("2d").getImageData(0, 0, canvas.width, canvas.height).data]);
+      return [...fields, document.getElementById("now").style.transform, String(words) === String(machine.state.words), images.map(String).join()];
+    })()"""
+    alone(page, fragment="#s=first&t=machine&c=0&v=enable&p=24,16")
     page.until("document.body.dataset.shown === '0'")
     page.run("(studio.machine.player.isAllowed = true, document.getElementById('speed').value = '30', document.getElementById('play').click())")
     page.until("Number(document.body.dataset.frames) > 6 && document.getElementById('machine').classList.contains('quick')")
-    in_sight = "['until', 'of', 'count', 'pass', 'line', 'micro', 'operation', 'quick'].filter(id => getComputedStyle(document.getElementById(id)).visibility === 'visible')"
-    assert page.run(in_sight) == ["quick"]
+    in_sight = """[...['until', 'of', 'count', 'pass', 'line', 'micro', 'operation'].map(id => document.getElementById(id)),
+      ...document.querySelectorAll('.quick-words, .register, .memory')].filter(each => getComputedStyle(each).visibility === 'visible').map(each => each.className)"""
+    assert page.run(in_sight) == ["quick-words"] * 2
     page.run("document.getElementById('play').click()")
     page.until("studio.machine.isShown")
-    clock, found = page.run("Number(document.body.dataset.shown)"), page.run(words)
-    assert "quick" not in page.run(in_sight) and clock > 0 and found[:2] == [str(clock)] * 2
+    clock, found = page.run("Number(document.body.dataset.shown)"), page.run(shown)
+    assert "quick-words" not in page.run(in_sight) and clock > 0 and found[:2] == [str(clock)] * 2 and found[9]
     go(page, 0)
+    # (so that the same planes are framed)
+    go(page, page.run("studio.machine.course.moved('operation-back', %d)" % clock))
     go(page, clock)
-    assert page.run(words) == found
+    assert page.run(shown) == found
