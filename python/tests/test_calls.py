@@ -1,6 +1,7 @@
 """The calls of the library from Python: their examples, and arguments of each wrong kind in each place."""
 import concurrent.futures
 import doctest
+import functools
 import glob
 import importlib
 import os
@@ -12,6 +13,7 @@ import signal
 import subprocess
 import sysconfig
 import threading
+import time
 
 import pytest
 
@@ -21,6 +23,7 @@ from pxplanes import pictures, running
 from pxplanes.scene import scenes
 
 FIRST = pxplanes.from_file(os.path.join(support.TOP, "docs", "scenes", "first.scene"))
+HOUSE = pxplanes.from_file(os.path.join(support.TOP, "gallery", "house.scene"))
 MODULES = ("building", "calls", "commands", "compare.comparing", "explain.explained", "machine.operations",
            "machine.states", "pictures", "running")
 SCENES = sorted(path for folder in ("docs/scenes", "gallery")
@@ -148,6 +151,100 @@ def test_threads_are_kept_and_a_forked_child_has_its_own():
     assert os.waitpid(child, 0)[1] == 0
 
 
+def test_calls_that_have_ended_draw_nothing(monkeypatch):
+    """Two windows of four are under way, side by side, when `progress` raises: no other begins, and the caller's arrays don't get those two."""
+    numpy = pytest.importorskip("numpy")
+    maps, begun, may_end, piece = numpy.full((2, 128, 128), 7), [], threading.Event(), pictures.piece
+    monkeypatch.setattr(running, "IDLE", [])
+
+    def waiting(*words):
+        begun.append(words)
+        may_end.wait()
+        return piece(*words)
+
+    def progress(share):
+        looks.append(share)
+        if len(begun) == 2 or len(looks) > 100:
+            raise KeyError("enough")
+
+    monkeypatch.setattr(pictures, "piece", waiting)
+    for draw in (functools.partial(pxplanes.render, HOUSE, out=(*maps,)), functools.partial(pxplanes.render, HOUSE),
+                 functools.partial(pxplanes.tile, HOUSE, 256, 256)):
+        looks = []
+        with pytest.raises(KeyError, match="enough"):
+            draw(threads=2, progress=progress)
+        assert len(begun) == 2
+        may_end.set()
+        for _ in range(6000):
+            if len(running.IDLE) == 2:
+                break
+            time.sleep(0.01)
+        assert len(begun) == len(running.IDLE) == 2 and (maps == 7).all()
+        begun.clear()
+        may_end.clear()
+
+
+def test_out_of_memory_in_a_thread(monkeypatch):
+    """What a window raises in its thread, the call raises; and the thread draws on in later calls."""
+    piece, looks = pictures.piece, []
+
+    def short(data, x, *words):
+        if x > 0:
+            raise MemoryError("no memory")
+        return piece(data, x, *words)
+
+    def progress(share):
+        looks.append(share)
+        assert len(looks) < 100
+
+    with monkeypatch.context() as patch:
+        patch.setattr(pictures, "piece", short)
+        for threads in 1, 3:
+            with pytest.raises(MemoryError, match="no memory"):
+                pxplanes.render(HOUSE, threads=threads, progress=progress)
+    assert pxplanes.render(HOUSE, threads=3).maps() == pxplanes.run(HOUSE)
+
+
+def test_pictures_are_refused_as_a_whole():
+    """A budget is kept by each number of threads. A picture of 2 * 23 * 23 products, above 1024, is refused though each half of it has half of
+    them, and is drawn."""
+    numpy, takes = pytest.importorskip("numpy"), pxplanes.check(HOUSE).clocks
+    left, right = ([pxplanes.Scene.union([pxplanes.Solid(sides=[side]) for _ in range(23)]) for _ in range(2)] for side in ((-1, 0, 31), (1, 0, -32)))
+    many = pxplanes.Scene((64, 1), 4, left[0] * left[1] + right[0] * right[1])
+    half = pxplanes.window(many, 0, 0, 32, 1)
+    for threads in 1, 2:
+        with pytest.raises(pxplanes.OverBudget):
+            pxplanes.render(HOUSE, threads=threads, clocks=takes - 1)
+        with pytest.raises(pxplanes.Limit, match="products 1058"):
+            pxplanes.render(many, threads=threads)
+        maps = numpy.zeros((2, 1, 32))
+        assert pxplanes.tile(many, 32, 1, threads=threads, out=(*maps,)) == pxplanes.Picture(*maps, 32, 1) == half
+
+
+STEEP = "pxscene 1\npicture 64 64\ndepth 4\nsolid a 1 2 3\nfront 8388608 0 8589934592\nback 0 0 9\nshow a\nend\n"
+
+
+def test_a_window_is_refused_but_not_the_picture(monkeypatch):
+    """The constant of a plane is past its limit in the right window alone. The picture is then drawn in one piece, and `progress` is called
+    meanwhile."""
+    numpy = pytest.importorskip("numpy")
+    maps, shares, is_heard, piece = numpy.full((2, 64, 64), 7), [], threading.Event(), pictures.piece
+
+    def progress(share):
+        shares.append(share)
+        is_heard.set()
+
+    def slow(data, x, y, wide, high):
+        if wide == 64:
+            is_heard.clear()
+            is_heard.wait(60)
+        return piece(data, x, y, wide, high)
+
+    monkeypatch.setattr(pictures, "piece", slow)
+    assert pxplanes.render(STEEP, threads=2, progress=progress, out=(*maps,)).maps() == pxplanes.run(STEEP)
+    assert (maps[0] == 15).all() and (maps[1] == 0).all() and shares[-2:] == [0, 1]
+
+
 # A program that has Python inside, begins it twice, and runs the lines in its first word by both.
 HOST = r"""
 #include <Python.h>
@@ -163,7 +260,7 @@ int main(int count, char **words)
 """
 INSIDE = """import sys; sys.path[:0] = ['python']
 import pxplanes
-text, shares = pxplanes.from_file('gallery/house.scene'), []
+text, shares = pxplanes.from_file('gallery/near_face.scene'), []
 due = pxplanes.run(text)
 print(pxplanes.render(text, threads=4, progress=shares.append).maps() == due == pxplanes.run(text, progress=shares.append), shares[-1])
 """
@@ -194,7 +291,7 @@ def test_pictures_in_the_callers_arrays():
         assert faces.sum() == due.faces.sum()
         assert numpy.shares_memory(given.depths, depths)
     maps = numpy.zeros((40, 70)), numpy.zeros((40, 70), numpy.int64)
-    assert pxplanes.tile(FIRST, 70, 40, threads=2, out=maps) == wide
+    assert pxplanes.tile(FIRST, 70, 40, threads=2, out=maps) == pxplanes.Picture(*maps, 70, 40) == wide
     rgba = numpy.zeros((32, 48, 4), numpy.uint8)
     assert pxplanes.colour(FIRST, out=rgba[::-1]).base is rgba
     assert (rgba[::-1, :, :3] == colours).all() and (rgba[..., 3] == 255).all()
@@ -210,13 +307,15 @@ def test_pictures_in_the_callers_arrays():
     for first, second in (numpy.zeros((32, 48), numpy.uint8), faces[1:33, 1:49]), (one[:32], one[1:]), (rows_in_one, due.faces.copy()):
         with pytest.raises(ValueError, match="arrays of out overlap"):
             pxplanes.render(FIRST, out=(first, second))
-    house, rows = pxplanes.from_file(os.path.join(support.TOP, "gallery", "house.scene")), numpy.zeros((192, 128), numpy.uint32)
+    rows = numpy.zeros((192, 128), numpy.uint32)
     with pytest.raises(ValueError, match="arrays of out overlap"):
-        pxplanes.render(house, threads=2, out=(rows[:128], rows[64:]))
+        pxplanes.render(HOUSE, threads=2, out=(rows[:128], rows[64:]))
     woven = numpy.zeros((128, 128, 2), numpy.uint32)
-    assert pxplanes.render(house, threads=2, out=(woven[..., 0], woven[..., 1])).maps() == pxplanes.run(house)
+    assert pxplanes.render(HOUSE, threads=2, out=(woven[..., 0], woven[..., 1])).maps() == pxplanes.run(HOUSE)
     with pytest.raises(ValueError, match="too small for the numbers"):
         pxplanes.colour(FIRST, out=numpy.zeros((32, 48, 3), numpy.int8))
+    with pytest.raises(ValueError, match="too small for the numbers"):
+        pxplanes.render(FIRST, out=(numpy.zeros((32, 48), numpy.uint16), numpy.zeros((32, 48), bool)))
     with pytest.raises(TypeError, match="no ndarray of 2 bytes each"):
         pxplanes.check(numpy.frombuffer(FIRST, numpy.uint8).astype(numpy.uint16))
     for tolerance in -1, float("nan"):
@@ -264,6 +363,10 @@ def test_pictures_and_states_are_values(tmp_path):
     scene = pxplanes.Scene((8, 8), 9, pxplanes.Scene.union(solids))
     picture = pxplanes.render(scene)
     assert picture == pxplanes.render(scene.text) == pickle.loads(pickle.dumps(picture)) and picture.compare(picture)
+    before = pxplanes.render(FIRST)
+    pxplanes.render(FIRST.replace(b"front 0 0 320", b"front 0 0 100"))
+    assert before.maps() == pxplanes.run(FIRST)
+    assert [(each.format, each.readonly) for each in map(memoryview, before[:2])] == [("I", False)] * 2
     plain = pxplanes.Picture(memoryview(bytes(16)).cast("I", [2, 2]), memoryview(bytes(16)).cast("I", [2, 2]), 2, 2)
     assert pickle.loads(pickle.dumps(plain)) == plain != picture
     picture.save(tmp_path / "a.png")
