@@ -73,7 +73,8 @@ LEFT = {"a sign": ("(pyramid - shaft)", "(pyramid _ shaft)"), "no sign": ("(pyra
         "a comma": ("0 0 320", "0 0 1,900"), "two brackets": ("((pyramid - shaft) + bar)", "(pyramid - shaft + bar)"), "a range": ("bar 200", "bar 2000"),
         "a solid's line": ("solid shaft 0 0 0 ", "# "), "a plane": ("front 0 0 320", "wall 0 0 320"), "a colour": ("bar 200 60 40", "bar"),
         "no show": ("show ((pyramid - shaft) + bar)\n", ""), "a mark of a comment": ("(pyramid - shaft)", "(pyramid # shaft)"),
-        "a word more": ("bar)\n", "bar) bar\n"), "an exclusive or": ("- shaft", "^ shaft"), "a number that is two": ("picture 48 32", "picture 48")}
+        "a word more": ("bar)\n", "bar) bar\n"), "an exclusive or": ("- shaft", "^ shaft"), "a number that is two": ("picture 48 32", "picture 48"),
+        "one of two like numbers": ("back 0 0 400", "back 25 0 -5 25 9"), "a negative number": ("side -1 0 29", "side 0 -29")}
 
 
 @pytest.mark.parametrize("name", LEFT)
@@ -83,6 +84,12 @@ def test_left(name):
     old, new = LEFT[name]
     assert first.count(old) == 1
     assert not readings.mended(first.replace(old, new).encode()).is_whole
+
+
+def test_number_without_its_space():
+    """A number that comes with its word is no other number: it gets its space back."""
+    for old, new in ("depth 5", "depth5"), ("side 1 0", "side1 0"):
+        assert readings.mended(WALLS.replace(old, new).encode()).text.decode() == WALLS != WALLS.replace(old, new)
 
 
 def test_names_that_come_together():

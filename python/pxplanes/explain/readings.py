@@ -167,7 +167,7 @@ def numerals(words: list[str]) -> str:
 
 def cuts_number(had: list[str], has: list[str]) -> bool:
     """Whether a number of the old words is more than one of the new."""
-    return len(has) > len(had) and any(NUMBER.fullmatch(word) and word not in has for word in had)
+    return len(has) > len(had) and bool(Counter(filter(NUMBER.fullmatch, had)) - Counter(has))
 
 
 def keeps(old: str, new: str, names: Any) -> bool:
