@@ -499,6 +499,7 @@ export class Machine {
   // The state after a clock, made of one before it; it is not kept. Its words are new ones, or written over those of `into`.
   after(known, clock, into = null) {
     if (!(known instanceof State)) throw new TypeError(`known is ${kindOf(known)}; a State is expected`);
+    if (["width", "height", "bits"].some(name => known[name] !== this.first[name])) throw new RangeError("known is a state of another array");
     if (!this.canStep) throw new TypeError("this machine has no starts, or its module makes no clocks of a state");
     const made = whole(clock, "clock", this.clocks), words = this.library.clocks(known, this.#broadcast(known.clock, made - known.clock), into), isEnd = made === this.clocks;
     let {operation} = known;

@@ -47,7 +47,7 @@ export class Machine {
     at("view").addEventListener("change", () => this.choose(at("view").value, false));
     at("beside").addEventListener("change", () => this.choose(at("beside").value, true));
     at("clock").addEventListener("input", () => this.go(Number(at("clock").value)));
-    at("clock").addEventListener("keydown", () => { if (this.isShown) at("clock").value = this.state.clock; });
+    at("clock").addEventListener("keydown", () => { at("clock").value = this.wanted; });
     at("until").addEventListener("change", () => this.until());
     at("until").addEventListener("keydown", event => {
       if (event.key === "Escape") at("until").value = this.wanted;
@@ -207,7 +207,7 @@ export class Machine {
 
   // The clock on the time line and the slider, where it is quick seldom, as a browser paints all that lies between what moves.
   markClock(clock, isQuick) {
-    const [from, to] = this.course.view, marked = clock - clock % (isQuick && Math.ceil(COARSE * (to - from) / innerWidth) || 1);
+    const [from, to] = this.course.view, marked = clock - (clock - Math.ceil(from)) % (isQuick && Math.ceil(COARSE * (to - from) / innerWidth) || 1);
     if (isQuick && this.strip.clock === marked) return;
     this.strip.at(marked);
     // (the slider stays under a hand that moved on)

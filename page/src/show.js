@@ -214,7 +214,9 @@ export class Lines {
     pen.fillStyle = paper;
     pen.fillRect(0, 0, width, height);
     pen.fillStyle = ink;
-    this.lines.forEach((words, row) => pen.fillText(words.replaceAll("`", ""), 0, 1.5 * row * high, width));
+    // (closer where there is less room)
+    const step = Math.min(1.5 * high, height / this.lines.length);
+    this.lines.forEach((words, row) => pen.fillText(words.replaceAll("`", ""), 0, row * step, width));
   }
 }
 

@@ -142,19 +142,37 @@ function rowsOf({words, perRow, perPlane, width, wordsPerRow}, {at, length}, row
   return new State({width, height: rows.length, wordsPerRow, bits: length}, out);
 }
 
+// The least and the greatest number in a field, of the pixels where not all of its bits are 1: from the highest bit on, those stay that may have it.
+function endsOf({words, width, perRow, perPlane}, {at, length}) {
+  const wordOf = (bit, place) => words[(at + bit) * perPlane + place], bits = [...Array(length).keys()].reverse();
+  const others = Uint32Array.from({length: perPlane}, (_, place) => {
+    const columns = width - 32 * (place % perRow), own = columns < 32 ? 2 ** Math.max(0, columns) - 1 : -1;
+    return own & ~bits.reduce((all, bit) => all & wordOf(bit, place), -1);
+  });
+  return [0, 1].map(wanted => {
+    let found = others;
+    return bits.reduce((number, bit) => {
+      const own = found.map((word, place) => word & (wanted ? wordOf(bit, place) : ~wordOf(bit, place))), isThere = own.some(Boolean);
+      if (isThere) found = own;
+      return 2 * number + (isThere ? wanted : 1 - wanted);
+    }, 0);
+  });
+}
+
 function keyViews(fields, key, label, faces) {
   const view = (what, part, colour) => {
     const field = fields.find(({name}) => name === `${key} ${part}`), {at, length} = field;
-    const coloured = numbers => {
-      const of = colour(numbers, 2 ** length - 1), known = new Map();
+    // (`all` gives numbers that have the least and the greatest of all pixels)
+    const coloured = (numbers, all = () => numbers) => {
+      const of = colour(all, 2 ** length - 1), known = new Map();
       let [number, last] = [null, 0];
       return place => numbers[place] === number ? last : last = known.get(number = numbers[place]) ?? known.set(number, packed(of(number))).get(number);
     };
     return {name: `${key} ${what}`, label: `${label} ${what}`, group: "numbers", planes: [at, at + length], field: field.name,
       fill: (state, pixels) => { for (let to = 0, of = coloured(state.numbers(at, length)); to < pixels.length; to++) pixels[to] = of(to); },
-      fillSmall: (state, place) => fillFirsts(state.width, place, coloured(rowsOf(state, field, place.y.first).numbers(0, length)))};
+      fillSmall: (state, place) => fillFirsts(state.width, place, coloured(rowsOf(state, field, place.y.first).numbers(0, length), () => endsOf(state, field)))};
   };
-  return [view("colours", "face", () => number => faces[number] ?? OFF), view("depth", "depth", greys), view("face", "face", () => hue)];
+  return [view("colours", "face", () => number => faces[number] ?? OFF), view("depth", "depth", (all, far) => greys(all(), far)), view("face", "face", () => hue)];
 }
 
 // Numbers in small, of the rows that it shows: a place has the colour of the first of its pixels.

@@ -63,7 +63,7 @@ export class Wall {
   // Draws some tiles on the sheet, which has another state until now, and takes away what framed some others. A frame is a part of the sheet
   // too, as a browser takes long to style and paint a tile again.
   draw(tiles, framed = [], before = null) {
-    const {pen} = this, wide = FRAME * devicePixelRatio;
+    const {pen} = this, wide = Math.ceil(FRAME * devicePixelRatio);
     if (!this.image) return;
     for (const {view, grid} of tiles) view.fillSmall(this.shown, grid, before);
     for (const {box: [x, y, columns, rows]} of new Set([...tiles, ...framed])) pen.putImageData(this.image, 0, 0, x - wide, y - wide, columns + 2 * wide, rows + 2 * wide);

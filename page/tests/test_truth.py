@@ -326,3 +326,134 @@ def test_what_quick_play_hides_is_of_the_clock_that_is_shown_after_it(page: Brow
     go(page, page.run("studio.machine.course.moved('operation-back', %d)" % clock))
     go(page, clock)
     assert page.run(shown) == found
+
+
+# Goes by some clocks, one after the other, where it is quick as if it played, and gives what was wrong: all that is shown against the library,
+# each image against the same one drawn anew, and how many pixels the marks are behind the clock (none, or below eight where it is quick).
+WALK = """async (clocks, isQuick) => {
+  const {machine} = studio, {wall, player, strip, parts: {bits}} = machine, px = await studio.library(), {text} = machine, wrong = [], [x, y] = machine.pixel;
+  const image = canvas => new Uint32Array(canvas.getContext("2d").getImageData(0, 0, canvas.width, canvas.height).data.buffer), slider = document.getElementById("clock");
+  const redrawn = (canvas, draw) => { const seen = image(canvas); draw(); return image(canvas).every((word, at) => word === seen[at]); };
+  if (isQuick) { document.getElementById("speed").value = "30"; player.timer = 0; }
+  for (const clock of clocks) {
+    const {clock: from} = machine.state, [known, due] = [from, clock].map(each => px.state(text, each)), pixel = due.pixel(x, y), {memory, ...registers} = pixel;
+    const {frames} = machine;
+    machine.goTo(clock);
+    while (machine.frames === frames) await new Promise(done => setTimeout(done));
+    const {state, before} = machine, [start, end] = machine.course.view, scale = innerWidth / (end - start), late = [strip.clock, Number(slider.value)].map(each => (clock - each) * scale);
+    const numbers = key => machine.fields.filter(({name}) => name.startsWith(key)).reverse().map(({name, at, length}) => `${name.split(" ")[1]} ${due.number(at, length, x, y)}`).join(", ");
+    const [first, ...rows] = bits.lines.lines, found = selector => [...document.querySelectorAll(selector)].map(each => each.textContent);
+    const seen = isQuick ? [...first.match(/\\d/g), ...rows.map(row => row.split(": ")[1])] : [...found(".register b"), ...found(".key b"), found(".memory td").join("")];
+    const all = {
+      words: String(state.words) === String(due.words) && String(before.words) === String(known.words),
+      next: ["clock", "operation", "operationClock"].every(name => state[name] === due[name]) && state.micro === (due.next && String(due.next)),
+      marks: late.every(each => isQuick ? each > -1 && each < 9 : each === 0),
+      bits: seen.slice(0, 6).join() === [...Object.values(registers), numbers("best"), numbers("candidate")].join() && seen.slice(6).join("") === memory.slice(0, bits.used),
+      said: !isQuick || machine.lines.lines[0].startsWith(`clock ${clock}   `) && machine.lines.lines[2] === (due.next ? machine.course.operations[due.operation][2] : "all is done: key B has the picture"),
+      wall: redrawn(wall.sheet, () => wall.lay()),
+      array: redrawn(document.getElementById("array"), () => { machine.painted = null; machine.paint(); }),
+      quick: !isQuick || [machine.lines, bits.lines].every(each => redrawn(each.canvas, () => each.fit())),
+    };
+    wrong.push(...Object.keys(all).filter(name => !all[name]).map(name => `${name} from ${from} to ${clock}`));
+  }
+  if (isQuick) player.stop();
+  return wrong;
+}"""
+# By clocks, by operations, back, past a hundred clocks, to both ends, and to where it is.
+WALKED = [1, 2, 3, 4, 60, 160, 161, 262, 261, 262, 300, 20, 21, 1500, 1560, 1620, 1620, 1621, 5390, 5396, 5396, 0, 3001, 3002]
+
+
+@pytest.mark.parametrize("is_quick, scale", [(False, 1.25), (True, 1)], ids=["step by step", "quick"])
+def test_each_move_shows_the_state_that_the_library_makes(page: Browser, is_quick: bool, scale: float) -> None:
+    page.call("Emulation.setDeviceMetricsOverride", width=1280, height=720, deviceScaleFactor=scale, mobile=False)
+    alone(page, fragment="#s=first&t=machine&c=0&v=enable&p=24,16")
+    page.until("document.body.dataset.shown === '0' && studio.machine.pixel")
+    assert called(page, WALK, WALKED, is_quick) == []
+
+
+def quick(page: Browser) -> None:
+    """As if it played too fast to be read, with no move under way."""
+    page.run("(document.getElementById('speed').value = '30', studio.machine.player.timer = 0, 0)")
+
+
+def test_words_of_quick_play_have_the_colours_of_the_theme_and_room_for_all_lines(page: Browser) -> None:
+    """Where the page is narrow, the last line of the pixel's bits is as high as it is alone."""
+    page.size(900, 700)
+    alone(page, fragment="#s=triangle&t=machine&c=99&v=enable&p=7,7")
+    page.until("document.body.dataset.shown === '99' && studio.machine.pixel")
+    quick(page)
+    page.run("studio.machine.goOn('clock-on')")
+    page.until("document.body.dataset.shown === '100'")
+    paper = """[studio.machine.lines, studio.machine.parts.bits.lines].map(({canvas}) =>
+      `rgb(${[...canvas.getContext("2d").getImageData(canvas.width - 1, 0, 1, 1).data.slice(0, 3)].join(", ")})` === getComputedStyle(document.querySelector(".says")).backgroundColor)"""
+    assert page.run(paper) == [True, True]
+    click(page, "#theme")
+    page.run("studio.machine.goOn('clock-on')")
+    page.until("document.body.dataset.shown === '101'")
+    assert page.run(paper) == [True, True]
+    inked = """at => {
+      const {lines} = studio.machine.parts.bits, {canvas: {width, height}} = lines, all = lines.lines;
+      lines.write(all.map((_, row) => row === at ? all.at(-1) : ""));
+      const {data} = lines.pen.getImageData(0, 0, width, height), of = Array.from({length: height}, (_, y) => data.slice(4 * y * width, 4 * (y + 1) * width).some((part, place) => part !== data[place % 4 + 4 * width - 4]));
+      lines.write(all);
+      return of.filter(Boolean).length;
+    }"""
+    count = page.run("studio.machine.parts.bits.lines.lines.length")
+    assert count == 4 and called(page, inked, 0) > 5 and abs(called(page, inked, count - 1) - called(page, inked, 0)) <= 1
+    page.run("studio.machine.stop()")
+
+
+def test_quick_play_moves_neither_the_stretch_that_is_shown_nor_where_a_key_goes_on(page: Browser) -> None:
+    """At the left end of a stretch of the time line; a key on the slider, which is behind, goes on from the clock that was asked for last."""
+    machine(page)
+    page.until("document.body.dataset.shown")
+    go(page, 3000)
+    for _ in range(6):
+        page.press("c")
+    first = page.run("Math.ceil(studio.machine.course.view[0])")
+    go(page, first)
+    view = page.run("studio.machine.course.view")
+    quick(page)
+    behind = []
+    for _ in range(9):
+        page.run("studio.machine.goOn('clock-on')")
+        page.until("studio.machine.isShown")
+        assert page.run("studio.machine.course.view") == view
+        behind.append(page.run("studio.machine.state.clock - document.getElementById('clock').value"))
+        assert page.run("(studio.machine.goOn('clock-on'), document.getElementById('clock').dispatchEvent(new KeyboardEvent('keydown')), "
+                        "studio.machine.wanted - document.getElementById('clock').value)") == 0
+        page.until("studio.machine.isShown")
+    assert max(behind) > 0
+    page.run("studio.machine.stop()")
+
+
+DOT = """pxscene 1
+picture 128 128
+depth 9
+solid wall 200 0 0
+front 0 0 300
+back 0 0 350
+side 1 0 -3
+solid dot 0 200 0
+front 0 0 10
+back 0 0 20
+side 0 1 -1
+side 0 -1 1
+show (wall + dot)
+end
+"""
+
+
+def test_a_small_image_of_depths_has_the_greys_of_the_large_one(page: Browser) -> None:
+    """Though the nearest depth is in no row that it shows. Each of its places has the colour of the first pixel there."""
+    assert pages.pasted(page, DOT) == "yes"
+    machine(page)
+    page.until("document.body.dataset.shown")
+    go(page, page.run("studio.machine.course.clocks"))
+    pages.view(page, "best depth")
+    width, height, large = pages.pixels(page, "array")
+    columns, rows, data = page.run("""(() => { const {sheet, tiles} = studio.machine.wall, {box} = tiles.find(({view}) => view.name === "best depth");
+      return [...box.slice(2), [...sheet.getContext("2d").getImageData(...box).data]] })()""")
+    firsts = [y * height // rows for y in range(rows)]
+    assert 1 not in firsts and len(set(large)) == 3
+    assert [tuple(data[at:at + 3]) for at in range(0, len(data), 4)] == [large[y * width + x * width // columns] for y in firsts for x in range(columns)]
