@@ -66,7 +66,12 @@ def at_clock(page: Browser, clock: int, x: int, y: int) -> None:
 def test_a_move_has_the_planes_that_it_changed(page: Browser) -> None:
     """By some thousand clocks of a scene, and by each clock of a listing with all fourteen acts, on and back."""
     assert called(page, MOVES, [(0, 3000), (3000, 20), (1200, 1260), (7, 7)]) == []
+    other = pages.source(page)
     pages.pasted(page, LISTING)
+    # (after the same clock of another text too)
+    pages.asked(page, "state", {"clock": 10}, other)
+    moved, whole = (pages.asked(page, "state", words, LISTING) for words in ({"clock": 11, "from": 10}, {"clock": 11}))
+    assert [moved[name] for name in ("micro", "operation")] == [whole[name] for name in ("micro", "operation")]
     steps = [(clock, clock + 1) for clock in range(called(page, CLOCKS))]
     assert steps[9:] and called(page, MOVES, steps + [(end, start) for start, end in steps[::7]]) == []
 

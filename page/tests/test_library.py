@@ -226,7 +226,7 @@ console.log(module, engine < 2 ** 20 || engine, whole < 2 ** 23 || whole);"""
 
 def test_a_state_is_made_after_another(tmp_path: Path, wasm: bytes) -> None:
     """Before, at and after the first clock of each operation, to the end: as the library makes it of the text, in words of its own, in those that are
-    given, shared ones too, and in those of the state before. A state of another array, a later one, too few words and lost ones are errors."""
+    given, shared ones too, and in those of the state before. A state of another array, a later one, too few words, too many and lost ones are errors."""
     lines = """
 const starts = px.course(text).map(({clock}) => clock), machine = px.machine(text, starts), {clocks} = machine, first = machine.state(0), wrong = [];
 const shared = new Uint32Array(new SharedArrayBuffer(first.words.byteLength)), own = new Uint32Array(first.words.length);
@@ -241,6 +241,6 @@ for (const [at, clock] of ends.entries()) {
 console.log(wrong.join(), ends.length > 100);
 const lost = new Uint32Array(first.words.length), small = px.state("pxscene 1\\npicture 4 2\\ndepth 4\\nsolid a 1 2 3\\nfront 1 0 0\\nback 0 0 9\\nshow a\\nend\\n", 0);
 structuredClone(lost.buffer, {transfer: [lost.buffer]});
-for (const words of [[small, 5], [machine.state(9), 8], [first, clocks + 1], [first, 5, own.subarray(1)], [first, 5, lost], [first, 5, new Float32Array(9)]])
+for (const words of [[small, 5], [machine.state(9), 8], [first, clocks + 1], [first, 5, own.subarray(1)], [first, 5, new Uint32Array(own.length + 1)], [first, 5, lost], [first, 5, new Float32Array(9)]])
   try { machine.after(...words); console.log("made"); } catch (error) { console.log(error.name); }"""
-    assert called(tmp_path, wasm, lines).splitlines() == ["true", *["RangeError"] * 4, "TypeError", "TypeError"]
+    assert called(tmp_path, wasm, lines).splitlines() == ["true", *["RangeError"] * 5, "TypeError", "TypeError"]

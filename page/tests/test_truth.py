@@ -404,14 +404,14 @@ def test_words_of_quick_play_have_the_colours_of_the_theme_and_room_for_all_line
 
 
 def test_quick_play_moves_neither_the_stretch_that_is_shown_nor_where_a_key_goes_on(page: Browser) -> None:
-    """At the left end of a stretch of the time line; a key on the slider, which is behind, goes on from the clock that was asked for last."""
+    """At the left end of a stretch of the time line, from 3000 * (1 - 0.8^5) = 2016.96 on, where eight pixels are 12 clocks; a key on the slider, which
+    is behind, goes on from the clock that was asked for last."""
     machine(page)
     page.until("document.body.dataset.shown")
     go(page, 3000)
-    for _ in range(6):
+    for _ in range(5):
         page.press("c")
-    first = page.run("Math.ceil(studio.machine.course.view[0])")
-    go(page, first)
+    go(page, 2017)
     view = page.run("studio.machine.course.view")
     quick(page)
     behind = []
