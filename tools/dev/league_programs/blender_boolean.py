@@ -1,6 +1,6 @@
 """Blender's exact boolean: one modifier after another, with the solver EXACT. inputs.py says what it reads and writes.
 
-Use: blender -b --factory-startup -P blender_boolean.py"""
+Use: blender -b --factory-startup --python-exit-code 1 -P blender_boolean.py -- OUT.off WORD .."""
 import os
 import sys
 
@@ -12,8 +12,7 @@ import inputs
 NAMES = {"+": "UNION", "-": "DIFFERENCE", "*": "INTERSECT"}
 
 
-def object_of(path):
-    points, facets = inputs.read_off(path)
+def object_of(points, facets):
     mesh = bpy.data.meshes.new("leaf")
     mesh.from_pydata(points, [], facets)
     mesh.update()
@@ -33,11 +32,8 @@ def joined(sign, left, right):
     return left
 
 
-def made(out, words):
-    bpy.ops.wm.read_factory_settings(use_empty=True)
-    mesh = inputs.folded(words, object_of, joined).data
-    mesh.calc_loop_triangles()
-    inputs.write_off(out, [point.co for point in mesh.vertices], [facet.vertices for facet in mesh.loop_triangles])
-
-
-inputs.answer_all(made)
+out, *words = sys.argv[sys.argv.index("--") + 1:]
+bpy.ops.wm.read_factory_settings(use_empty=True)
+mesh = inputs.folded(words, object_of, joined).data
+mesh.calc_loop_triangles()
+inputs.write(out, [point.co for point in mesh.vertices], [facet.vertices for facet in mesh.loop_triangles])

@@ -1,16 +1,17 @@
 """OpenCASCADE's booleans by gmsh, as its manual has them: volumes of plane surfaces, fused, cut and intersected,
 and the surfaces of the rest meshed with triangles. inputs.py says what it reads and writes.
 
-Use: python3 gmsh_boolean.py"""
+Use: python3 gmsh_boolean.py OUT.off WORD .."""
+import sys
+
 import gmsh
 
 import inputs
 
 
-def volume_of(path):
-    """The volume of an OFF file."""
-    numbers, facets = inputs.read_off(path)
-    points = [gmsh.model.occ.addPoint(*point) for point in numbers]
+def volume_of(corners, facets):
+    """The volume of a mesh."""
+    points = [gmsh.model.occ.addPoint(*corner) for corner in corners]
     lines, surfaces = {}, []
 
     def line(a, b):
@@ -47,20 +48,16 @@ def triangles(volumes):
     return points, out
 
 
-def made(out, words):
-    gmsh.clear()
-    volumes = inputs.folded(words, volume_of, joined)
-    gmsh.model.occ.synchronize()
-    for _, tag in volumes:
-        gmsh.model.mesh.setOutwardOrientation(tag)
-    gmsh.model.mesh.generate(2)
-    points, facets = triangles(volumes)
-    own = {tag: i for i, tag in enumerate(sorted({at for facet in facets for at in facet}))}
-    inputs.write_off(out, [points[tag] for tag in own], [[own[at] for at in facet] for facet in facets])
-
-
 gmsh.initialize()
 gmsh.option.setNumber("General.Verbosity", 1)
 gmsh.option.setNumber("Mesh.MeshSizeMax", 1e9)
 gmsh.option.setNumber("Mesh.MeshSizeMin", 1e8)
-inputs.answer_all(made)
+out, *words = sys.argv[1:]
+entities = inputs.folded(words, volume_of, joined)
+gmsh.model.occ.synchronize()
+for _, tag in entities:
+    gmsh.model.mesh.setOutwardOrientation(tag)
+gmsh.model.mesh.generate(2)
+points, facets = triangles(entities)
+own = {tag: i for i, tag in enumerate(sorted({at for facet in facets for at in facet}))}
+inputs.write(out, [points[tag] for tag in own], [[own[at] for at in facet] for facet in facets])
