@@ -126,8 +126,7 @@ def note_proved(sum_of):
     """Notes that `rt ci` made the libraries in crates/*/out of crates with this checksum, where none was before it."""
     if sum_of != gate.sum_crates():
         raise Trouble("the crates have another checksum than those that were proved")
-    with open(PROVED_OF, "w", encoding="ascii") as file:
-        file.write(sum_of)
+    ends.replaced(PROVED_OF, sum_of.encode())
 
 
 def need_proved():
@@ -146,8 +145,7 @@ def keep(path, leaf, of, line):
     os.makedirs(STORE, exist_ok=True)
     kept = os.path.join(STORE, leaf)
     shutil.copy(path, kept)
-    with open(kept + ".of", "w", encoding="utf-8") as file:
-        file.write("%s\n%s\n%s\n" % (of, line, hashlib.sha256(ends.content(kept)).hexdigest()))
+    ends.replaced(kept + ".of", ("%s\n%s\n%s\n" % (of, line, hashlib.sha256(ends.content(kept)).hexdigest())).encode())
 
 
 def lines_of(top):

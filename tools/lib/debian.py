@@ -66,8 +66,7 @@ def tree(place, names):
     os.umask(0o022)
     for name in names:
         installing.put(os.path.join(ends.TOP, name), os.path.join(top, name))
-    with open(installing.made(os.path.join(top, FOLDER, "changelog")), "w", encoding="utf-8") as file:
-        file.write(changelog())
+    ends.replaced(installing.made(os.path.join(top, FOLDER, "changelog")), changelog().encode())
     settle(top)
     return top
 
@@ -113,8 +112,7 @@ def lay_out_calls(to):
             installing.put(os.path.join(folder, leaf), os.path.join(to, leaf))
     for header in gate.HEADERS:
         for call in DECLARED.findall(ends.content(os.path.join(ends.TOP, header)).decode("utf-8")):
-            with open(os.path.join(to, call + ".3"), "w", encoding="ascii") as file:
-                file.write(".so man3/%s.3\n" % os.path.basename(header))
+            ends.replaced(os.path.join(to, call + ".3"), (".so man3/%s.3\n" % os.path.basename(header)).encode())
 
 
 def prebuilt():

@@ -124,10 +124,8 @@ def lay_out(usr, programs):
     for name, target in LINKS.items():
         os.symlink(os.path.relpath(target, os.path.dirname(name)), made(os.path.join(usr, name)))
     known_to_pip = os.path.join(usr, MODULES, "pxplanes-%s.dist-info" % version(), "METADATA")
-    with open(made(known_to_pip), "w", encoding="ascii") as file:
-        file.write(METADATA % version())
+    ends.replaced(made(known_to_pip), (METADATA % version()).encode())
     for page in PAGES:
         put(os.path.join(ends.TOP, "man", page), os.path.join(usr, MANUALS, page))
     for word in frame.WORDS:
-        with open(os.path.join(usr, MANUALS, "pxplanes-%s.1" % word), "w", encoding="utf-8") as file:
-            file.write(manuals.page(word, version()))
+        ends.replaced(os.path.join(usr, MANUALS, "pxplanes-%s.1" % word), manuals.page(word, version()).encode())

@@ -324,8 +324,7 @@ def prove(parts: set[str], lock: int) -> None:
             proof.note(why)
             raise Trouble("not proved or not built; the end of %s says why" % log) from None
         if not IS_KEPT.search(ends.content(log)):
-            with open(LAST, "w", encoding="ascii") as file:
-                file.write("%d %d\n" % (len(proof.names), time.monotonic() - proof.began))
+            ends.replaced(LAST, ("%d %d\n" % (len(proof.names), time.monotonic() - proof.began)).encode())
         if proof.has_library:
             os.replace(proof.apart, os.path.join(proof.room, "crates", LIBRARY))
         list_crates(proof.room, proof.names)

@@ -49,5 +49,4 @@ def has_passed(part, found):
 
 def note(part, found):
     """Notes that what has this key passed of a part."""
-    with open(installing.made(mark_of(part)), "w", encoding="ascii") as file:
-        file.write(found)
+    ends.replaced(installing.made(mark_of(part)), found.encode())

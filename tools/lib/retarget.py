@@ -57,8 +57,7 @@ def compiled(module: str, target: str, flags: tuple[str, ...], changes: tuple[tu
     """Compiles a module for another target, to library.o of a folder; its new text."""
     path = lambda leaf: os.path.join(place, leaf)
     text = translated(text_of(module, path("x86.ll")), head_of(target, place), changes, kept)
-    with open(path("new.ll"), "w", encoding="utf-8") as file:
-        file.write(text)
+    ends.replaced(path("new.ll"), text.encode())
     clang("--target=" + target, *flags, "-c", "-x", "ir", path("new.ll"), "-o", path("library.o"))
     return text
 

@@ -92,10 +92,8 @@ def become_program(own):
     said = SAID % installing.version()
     if text.count(said) != 1:
         raise Trouble("crates/%s/%s does not say the version %s" % (CRATE, NAMES, installing.version()))
-    with open(names, "w", encoding="utf-8") as file:
-        file.write(text.replace(said, SAID % version()))
-    with open(os.path.join(own, "src", "main.rt"), "w", encoding="utf-8") as file:
-        file.write(ends.content(library).decode("utf-8") + MAIN)
+    ends.replaced(names, text.replace(said, SAID % version()).encode())
+    ends.replaced(os.path.join(own, "src", "main.rt"), ends.content(library) + MAIN.encode())
     os.remove(library)
 
 
@@ -123,8 +121,7 @@ def archive(place):
     """Makes the archive of the library in a folder, and answers where it is."""
     path = lambda leaf: os.path.join(place, leaf)
     tried(lay_out(os.path.join(place, "tree")), path("module.bc"))
-    with open(path("named.ll"), "w", encoding="utf-8") as file:
-        file.write(named(retarget.text_of(path("module.bc"), path("tried.ll"))))
+    ends.replaced(path("named.ll"), named(retarget.text_of(path("module.bc"), path("tried.ll"))).encode())
     retarget.clang(*FLAGS, "-c", "-x", "ir", path("named.ll"), "-o", path("library.o"))
     done(["ar", "rcsD", path("library.a"), path("library.o")], "ar")
     return path("library.a")
