@@ -350,6 +350,7 @@ WALK = """async (clocks, isQuick) => {
       marks: late.every(each => isQuick ? each > -1 && each < 9 : each === 0),
       bits: seen.slice(0, 6).join() === [...Object.values(registers), numbers("best"), numbers("candidate")].join() && seen.slice(6).join("") === memory.slice(0, bits.used),
       said: !isQuick || machine.lines.lines[0].startsWith(`clock ${clock}   `) && machine.lines.lines[2] === (due.next ? machine.course.operations[due.operation][2] : "all is done: key B has the picture"),
+      sum: document.getElementById("sum").hidden,
       wall: redrawn(wall.sheet, () => wall.lay()),
       array: redrawn(document.getElementById("array"), () => { machine.painted = null; machine.paint(); }),
       quick: !isQuick || [machine.lines, bits.lines].every(each => redrawn(each.canvas, () => each.fit())),
@@ -457,3 +458,20 @@ def test_a_small_image_of_depths_has_the_greys_of_the_large_one(page: Browser) -
     firsts = [y * height // rows for y in range(rows)]
     assert 1 not in firsts and len(set(large)) == 3
     assert [tuple(data[at:at + 3]) for at in range(0, len(data), 4)] == [large[y * width + x * width // columns] for y in firsts for x in range(columns)]
+
+
+def test_the_array_ends_with_the_colours_of_the_picture(page: Browser) -> None:
+    machine(page)
+    page.until("document.body.dataset.shown")
+    go(page, page.run("studio.machine.course.clocks"))
+    pages.view(page, "best colours")
+    width, _, found = pages.pixels(page, "array")
+    rgb = called(page, "text => studio.library().then(px => [...px.colour(text).rgb])", source(page))
+    assert [found[y * width + x] for y in range(32) for x in range(48)] == [tuple(rgb[at:at + 3]) for at in range(0, len(rgb), 3)]
+
+
+def test_a_state_that_does_not_come_is_said(page: Browser) -> None:
+    machine(page)
+    page.until("document.body.dataset.shown === '0'")
+    page.run("(studio.machine.course.clocks += 9, studio.machine.goTo(studio.machine.course.clocks), 0)")
+    assert "there is no such clock" in page.until(NOTICE)
