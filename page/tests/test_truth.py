@@ -328,8 +328,8 @@ def test_what_quick_play_hides_is_of_the_clock_that_is_shown_after_it(page: Brow
     assert page.run(shown) == found
 
 
-# Goes by some clocks, one after the other, where it is quick as if it played, and gives what was wrong: all that is shown against the library,
-# each image against the same one drawn anew, and how many pixels the marks are behind the clock (none, or below eight where it is quick).
+# Shows some clocks, one after the other, where it is quick as if it played, and gives what was wrong: all that is shown against the library,
+# each image against the same one drawn again, and by how many pixels the marks are late (none, or below eight where it is quick).
 WALK = """async (clocks, isQuick) => {
   const {machine} = studio, {wall, player, strip, parts: {bits}} = machine, px = await studio.library(), {text} = machine, wrong = [], [x, y] = machine.pixel;
   const image = canvas => new Uint32Array(canvas.getContext("2d").getImageData(0, 0, canvas.width, canvas.height).data.buffer), slider = document.getElementById("clock");
