@@ -1,14 +1,13 @@
 -- What comes after a step, of a literal or of a group, begins with the next one.
-use Rattle.px_num.proofs.Basics.{◌≡◌, ◌+◌, ◌-◌, ◌^◌, ◌<◌, ◌≤◌, ◌==◌, ◌++◌, ◌∙◌, ℕ, true, not, List, ◌∷◌, All, drop, []}
-use Rattle.px_num.proofs.Basics.{get_or, length, map, flat_map, refl, ap, sym, subst, arith, common_steps, append_assoc}
+use Rattle.px_num.proofs.Basics.{◌≡◌, ◌+◌, ◌-◌, ◌<◌, ◌≤◌, ◌==◌, ◌++◌, ◌∙◌, ℕ, not, List, ◌∷◌, All, drop}
+use Rattle.px_num.proofs.Basics.{get_or, length, map, flat_map, ap, sym, subst, arith, common_steps, append_assoc}
 use Rattle.px_num.proofs.Basics.{length-append, length-map, drop_more, get_or-map, get_or-append_right}
 use Rattle.px_num.proofs.Basics.{get_or_append_left, All-filter, All-get_or}
-use Rattle.px_sched.proofs.Words.{AreKnown, At, Begin, BeginAt, BeginWith, behind_step, deep_part, Depths, end_of}
-use Rattle.px_sched.proofs.Words.{face_number, face_plane, Field, fraction_part, HasKnownLiterals, judged_from}
-use Rattle.px_sched.proofs.Words.{LayoutView, level, Linear, Literal, literal_of, literal_steps, literals}
-use Rattle.px_sched.proofs.Words.{literals_from, load_candidate, Macro, no_product, number_part, Open, others_of, plus}
-use Rattle.px_sched.proofs.Words.{Product, product_at, product_steps, products_from, SceneView, SolidView}
-use Rattle.px_sched.proofs.Words.{where_fraction}
+use Rattle.px_sched.proofs.Words.{AreKnown, around_edges, At, Begin, BeginAt, BeginWith, behind_step, depths_of}
+use Rattle.px_sched.proofs.Words.{edge_count, edges_count, end_of, face_count, HasKnownLiterals, judged_from, level}
+use Rattle.px_sched.proofs.Words.{Linear, Literal, literal_of, literal_steps, literals, literals_from, Macro}
+use Rattle.px_sched.proofs.Words.{no_product, Open, others_of, Product, product_at, product_steps, products_from}
+use Rattle.px_sched.proofs.Words.{SceneView, solid_of}
 use Rattle.px_sched.specs.declared.group.Group.{Group}
 use Rattle.px_macro.specs.declared.operation.Macro.TheVariants as m
 
@@ -25,16 +24,6 @@ module _ (scene : SceneView) (q : Literal) (rs : List Literal) where
   pub opens : literal_steps scene q rs ≡ Open ∷ behind_step scene q rs Open
   opens = grind arith
 
--- the operations that make a face the candidate, by their parts
-pub candidate_is : (l : LayoutView) (d : Depths) (s : SolidView) (face : ℕ) (form : Linear) (deep number : Field)
-    (n alive : ℕ) (clear : List Macro)
-    → form ≡ plus (face_plane s (end_of d) face) (2 ^ d.fraction_bits - 1) → deep ≡ deep_part l l.key_t
-    → number ≡ number_part l l.key_t → n ≡ face_number s face → alive ≡ l.alive
-    → clear ≡ where_fraction d (m.LoadConst (fraction_part l l.key_t) 0 ∷ [])
-    → m.LoadLinear form deep ∷ clear ++ m.LoadConst number n ∷ m.SetBit alive true ∷ [] ≡ load_candidate l d s face
-candidate_is l d s face form deep number n alive clear is_form is_deep is_number is_n is_alive is_clear =
-    rw (is_form, is_deep, is_number, is_n, is_alive, is_clear) refl
-
 -- the operation of an edge, behind a head
 pub sign_of_edge : (head tail : List Macro) (es : List Linear) (n at : ℕ) (e : Linear) → length es ≡ n
     → length head ≤ at → at - length head < n
@@ -43,10 +32,11 @@ sign_of_edge head tail es n at e size from to is =
     grind (arith, get_or-map, get_or-append_right, get_or_append_left, length-append, length-map)
 
 -- and one of a tail
-pub behind_edges : (head tail : List Macro) (es : List Linear) (n at : ℕ) → length es ≡ n → length head ≤ at
-    → n ≤ at - length head
-    → get_or tail (at - length head - n) m.All ≡ get_or (head ++ map m.KeepSign es ++ tail) at m.All
-behind_edges head tail es n at size from past =
+pub behind_edges : (scene : SceneView) (solid face : ℕ) (head tail : List Macro) (at place : ℕ)
+    → face < face_count (solid_of scene solid) → at ≡ length head + edge_count (solid_of scene solid) + place
+    → get_or tail place m.All ≡ get_or (around_edges scene solid face head tail) at m.All
+behind_edges scene solid face head tail at place there is =
+    let count = edges_count (solid_of scene solid) (end_of (depths_of scene)) face there in
     grind (arith, get_or-append_right, length-append, length-map)
 
 pub others_known : (scene : SceneView) (products : List Product) (g : Group) (rs : List Literal)

@@ -43,7 +43,7 @@ pub use Rattle.px_sched.specs.Layouts.{bit_length, deep_part, depth_part, fracti
 pub use Rattle.px_sched.specs.Layouts.{layout_with, LayoutView, need_of, number_part}
 pub use Rattle.px_sched.specs.Numbers.{after_step, after_steps, dropped, flipped, is_passing, key, KeyedPixel, Keys}
 pub use Rattle.px_sched.specs.Numbers.{loaded, residue, where_passing, without_fraction}
-pub use Rattle.px_sched.specs.Onward.{AreKnown, BeginWith, HasKnownLiterals}
+pub use Rattle.px_sched.specs.Onward.{AreKnown, around_edges, BeginWith, HasKnownLiterals, passed_plane}
 pub use Rattle.px_sched.specs.Passes.{candidate_faces, confirm, judge, keep_covered, literal, literal_at, literal_steps}
 pub use Rattle.px_sched.specs.Passes.{literals, literals_of, load_candidate, no_literal, no_solid, operations, others}
 pub use Rattle.px_sched.specs.Passes.{passes, product_steps, solid_of, steps_with, where_fraction, where_passed}

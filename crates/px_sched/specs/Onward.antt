@@ -1,10 +1,13 @@
 -- The rest of the steps from one of them on; products whose passes can be made.
 -- Only proofs and private functions stand on it.
-use Rattle.std.specs.Prelude.{◌≡◌, ◌<◌, ℕ, All, List, [], ◌∷◌, ◌++◌, length, Option, Some, None}
+use Rattle.std.specs.Prelude.{◌≡◌, ◌<◌, ◌^◌, ℕ, All, Bool, List, [], ◌∷◌, ◌++◌, length, Option, Some, None, if◌then◌else◌}
+use Rattle.px_face.specs.Faces.{face_plane}
 use Rattle.px_macro.specs.declared.operation.Macro.{Macro}
 use Rattle.px_model.specs.Cells.{depths_of, end_of}
 use Rattle.px_model.specs.Scenes.{SceneView}
 use Rattle.px_normal.specs.declared.product.Product.{Product}
+use Rattle.px_num.specs.Forms.{plus}
+use Rattle.px_num.specs.declared.linear.Linear.{Linear}
 use Rattle.px_sched.specs.declared.literal.Literal.{Literal}
 use Rattle.px_sched.specs.declared.step.Step.{Step}
 use Rattle.px_sched.specs.Passes.{keep_covered, literals, solid_of}
@@ -20,6 +23,12 @@ pub record BeginWith (scene : SceneView) (q : Literal) (rs : List Literal) (step
 abbrev pub BeginIfAny : SceneView → (q : Literal) → (rs : List Literal) → List Step → Option Step → Type 0
 BeginIfAny scene q rs steps None = steps ≡ []
 BeginIfAny scene q rs steps (Some step) = BeginWith scene q rs steps step
+
+-- the plane of a face, or a whole cell further
+abbrev pub passed_plane : SceneView → (solid face : ℕ) → (further : Bool) → Linear
+passed_plane scene solid face further =
+    let plane = face_plane (solid_of scene solid) (end_of (depths_of scene)) face in
+    if further then plus plane (2 ^ scene.fraction_bits) else plane
 
 -- operations around those of the edges of a face
 abbrev pub around_edges : SceneView → (solid face : ℕ) → (head tail : List Macro) → List Macro

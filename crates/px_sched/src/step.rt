@@ -6,14 +6,14 @@ ghost use Rattle.px_macro.specs.declared.operation.Macro.{Macro};
 ghost use Rattle.px_macro.specs.declared.operation.Macro.TheVariants as m;
 ghost use Rattle.px_model.specs.Cells.{depths_of, end_of};
 ghost use Rattle.px_model.specs.Scenes.{SceneView};
-ghost use Rattle.px_num.specs.Forms.{IsInHalfRange, plus};
+ghost use Rattle.px_num.specs.Forms.{IsInHalfRange};
 ghost use Rattle.px_sched.specs.declared.literal.Literal.{Literal};
 ghost use Rattle.px_sched.specs.declared.step.Step.TheVariants as st;
-ghost use Rattle.px_sched.specs.Layouts.{LayoutView, deep_part};
-ghost use Rattle.px_sched.specs.Passes.{candidate, operations, solid_of};
+ghost use Rattle.px_sched.specs.Layouts.{LayoutView};
+ghost use Rattle.px_sched.specs.Passes.{candidate, load_candidate, operations, solid_of, where_passed};
 ghost use Rattle.px_sched.specs.StepCursors.{opens_literal};
 ghost use Rattle.px_sched.specs.Steps.{IsStep, IsStepOf, behind_step, candidates_end, candidates_from, confirmed_from, drops_from, fronts_from, first_candidate, judged_from, turns_from};
-ghost use Rattle.px_sched.specs.Onward.{AreKnown, BeginIfAny, BeginWith, around_edges};
+ghost use Rattle.px_sched.specs.Onward.{AreKnown, BeginIfAny, BeginWith, around_edges, passed_plane};
 
 use crate::layout::Layout;
 use crate::literal::Literal;
@@ -88,48 +88,23 @@ impl Step {
         requires at { at < length (operations scene.now layout.now self) }
         ensures { result ≡ get_or (operations scene.now layout.now self) at m.All }
     {
-        let live = [Macro::All, Macro::KeepBit(layout.alive, true)];
         match self {
             Step::Start => [Macro::All, background(scene, layout)][at],
             Step::Open => [Macro::All, Macro::SetBit(layout.alive, false)][at],
             Step::Candidate(solid, face) => candidate(scene, solid, face, layout, at),
             Step::Drop(solid, face) => {
-                let plane = plane_at(scene, solid, face);
                 let set = Macro::SetBit(layout.alive, false);
-                around(
-                    scene,
-                    solid,
-                    face,
-                    &live,
-                    &where_passed(layout, &plane, set),
-                    at,
-                )
+                where_passed(scene, solid, face, false, layout, set, at)
             }
             Step::Clear | Step::Begin(_) => [Macro::All, Macro::SetBit(layout.par, false)][at],
             Step::Front(solid, face) => {
-                let form = cell_behind(scene, solid, face);
                 let turn = Macro::Toggle(layout.par);
-                around(
-                    scene,
-                    solid,
-                    face,
-                    &live,
-                    &where_passed(layout, &form, turn),
-                    at,
-                )
+                where_passed(scene, solid, face, true, layout, turn, at)
             }
             Step::Confirm => judged(layout, false, at),
             Step::Turn(_, solid, face) => {
-                let plane = plane_at(scene, solid, face);
                 let turn = Macro::Toggle(layout.par);
-                around(
-                    scene,
-                    solid,
-                    face,
-                    &live,
-                    &where_passed(layout, &plane, turn),
-                    at,
-                )
+                where_passed(scene, solid, face, false, layout, turn, at)
             }
             Step::Close(_, plain) => judged(layout, !plain, at),
             Step::Merge => [
@@ -313,22 +288,93 @@ fn candidate(scene: &Scene, solid: u8, face: usize, layout: &Layout, at: usize) 
     ensures { result ≡
         get_or (candidate layout.now (depths_of scene.now) (solid_of scene.now solid) face) at m.All }
 {
-    let load = Macro::LoadLinear(rounded_up(scene, solid, face), layout.t_deep());
-    let face_number = number_of(solid_at(scene, solid), face);
-    let number = Macro::LoadConst(layout.t_number(), u64::from(face_number));
-    let set = Macro::SetBit(layout.alive, true);
-    if scene.fraction_bits() == 0 {
-        around(scene, solid, face, &[Macro::All], &[load, number, set], at)
+    let tail = edge_count(solid_at(scene, solid)) + 1;
+    if at < tail {
+        before_tail(scene, solid, face, &[Macro::All], at)
     } else {
-        let clear = Macro::LoadConst(layout.t_fraction(), 0);
-        around(
-            scene,
-            solid,
-            face,
-            &[Macro::All],
-            &[load, clear, number, set],
-            at,
-        )
+        load(scene, solid, face, layout, at - tail)
+    }
+}
+
+/// One of the operations of such a step behind those of the edges.
+fn load(scene: &Scene, solid: u8, face: usize, layout: &Layout, place: usize) -> Macro
+    requires solid { solid < length scene.now.solids }
+    requires face { face < face_count (solid_of scene.now solid) }
+    requires bits { layout.now.fraction_bits ≡ scene.now.fraction_bits }
+    requires place { place < length (load_candidate layout.now (depths_of scene.now) (solid_of scene.now solid) face) }
+    ensures { result ≡ get_or
+        (load_candidate layout.now (depths_of scene.now) (solid_of scene.now solid) face) place m.All }
+{
+    let clears = usize::from(scene.fraction_bits() != 0);
+    if place == 0 {
+        let unit = power(scene.fraction_bits()) as u32;
+        Macro::LoadLinear(plane_at(scene, solid, face).plus(unit - 1), layout.t_deep())
+    } else if place == clears {
+        Macro::LoadConst(layout.t_fraction(), 0)
+    } else if place == clears + 1 {
+        let number = number_of(solid_at(scene, solid), face);
+        Macro::LoadConst(layout.t_number(), u64::from(number))
+    } else {
+        Macro::SetBit(layout.alive, true)
+    }
+}
+
+/// An operation of a step that does something where a face covers, and its plane, or a whole cell further, is not
+/// above the candidate.
+#[inline(always)]
+fn where_passed(
+    scene: &Scene,
+    solid: u8,
+    face: usize,
+    further: bool,
+    layout: &Layout,
+    operation: Macro,
+    at: usize,
+) -> Macro
+    requires solid { solid < length scene.now.solids }
+    requires face { face < face_count (solid_of scene.now solid) }
+    requires at { at < edge_count (solid_of scene.now solid) + 4 }
+    ensures { result ≡ get_or (where_passed layout.now (end_of (depths_of scene.now)) (solid_of scene.now solid) face
+        (passed_plane scene.now solid face further) operation) at m.All }
+{
+    let tail = edge_count(solid_at(scene, solid)) + 2;
+    if at < tail {
+        let live = [Macro::All, Macro::KeepBit(layout.alive, true)];
+        before_tail(scene, solid, face, &live, at)
+    } else {
+        let plane = passed_plane(scene, solid, face, further);
+        [Macro::KeepAtMost(plane, layout.t_deep()), operation][at - tail]
+    }
+}
+
+/// An operation of a head, or one of a face's edges behind it.
+#[inline(always)]
+#[tactic(auto, using(crate::proofs::StepLemmas::sign_of_edge))]
+fn before_tail(scene: &Scene, solid: u8, face: usize, head: &[Macro], at: usize) -> Macro
+    requires solid { solid < length scene.now.solids }
+    requires face { face < face_count (solid_of scene.now solid) }
+    requires at { at < length head.now + edge_count (solid_of scene.now solid) }
+    ensures { (tail : List Macro) → result ≡ get_or (around_edges scene.now solid face head.now tail) at m.All }
+{
+    laws_of_edges();
+    if at < head.len() {
+        head[at]
+    } else {
+        Macro::KeepSign(edge_at(solid_at(scene, solid), scene.end(), face, at - head.len()))
+    }
+}
+
+/// The plane of a face, or a whole cell further.
+fn passed_plane(scene: &Scene, solid: u8, face: usize, further: bool) -> Linear
+    requires solid { solid < length scene.now.solids }
+    requires face { face < face_count (solid_of scene.now solid) }
+    ensures { result ≡ passed_plane scene.now solid face further }
+{
+    let plane = plane_at(scene, solid, face);
+    if further {
+        plane.plus(power(scene.fraction_bits()) as u32)
+    } else {
+        plane
     }
 }
 
@@ -340,58 +386,6 @@ fn plane_at(scene: &Scene, solid: u8, face: usize) -> Linear
     ensures half { IsInHalfRange result }
 {
     plane_of(solid_at(scene, solid), scene.end(), face)
-}
-
-/// Its plane less than a cell further, by which a value becomes that of its cell without the fraction.
-fn rounded_up(scene: &Scene, solid: u8, face: usize) -> Linear
-    requires solid { solid < length scene.now.solids }
-    requires face { face < face_count (solid_of scene.now solid) }
-    ensures { result ≡ plus (face_plane (solid_of scene.now solid) (end_of (depths_of scene.now)) face)
-        (2 ^ scene.now.fraction_bits - 1) }
-{
-    let unit = power(scene.fraction_bits()) as u32;
-    plane_at(scene, solid, face).plus(unit - 1)
-}
-
-/// Its plane a whole cell further.
-fn cell_behind(scene: &Scene, solid: u8, face: usize) -> Linear
-    requires solid { solid < length scene.now.solids }
-    requires face { face < face_count (solid_of scene.now solid) }
-    ensures { result ≡ plus (face_plane (solid_of scene.now solid) (end_of (depths_of scene.now)) face)
-        (2 ^ scene.now.fraction_bits) }
-{
-    plane_at(scene, solid, face).plus(power(scene.fraction_bits()) as u32)
-}
-
-/// The operations of a step behind those of a face's edges: one is carried out where a form is not above the candidate.
-#[inline(always)]
-fn where_passed(layout: &Layout, form: &Linear, operation: Macro) -> [Macro; 2]
-    ensures { result ≡ m.KeepAtMost form.now (deep_part layout.now layout.now.key_t) ∷ operation ∷ [] }
-{
-    [Macro::KeepAtMost(*form, layout.t_deep()), operation]
-}
-
-/// An operation of a head, one for each edge of a face, and a tail.
-#[inline(always)]
-#[tactic(auto, using(crate::proofs::StepLemmas::sign_of_edge, crate::proofs::StepLemmas::behind_edges))]
-fn around(scene: &Scene, solid: u8, face: usize, head: &[Macro], tail: &[Macro], at: usize) -> Macro
-    requires solid { solid < length scene.now.solids }
-    requires face { face < face_count (solid_of scene.now solid) }
-    requires at { at < length (around_edges scene.now solid face head.now tail.now) }
-    ensures { result ≡ get_or (around_edges scene.now solid face head.now tail.now) at m.All }
-{
-    laws_of_edges();
-    if at < head.len() {
-        return head[at];
-    }
-    let solid = solid_at(scene, solid);
-    let edges = edge_count(solid);
-    let place = at - head.len();
-    if place < edges {
-        Macro::KeepSign(edge_at(solid, scene.end(), face, place))
-    } else {
-        tail[place - edges]
-    }
 }
 
 /// The key of the background.
