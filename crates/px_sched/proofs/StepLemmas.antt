@@ -25,10 +25,11 @@ module _ (scene : SceneView) (q : Literal) (rs : List Literal) where
   opens = grind arith
 
 -- the operation of an edge, behind a head
-pub sign_of_edge : (head tail : List Macro) (es : List Linear) (n at : ℕ) (e : Linear) → length es ≡ n
-    → length head ≤ at → at - length head < n
-    → e ≡ get_or es (at - length head) (level 0) → m.KeepSign e ≡ get_or (head ++ map m.KeepSign es ++ tail) at m.All
-sign_of_edge head tail es n at e size from to is =
+pub sign_of_edge : (head tail : List Macro) (es : List Linear) (n at place : ℕ) (e : Linear) → length es ≡ n
+    → at ≡ length head + place → place < n
+    → e ≡ get_or es place (level 0) → m.KeepSign e ≡ get_or (head ++ map m.KeepSign es ++ tail) at m.All
+sign_of_edge head tail es n at place e size from to is =
+    let behind : at - length head ≡ place = omega (arith, from) in
     grind (arith, get_or-map, get_or-append_right, get_or_append_left, length-append, length-map)
 
 -- and one of a tail

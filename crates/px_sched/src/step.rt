@@ -1,5 +1,5 @@
 //! The steps of a literal's passes. Each is a few operations that begin with "all".
-ghost use Rattle.std.specs.Prelude.{◌≡◌, ◌+◌, ◌-◌, ◌*◌, ◌^◌, ◌<◌, ◌≤◌, [], ◌∷◌, ◌++◌, ◌==◌, if◌then◌else◌, true, false, List, IfErr, IfOk, IfSome, get_or, length};
+ghost use Rattle.std.specs.Prelude.{◌≡◌, ◌+◌, ◌-◌, ◌*◌, ◌^◌, ◌<◌, ◌≤◌, [], ◌∷◌, ◌++◌, ◌==◌, if◌then◌else◌, true, false, ℕ, List, IfErr, IfOk, IfSome, get_or, length};
 ghost use Rattle.px_face.specs.Edges.{edge_count};
 ghost use Rattle.px_face.specs.Faces.{face_count, face_plane};
 ghost use Rattle.px_macro.specs.declared.operation.Macro.{Macro};
@@ -80,7 +80,8 @@ impl Step {
     }
 
     /// One of the operations.
-    // A copy of an operation that was just made waits for its parts to be stored.
+    // A copy of an operation that was just made waits for its parts to be stored, and a list of them is cleared in
+    // each call, whatever the step.
     #[inline(always)]
     pub fn operation(self, scene: &Scene, layout: &Layout, at: usize) -> Macro
         requires step { IsStep scene.now self }
@@ -89,14 +90,14 @@ impl Step {
         ensures { result ≡ get_or (operations scene.now layout.now self) at m.All }
     {
         match self {
-            Step::Start => [Macro::All, background(scene, layout)][at],
-            Step::Open => [Macro::All, Macro::SetBit(layout.alive, false)][at],
+            Step::Start => behind_all(background(scene, layout), at),
+            Step::Open => behind_all(Macro::SetBit(layout.alive, false), at),
             Step::Candidate(solid, face) => candidate(scene, solid, face, layout, at),
             Step::Drop(solid, face) => {
                 let set = Macro::SetBit(layout.alive, false);
                 where_passed(scene, solid, face, false, layout, set, at)
             }
-            Step::Clear | Step::Begin(_) => [Macro::All, Macro::SetBit(layout.par, false)][at],
+            Step::Clear | Step::Begin(_) => behind_all(Macro::SetBit(layout.par, false), at),
             Step::Front(solid, face) => {
                 let turn = Macro::Toggle(layout.par);
                 where_passed(scene, solid, face, true, layout, turn, at)
@@ -107,12 +108,12 @@ impl Step {
                 where_passed(scene, solid, face, false, layout, turn, at)
             }
             Step::Close(_, plain) => judged(layout, !plain, at),
-            Step::Merge => [
-                Macro::All,
-                Macro::KeepBit(layout.alive, true),
-                Macro::KeepLess(layout.key_t, layout.key_b),
-                Macro::Copy(layout.key_t, layout.key_b),
-            ][at],
+            Step::Merge => match at {
+                0 => Macro::All,
+                1 => Macro::KeepBit(layout.alive, true),
+                2 => Macro::KeepLess(layout.key_t, layout.key_b),
+                _ => Macro::Copy(layout.key_t, layout.key_b),
+            },
         }
     }
 
@@ -266,17 +267,25 @@ pub fn solid_at(scene: &Scene, solid: u8) -> &Solid
     &scene.solids()[usize::from(solid)]
 }
 
+/// An operation of a step of two: all pixels, and one more.
+fn behind_all(operation: Macro, at: usize) -> Macro
+    requires { at < 2 }
+    ensures { result ≡ get_or (m.All ∷ operation ∷ []) at m.All }
+{
+    if at == 0 { Macro::All } else { operation }
+}
+
 /// An operation of a step that ends the life of a candidate where the parity is so.
 fn judged(layout: &Layout, parity: bool, at: usize) -> Macro
     requires { at < 3 }
     ensures { result ≡ get_or (m.All ∷ m.KeepBit layout.now.par parity
         ∷ m.SetBit layout.now.alive false ∷ []) at m.All }
 {
-    [
-        Macro::All,
-        Macro::KeepBit(layout.par, parity),
-        Macro::SetBit(layout.alive, false),
-    ][at]
+    match at {
+        0 => Macro::All,
+        1 => Macro::KeepBit(layout.par, parity),
+        _ => Macro::SetBit(layout.alive, false),
+    }
 }
 
 /// An operation of a step that makes a face the candidate where it covers.
@@ -289,8 +298,10 @@ fn candidate(scene: &Scene, solid: u8, face: usize, layout: &Layout, at: usize) 
         get_or (candidate layout.now (depths_of scene.now) (solid_of scene.now solid) face) at m.All }
 {
     let tail = edge_count(solid_at(scene, solid)) + 1;
-    if at < tail {
-        before_tail(scene, solid, face, &[Macro::All], at)
+    if at == 0 {
+        Macro::All
+    } else if at < tail {
+        edge(scene, solid, face, at - 1)
     } else {
         load(scene, solid, face, layout, at - tail)
     }
@@ -338,30 +349,30 @@ fn where_passed(
         (passed_plane scene.now solid face further) operation) at m.All }
 {
     let tail = edge_count(solid_at(scene, solid)) + 2;
-    if at < tail {
-        let live = [Macro::All, Macro::KeepBit(layout.alive, true)];
-        before_tail(scene, solid, face, &live, at)
+    if at == 0 {
+        Macro::All
+    } else if at == 1 {
+        Macro::KeepBit(layout.alive, true)
+    } else if at < tail {
+        edge(scene, solid, face, at - 2)
+    } else if at == tail {
+        Macro::KeepAtMost(passed_plane(scene, solid, face, further), layout.t_deep())
     } else {
-        let plane = passed_plane(scene, solid, face, further);
-        [Macro::KeepAtMost(plane, layout.t_deep()), operation][at - tail]
+        operation
     }
 }
 
-/// An operation of a head, or one of a face's edges behind it.
+/// The operation of one of a face's edges, which stands behind any head.
 #[inline(always)]
-#[tactic(auto, using(crate::proofs::StepLemmas::sign_of_edge))]
-fn before_tail(scene: &Scene, solid: u8, face: usize, head: &[Macro], at: usize) -> Macro
+fn edge(scene: &Scene, solid: u8, face: usize, place: usize) -> Macro
     requires solid { solid < length scene.now.solids }
     requires face { face < face_count (solid_of scene.now solid) }
-    requires at { at < length head.now + edge_count (solid_of scene.now solid) }
-    ensures { (tail : List Macro) → result ≡ get_or (around_edges scene.now solid face head.now tail) at m.All }
+    requires place { place < edge_count (solid_of scene.now solid) }
+    ensures { (head tail : List Macro) (at : ℕ) → at ≡ length head + place →
+        result ≡ get_or (around_edges scene.now solid face head tail) at m.All }
 {
     laws_of_edges();
-    if at < head.len() {
-        head[at]
-    } else {
-        Macro::KeepSign(edge_at(solid_at(scene, solid), scene.end(), face, at - head.len()))
-    }
+    Macro::KeepSign(edge_at(solid_at(scene, solid), scene.end(), face, place))
 }
 
 /// The plane of a face, or a whole cell further.
