@@ -1,11 +1,11 @@
 -- Operations one after another, of which some are made at once.
-use Rattle.px_num.proofs.Basics.{◌≡◌, ℕ, suc, ◌+◌, ◌*◌, ◌<◌, ◌≤◌, List, [], ◌∷◌, ◌++◌, length, drop, get_or, refl}
+use Rattle.px_num.proofs.Basics.{◌≡◌, ℕ, suc, ◌+◌, ◌*◌, ◌<◌, ◌≤◌, List, [], ◌∷◌, ◌++◌, length, drop, get_or, refl, sym}
 use Rattle.px_num.proofs.Basics.{ap, ◌∙◌, arith, common_steps, All, between, drop-append-le, drop-cons}
 use Rattle.px_num.proofs.Basics.{length-append}
 use Rattle.px_asm.proofs.Words.{after_clocks, AgreeIn, all_clocked, all_clocked-append, all_known, all_made}
 use Rattle.px_asm.proofs.Words.{all_renewed, BecomeTheSameAgain, CanMake, Device, get_or-drop}
-use Rattle.px_asm.proofs.Words.{grid_after_clocks, HasGrid, IsLawful, IsOperated, IsOvertaken, Known}
-use Rattle.px_asm.proofs.Words.{length-drop, Macro, micros, micros_on, renewed, StayKnown, untouched}
+use Rattle.px_asm.proofs.Words.{grid_after_clocks, HasGrid, IsLawful, IsOperated, IsOvertaken, joined, Known}
+use Rattle.px_asm.proofs.Words.{length-drop, Macro, micros, micros_on, none_known, renewed, StayKnown, untouched}
 use Rattle.std.proofs.lemmas.Slice.{between_to_end}
 use Rattle.px_asm.proofs.MakingLemmas.{count_of_them}
 use Rattle.px_macro.specs.declared.operation.Macro.TheVariants as m
@@ -19,9 +19,29 @@ pub all_stay : (ops : List Macro) → all_renewed ops all_known ≡ all_known
 all_stay [] = refl
 all_stay (op ∷ ops) = ap (all_renewed ops) (stays_known op) ∙ all_stay ops
 
-pub renewed_both : (xs ys : List Macro) (k : Known) → all_renewed (xs ++ ys) k ≡ all_renewed ys (all_renewed xs k)
+renewed_both : (xs ys : List Macro) (k : Known) → all_renewed (xs ++ ys) k ≡ all_renewed ys (all_renewed xs k)
 renewed_both [] ys k = refl
 renewed_both (x ∷ xs) ys k = renewed_both xs ys (renewed x k)
+
+-- what was known before stays so
+stays_joined : (op : Macro) (k j : Known) → renewed op (joined k j) ≡ joined (renewed op k) j
+stays_joined m.All k j = refl
+stays_joined op k j = refl
+
+all_joined : (ops : List Macro) (k j : Known) → all_renewed ops (joined k j) ≡ joined (all_renewed ops k) j
+all_joined [] k j = refl
+all_joined (op ∷ ops) k j = ap (all_renewed ops) (stays_joined op k j) ∙ all_joined ops (renewed op k) j
+
+either_way : (k j : Known) → joined k j ≡ joined j k
+either_way k j = grind arith
+
+-- so what some operations reset may be known first
+pub reset_again : (xs ys : List Macro) (k : Known)
+    → all_renewed (xs ++ ys) k ≡ all_renewed xs (joined k (all_renewed ys none_known))
+reset_again xs ys k =
+    let again = all_renewed ys none_known in
+    renewed_both xs ys k ∙ all_joined ys none_known (all_renewed xs k) ∙ either_way again (all_renewed xs k)
+    ∙ sym (all_joined xs k again)
 
 -- an operation that is made at once leaves what its clocks leave, once those that reset what it does are made
 pub overtaken : StayKnown → BecomeTheSameAgain → (bits : ℕ) (op : Macro) (rest : List Macro) (before now : Device)

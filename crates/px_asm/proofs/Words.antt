@@ -7,7 +7,7 @@ pub use Rattle.px_array.specs.Slots.{HasRun, HasWorked}
 pub use Rattle.px_array.specs.declared.micro.Micro.{Micro}
 pub use Rattle.px_array.specs.declared.micro.TreeOp.{TreeOp}
 pub use Rattle.px_array.specs.declared.micro.TreeOp.TheVariants.{Clear, Feed, Hold}
-pub use Rattle.px_asm.specs.AtOnce.{IsOvertaken, known_of}
+pub use Rattle.px_asm.specs.AtOnce.{IsOvertaken, joined, known_of}
 pub use Rattle.px_asm.specs.Making.{cycles_on, micros_on}
 pub use Rattle.px_asm.specs.Microprograms.{bits_of, HaveTheirPlaces, LeaveTheMeaning, LeaveTheMeanings}
 pub use Rattle.px_asm.specs.Micros.{act_at, all_micros, copy_act, cycles, less_act, micro_at, micros, tree_at}

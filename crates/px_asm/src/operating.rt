@@ -92,7 +92,7 @@ pub fn law_of_renewal()
 }
 
 /// Which of the tree, the carry and the latch an operation resets.
-#[derive(Clone, Copy)]
+#[derive(Clone, Copy, Default)]
 pub struct Renewal {
     pub tree: bool,
     pub carry: bool,

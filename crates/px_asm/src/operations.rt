@@ -3,9 +3,9 @@ ghost use Rattle.std.specs.Bool.{OnTrue};
 ghost use Rattle.std.specs.Prelude.{◌≡◌, ◌∷◌, ◌++◌, ◌+◌, ◌*◌, ◌≤◌, true, length};
 ghost use Rattle.px_array.specs.Arrays.{HasGrid};
 ghost use Rattle.px_array.specs.Slots.{HasRun, HasWorked};
-ghost use Rattle.px_asm.specs.AtOnce.{IsOvertaken, known_of};
+ghost use Rattle.px_asm.specs.AtOnce.{IsOvertaken, joined, known_of};
 ghost use Rattle.px_asm.specs.Making.{cycles_on};
-ghost use Rattle.px_asm.specs.Operated.{all_known, all_renewed, renewed, untouched};
+ghost use Rattle.px_asm.specs.Operated.{all_known, all_renewed, none_known, renewed, untouched};
 ghost use Rattle.px_asm.specs.Operations.{CanMake, all_made};
 
 use crate::making::make_operation;
@@ -38,13 +38,21 @@ pub fn make_before<A: Operating>(array: &mut A, operations: &[Macro], behind: &[
         ≤ (A.view array.old).device.clocks + 82 * length operations.now }
     ensures run { HasRun (A.view array.old) (A.view array.new) }
 {
+    let again = known_after(Renewal::default(), behind);
     for (i, m) in operations.iter().enumerate() {
-        make_one(array, m, &operations[i + 1..], behind);
+        make_one(array, m, &operations[i + 1..], behind, again);
     }
 }
 
 /// Makes one operation, at once if the rest and those after it reset all that it does.
-fn make_one<A: Operating>(array: &mut A, m: &Macro, rest: &[Macro], behind: &[Macro])
+fn make_one<A: Operating>(
+    array: &mut A,
+    m: &Macro,
+    rest: &[Macro],
+    behind: &[Macro],
+    again: Renewal,
+)
+    requires again { known_of again ≡ all_renewed behind.now none_known }
     requires can { CanMake A.BITS (m.now ∷ (rest.now ++ behind.now)) (A.view array.old).device }
     ensures device { all_made (rest.now ++ behind.now) (A.view array.new).device
         ≡ all_made (m.now ∷ (rest.now ++ behind.now)) (A.view array.old).device }
@@ -57,31 +65,31 @@ fn make_one<A: Operating>(array: &mut A, m: &Macro, rest: &[Macro], behind: &[Ma
         (A.view array.old) (A.view array.new) }
 {
     law_of_renewal();
-    if is_overtaken(m, rest, behind) {
+    if is_overtaken(m, rest, behind, again) {
         array.operate(m);
     } else {
         make_operation(array, m);
     }
 }
 
-/// Whether the rest and those after it reset all that an operation does.
-#[tactic(auto, using(crate::proofs::OperationsLemmas::renewed_both))]
-fn is_overtaken(m: &Macro, rest: &[Macro], behind: &[Macro]) -> bool
+/// Whether the rest and those after it, which reset so much again, reset all that an operation does.
+#[tactic(auto, using(crate::proofs::OperationsLemmas::reset_again))]
+fn is_overtaken(m: &Macro, rest: &[Macro], behind: &[Macro], again: Renewal) -> bool
+    requires { known_of again ≡ all_renewed behind.now none_known }
     ensures { OnTrue result (IsOvertaken m.now (rest.now ++ behind.now)) }
 {
-    let known = known_after(left_by(m), rest);
-    known_after(known, behind).is_whole()
+    known_after(left_by(m, again), rest).is_whole()
 }
 
-/// What an operation that is made at once leaves as its clocks do.
-fn left_by(m: &Macro) -> Renewal
-    ensures { known_of result ≡ untouched m.now all_known }
+/// What an operation that is made at once leaves as its clocks do, and what is reset again.
+fn left_by(m: &Macro, again: Renewal) -> Renewal
+    ensures { known_of result ≡ joined (untouched m.now all_known) (known_of again) }
 {
     let begun = renewal_of(m);
     Renewal {
-        tree: !begun.tree,
-        carry: !begun.carry,
-        latch: !begun.latch,
+        tree: !begun.tree || again.tree,
+        carry: !begun.carry || again.carry,
+        latch: !begun.latch || again.latch,
     }
 }
 
