@@ -107,7 +107,7 @@ fn grown(
     if is_shut(solid, far, fraction_bits, block) {
         return found;
     }
-    let (first, second) = block.halves();
+    let (first, second) = block.parts(found);
     let half_grown = grown(found, solid, far, fraction_bits, &first);
     grown(half_grown, solid, far, fraction_bits, &second)
 }
@@ -144,6 +144,9 @@ fn is_shut(solid: &Solid, far: u32, fraction_bits: u32, block: &Block) -> bool
     ensures { result ≡ true → (x y z : ℕ) →
         in_block (is_inside solid.now (depths far fraction_bits)) block.now x y z ≡ false }
 {
+    if !block.is_worth_a_look() {
+        return false;
+    }
     let front = furthest_front(solid.fronts(), block);
     let back = nearest_back(solid.backs(), end_value(far, fraction_bits), block);
     leaves_none(&front, &back, fraction_bits, block)
@@ -212,9 +215,12 @@ fn furthest_front(fronts: &[Face], block: &Block) -> Linear
         → value_at result x y ≤ℤ pos value }
 {
     let mut found = Linear::default();
+    let mut furthest = 0;
     for face in fronts {
-        if found.value(block.x0, block.y0) < face.plane.value(block.x0, block.y0) {
+        let value = face.plane.value(block.x0, block.y0);
+        if furthest < value {
             found = face.plane;
+            furthest = value;
         }
     }
     found
@@ -233,9 +239,12 @@ fn nearest_back(backs: &[Face], end: u64, block: &Block) -> Linear
         b: 0,
         c: end as i64,
     };
+    let mut nearest = end as i64;
     for face in backs {
-        if face.plane.value(block.x0, block.y0) < found.value(block.x0, block.y0) {
+        let value = face.plane.value(block.x0, block.y0);
+        if value < nearest {
             found = face.plane;
+            nearest = value;
         }
     }
     found
