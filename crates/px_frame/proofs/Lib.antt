@@ -8,4 +8,5 @@ pub mod RowLaws
 pub mod ScaleLemmas
 pub mod ShownLemmas
 pub mod StripLemmas
+pub mod WaitingLemmas
 pub mod Words

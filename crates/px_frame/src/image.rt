@@ -12,7 +12,8 @@ ghost use Rattle.px_frame.specs.Strips.{strip_number};
 
 use crate::plane::{Plane, across_of, field_of, shown_pixel, side_shown};
 use crate::strip::Strip;
-use arrayvec::ArrayString;
+use crate::waiting::make_room;
+use arrayvec::{ArrayString, ArrayVec};
 use itoa::Buffer;
 use px_array::Array;
 use px_io::{Failed, Sink, write_whole};
@@ -69,14 +70,21 @@ pub fn write_rows<A: Array, O: Sink>(
     let width = side_shown(plane, scene.width());
     let height = side_shown(plane, scene.height());
     let header = header(width, height);
-    write_whole(out, header.as_str().as_bytes())?;
+    let mut waiting = ArrayVec::new();
+    waiting
+        .try_extend_from_slice(header.as_str().as_bytes())
+        .unwrap();
     let across = across_of(plane);
     let mut strip = Strip::new();
     for y in 0..height {
         strip.enter_row(array, field, scene.width(), across * y);
         let row = row_bytes(&strip, scene, plane, width, y);
-        write_whole(out, &row[..3 * width as usize])?;
+        make_room(out, &mut waiting, 3 * width as usize)?;
+        waiting
+            .try_extend_from_slice(&row[..3 * width as usize])
+            .unwrap();
     }
+    write_whole(out, waiting.as_slice())?;
     Ok(())
 }
 
