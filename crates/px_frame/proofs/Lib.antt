@@ -8,5 +8,4 @@ pub mod RowLaws
 pub mod ScaleLemmas
 pub mod ShownLemmas
 pub mod StripLemmas
-pub mod WaitingLemmas
 pub mod Words

@@ -14,7 +14,6 @@ mod plane;
 mod refinement_law;
 mod strip;
 mod theorem;
-mod waiting;
 
 pub use drawing::{deliver, deliver_images, draw_job};
 pub use fine_fault::FineFault;

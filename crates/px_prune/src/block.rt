@@ -3,13 +3,8 @@ ghost use Rattle.std.specs.Prelude.{◌<◌, ◌≤◌};
 ghost use Rattle.px_model.specs.declared.limits.TheConstants.{MAX_PICTURE_SIZE};
 
 use crate::CellBox;
+use px_normal::EVERYTHING;
 use px_num::Linear;
-
-/// The extent of a block of 32 by 32 pixels, the largest whose pixels are looked at one by one.
-const SMALL_EXTENT: u32 = 62;
-
-/// The least extent of a block that is worth a look as a whole.
-const LEAST_EXTENT: u32 = 8;
 
 /// The pixels `x0` to `x1` of the rows `y0` to `y1`, both ends included.
 #[derive(Clone, Copy)]
@@ -25,7 +20,7 @@ pub(crate) struct Block {
 }
 
 impl Block {
-    ghost use Rattle.std.specs.Prelude.{◌≡◌, ◌<◌, ◌-◌, ◌^◌, ◌≤ℤ◌, ◌&&◌, ◌||◌, nat_lt, ℕ, true, false};
+    ghost use Rattle.std.specs.Prelude.{◌≡◌, ◌<◌, ◌-◌, ◌^◌, ◌≤ℤ◌, ◌&&◌, ◌||◌, nat_le, nat_lt, ℕ, true, false};
     ghost use Rattle.px_num.specs.Forms.{IsInTreeRange, IsWithin, value_at};
     ghost use Rattle.px_model.specs.Scenes.{IsPlane};
     ghost use Rattle.px_model.specs.declared.limits.TheConstants.{MAX_PICTURE_SIZE};
@@ -59,21 +54,20 @@ impl Block {
         self.x0 == self.x1 && self.y0 == self.y1
     }
 
-    /// Whether its pixels may be looked at one by one.
+    /// Whether its pixels may be looked at one by one, at most 32 by 32.
     pub(crate) fn is_small(&self) -> bool {
-        (self.x1 - self.x0) + (self.y1 - self.y0) <= SMALL_EXTENT
+        (self.x1 - self.x0) + (self.y1 - self.y0) <= 62
     }
 
-    /// Whether to ask if it is shut: not where so few pixels cost less than the answer, nor where it is taller than wide, since its
-    /// parts are asked.
-    pub(crate) fn is_worth_a_look(&self) -> bool {
-        let across = self.x1 - self.x0;
-        let down = self.y1 - self.y0;
-        down <= across && LEAST_EXTENT <= across + down
+    /// Whether it is at least as wide as it is high.
+    pub(crate) fn is_wide(&self) -> bool
+        ensures { result ≡ nat_le (self.now.y1 - self.now.y0) (self.now.x1 - self.now.x0) }
+    {
+        self.y1 - self.y0 <= self.x1 - self.x0
     }
 
-    /// Its two parts, cut across the longer side: at an edge of the box that was found, where one crosses it, otherwise in the
-    /// middle. Where a box was found, it began at the upper left, and the lower or right part may let it grow more: that comes first.
+    /// Its two parts, cut across the longer side at an edge of the box that was found, where one crosses it, otherwise in the
+    /// middle. Where a box was found, it began at the upper left: the lower or right part may let it grow more, and comes first.
     pub(crate) fn parts(&self, found: Option<CellBox>) -> (Block, Block)
         requires { is_one_pixel self.now ≡ false }
         ensures parts { (x y : ℕ) → has_pixel self.now x y
@@ -81,33 +75,20 @@ impl Block {
         ensures first { extent result.0 < extent self.now }
         ensures second { extent result.1 < extent self.now }
     {
-        match found {
-            None => self.cut(self.x0, self.x1, self.y0, self.y1),
-            Some(found) => {
-                let (low, high) = self.cut(found.x0, found.x1, found.y0, found.y1);
-                (high, low)
-            }
-        }
-    }
-
-    /// Its parts before and behind an edge of these columns or rows.
-    fn cut(&self, x0: u32, x1: u32, y0: u32, y1: u32) -> (Block, Block)
-        requires { is_one_pixel self.now ≡ false }
-        ensures parts { (x y : ℕ) → has_pixel self.now x y
-            ≡ (has_pixel result.0 x y || has_pixel result.1 x y) }
-        ensures first { extent result.0 < extent self.now }
-        ensures second { extent result.1 < extent self.now }
-    {
+        let edges = found.unwrap_or(EVERYTHING);
         let mut low = *self;
         let mut high = *self;
-        if self.x1 - self.x0 < self.y1 - self.y0 {
-            low.y1 = last_before(self.y0, self.y1, y0, y1);
-            high.y0 = low.y1 + 1;
-        } else {
-            low.x1 = last_before(self.x0, self.x1, x0, x1);
+        if self.is_wide() {
+            low.x1 = last_before(self.x0, self.x1, edges.x0, edges.x1);
             high.x0 = low.x1 + 1;
+        } else {
+            low.y1 = last_before(self.y0, self.y1, edges.y0, edges.y1);
+            high.y0 = low.y1 + 1;
         }
-        (low, high)
+        match found {
+            None => (low, high),
+            Some(_) => (high, low),
+        }
     }
 
     /// The least value of a form in the block, which it has at a corner.
@@ -137,7 +118,6 @@ impl Block {
 /// The last place before an edge of a range that crosses the places `low` to `high`, or before their middle.
 fn last_before(low: u32, high: u32, from: u32, to: u32) -> u32
     requires places { low < high }
-    requires few { high < MAX_PICTURE_SIZE }
     ensures from { low ≤ result }
     ensures to { result < high }
 {
@@ -146,6 +126,6 @@ fn last_before(low: u32, high: u32, from: u32, to: u32) -> u32
     } else if low <= to && to < high {
         to
     } else {
-        (low + high) / 2
+        low + (high - low) / 2
     }
 }

@@ -57,13 +57,8 @@ pub fn box_of(scene: &Scene, solid: usize) -> Option<CellBox>
     ensures joined { result ≡ bounding_box scene.now solid }
 {
     let picture = Block::of_picture(scene.width(), scene.height());
-    grown(
-        None,
-        &scene.solids()[solid],
-        scene.far(),
-        scene.fraction_bits(),
-        &picture,
-    )
+    let solid = &scene.solids()[solid];
+    grown(None, solid, scene.far(), scene.fraction_bits(), &picture)
 }
 
 /// The boxes of the solids of a scene, in their order.
@@ -104,7 +99,7 @@ fn grown(
     if block.is_pixel() {
         return hull(found, reach);
     }
-    if is_shut(solid, far, fraction_bits, block) {
+    if block.is_wide() && is_shut(solid, far, fraction_bits, block) {
         return found;
     }
     let (first, second) = block.parts(found);
@@ -144,9 +139,6 @@ fn is_shut(solid: &Solid, far: u32, fraction_bits: u32, block: &Block) -> bool
     ensures { result ≡ true → (x y z : ℕ) →
         in_block (is_inside solid.now (depths far fraction_bits)) block.now x y z ≡ false }
 {
-    if !block.is_worth_a_look() {
-        return false;
-    }
     let front = furthest_front(solid.fronts(), block);
     let back = nearest_back(solid.backs(), end_value(far, fraction_bits), block);
     leaves_none(&front, &back, fraction_bits, block)
@@ -215,12 +207,9 @@ fn furthest_front(fronts: &[Face], block: &Block) -> Linear
         → value_at result x y ≤ℤ pos value }
 {
     let mut found = Linear::default();
-    let mut furthest = 0;
     for face in fronts {
-        let value = face.plane.value(block.x0, block.y0);
-        if furthest < value {
+        if found.value(block.x0, block.y0) < face.plane.value(block.x0, block.y0) {
             found = face.plane;
-            furthest = value;
         }
     }
     found
@@ -239,12 +228,9 @@ fn nearest_back(backs: &[Face], end: u64, block: &Block) -> Linear
         b: 0,
         c: end as i64,
     };
-    let mut nearest = end as i64;
     for face in backs {
-        let value = face.plane.value(block.x0, block.y0);
-        if value < nearest {
+        if face.plane.value(block.x0, block.y0) < found.value(block.x0, block.y0) {
             found = face.plane;
-            nearest = value;
         }
     }
     found

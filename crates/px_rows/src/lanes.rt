@@ -39,9 +39,6 @@ pub fn add_constant(words: &mut [u64], mask: u64, k: i64)
     let number = word_of(k);
     let mut carry = 0;
     for t in 0..words.len() {
-        if carry == 0 && number >> t == 0 {
-            return;
-        }
         let addend = mask & all_of(word_bit(number, t));
         let word = words[t];
         words[t] = word ^ addend ^ carry;
