@@ -2,9 +2,8 @@ use Rattle.px_num.proofs.Basics.{◌≡◌, ◌+◌, ◌*◌, ◌^◌, ◌<◌, 
 use Rattle.px_frame.proofs.Words.{doublings_of, header, on_err, row_of_pixels, shown_pixel, side_shown}
 use Rattle.px_frame.proofs.Words.{stored_number}
 use Rattle.px_frame.proofs.MeanLemmas.{next_in_strip}
-use Rattle.px_frame.proofs.RowLaws.{other_row, rows_broken, rows_grown}
+use Rattle.px_frame.proofs.RowLaws.{all_written, front_written, other_row, rows_broken, rows_grown}
 use Rattle.px_frame.proofs.ShownLemmas.{few_doublings, row_shown}
-use Rattle.px_frame.proofs.WaitingLemmas.{all_written, front_written}
 use Rattle.px_frame.proofs.image.write_rows.Goals as goal
 
 pub returns-in_err-make_room-clause-err : goal.returns-in_err-make_room-clause-err
@@ -17,21 +16,18 @@ returns-in_err-make_room-clause-err g c =
 
 pub returns-in_err-write_whole-clause-err : goal.returns-in_err-write_whole-clause-err
 returns-in_err-write_whole-clause-err g c =
-    let wide = rw c.width.ensures.value at c.side_shown-width.ensures in
-    let high = rw c.height.ensures.value at c.side_shown-height.ensures in
     let end : c.loop-y.y ≡ c.side_shown-height.result = omega arith in
     let rest = rw c.as_slice.ensures.value at c.in_err-write_whole.ensures.err in
     let front = front_written _ _ _ _ _ c.loop-y.invariant.front rest in
-    on_err _ (rw (end, wide, high) at front)
+    on_err _ (rw (end, c.side_shown-width.ensures, c.side_shown-height.ensures, c.width.ensures.value, c.height.ensures.value)
+    at front)
 
 pub returns-clause-ok : goal.returns-clause-ok
 returns-clause-ok g c =
-    let wide = rw c.width.ensures.value at c.side_shown-width.ensures in
-    let high = rw c.height.ensures.value at c.side_shown-height.ensures in
     let end : c.loop-y.y ≡ c.side_shown-height.result = omega arith in
     let rest = rw c.as_slice.ensures.value at c.in_ok-write_whole.ensures.ok in
     let all = all_written _ _ _ _ _ c.loop-y.invariant.front rest in
-    rw (end, wide, high) at all
+    rw (end, c.side_shown-width.ensures, c.side_shown-height.ensures, c.width.ensures.value, c.height.ensures.value) at all
 
 pub loop-y-preserved : goal.loop-y-preserved
 loop-y-preserved g c =
