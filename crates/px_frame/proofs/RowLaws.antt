@@ -7,6 +7,7 @@ use Rattle.px_frame.proofs.Words.{row_of_pixels, SinkState, State, takes_both, T
 use Rattle.std.proofs.lemmas.List.{append-nil}
 use Rattle.std.proofs.lemmas.Grind.{take-set_at}
 use Rattle.px_num.proofs.RangeLaws.{range_cut, same_parts}
+use Rattle.px_frame.specs.Waiting.{TakesAllBut}
 
 range_join : (n m : ℕ) → range_with_len 0 n ++ range_with_len n m ≡ range_with_len 0 (n + m)
 range_join n m = grind (arith, range_cut)
@@ -44,26 +45,39 @@ pixels_grown pixel x y bytes old new filled is grown =
     grown ∙ ap (λ front. front ++ bytes) filled ∙ ap (λ more. row_of_pixels x pixel y ++ more) is
     ∙ made_more (λ x. pixel x y) x
 
--- one row more
-pub rows_grown : (a b c : SinkState) (front : List ℕ) (row : ℕ → List ℕ) (y : ℕ)
-    → TakesAll a b (front ++ flat_map row (range_with_len 0 y)) → TakesAll b c (row y)
-    → TakesAll a c (front ++ flat_map row (range_with_len 0 (y + 1)))
-rows_grown a b c front row y written next =
-    let more = append_assoc front (made row y) (row y) ∙ ap (λ bytes. front ++ bytes) (made_more row y) in
-    rw more at (takes_both a b c (front ++ made row y) (row y) written next)
+-- those that wait are written, or a front of them
+module _ (a b c : SinkState) (waiting bytes : List ℕ) (but : TakesAllBut waiting a b bytes) where
+  pub all_written : TakesAll b c waiting → TakesAll a c bytes
+  all_written next = rw but.whole at (takes_both a b c but.gone waiting but.all next)
 
--- a front of one row more is one of the whole
-pub rows_broken : (a b c : SinkState) (front : List ℕ) (row : ℕ → List ℕ) (y height : ℕ) → y < height
-    → TakesAll a b (front ++ flat_map row (range_with_len 0 y)) → TakesFront b c (row y)
-    → TakesFront a c (front ++ flat_map row (range_with_len 0 height))
-rows_broken a b c front row y height above written next =
-    let rest = height - (y + 1) in
-    let all : y + 1 + rest ≡ height = omega arith in
+  pub none_waits : TakesAll b c waiting → TakesAllBut [] a c bytes
+  none_waits next = record { gone = bytes; whole = append-nil bytes; all = all_written next }
+
+  pub front_written : TakesFront b c waiting → TakesFront a c bytes
+  front_written next = rw but.whole at (front_after a b c but.gone waiting but.all next)
+
+-- one row more waits
+pub rows_grown : (a b : SinkState) (waiting front : List ℕ) (row : ℕ → List ℕ) (y : ℕ)
+    → TakesAllBut waiting a b (front ++ flat_map row (range_with_len 0 y))
+    → TakesAllBut (waiting ++ row y) a b (front ++ flat_map row (range_with_len 0 (y + 1)))
+rows_grown a b waiting front row y but =
     let more = append_assoc front (made row y) (row y) ∙ ap (λ bytes. front ++ bytes) (made_more row y) in
-    let whole = append_assoc front (made row (y + 1)) (flat_map row (range_with_len (y + 1) rest))
-    ∙ ap (λ bytes. front ++ bytes) (made_all row (y + 1) rest ∙ ap (made row) all) in
-    rw whole at (front_before a c (front ++ made row (y + 1)) (flat_map row (range_with_len (y + 1) rest))
-    (rw more at (front_after a b c (front ++ made row y) (row y) written next)))
+    record {
+      gone = but.gone;
+      whole = sym (append_assoc but.gone waiting (row y)) ∙ ap (λ bytes. bytes ++ row y) but.whole ∙ more;
+      all = but.all;
+    }
+
+-- a front of some rows is one of the whole
+pub rows_broken : (a b : SinkState) (front : List ℕ) (row : ℕ → List ℕ) (y height : ℕ) → y < height
+    → TakesFront a b (front ++ flat_map row (range_with_len 0 y))
+    → TakesFront a b (front ++ flat_map row (range_with_len 0 height))
+rows_broken a b front row y height above some =
+    let rest = height - y in
+    let all : y + rest ≡ height = omega arith in
+    let whole = append_assoc front (made row y) (flat_map row (range_with_len y rest))
+    ∙ ap (λ bytes. front ++ bytes) (made_all row y rest ∙ ap (made row) all) in
+    rw whole at (front_before a b (front ++ made row y) (flat_map row (range_with_len y rest)) some)
 
 -- an image is that of the pixels in the picture
 pub same_pixels : (width height : ℕ) (f g : (x y : ℕ) → List ℕ) → ((x y : ℕ) → x < width → y < height → f x y ≡ g x y)

@@ -19,3 +19,4 @@ pub mod RefinedLaw
 pub mod Refusals
 pub mod Stored
 pub mod Strips
+pub mod Waiting

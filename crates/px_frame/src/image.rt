@@ -1,7 +1,8 @@
 //! Image files in the raw form of Netpbm's pixel maps.
-ghost use Rattle.std.specs.Prelude.{◌≡◌, ◌+◌, ◌*◌, ◌^◌, ◌<◌, ◌≤◌, OnErr, OnOk, take};
+ghost use Rattle.std.specs.Prelude.{◌≡◌, ◌+◌, ◌*◌, ◌^◌, ◌<◌, ◌≤◌, ℕ, List, OnErr, OnOk, take};
+ghost use Rattle.arrayvec.specs.ArrayVec.{array_vec_len};
 ghost use Rattle.px_io.specs.Counts.{HasCause};
-ghost use Rattle.px_io.specs.Reports.{TakesAll, TakesFront};
+ghost use Rattle.px_io.specs.Reports.{SinkState, TakesAll, TakesFront};
 ghost use Rattle.px_array.specs.Arrays.{IsOpen};
 ghost use Rattle.px_sched.specs.Layouts.{need_of};
 ghost use Rattle.px_frame.specs.MeanSums.{HoldsShown};
@@ -9,16 +10,20 @@ ghost use Rattle.px_frame.specs.Picture.{header, row_of_pixels, three_bytes};
 ghost use Rattle.px_frame.specs.Stored.{HasColumns, HasRows, doublings_of, field_image};
 ghost use Rattle.px_frame.specs.Stored.{shown_pixel, stored_image};
 ghost use Rattle.px_frame.specs.Strips.{strip_number};
+ghost use Rattle.px_frame.specs.Waiting.{TakesAllBut};
 
 use crate::plane::{Plane, across_of, field_of, shown_pixel, side_shown};
 use crate::strip::Strip;
-use arrayvec::ArrayString;
+use arrayvec::{ArrayString, ArrayVec};
 use itoa::Buffer;
 use px_array::Array;
 use px_io::{Failed, Sink, write_whole};
 use px_macro::Field;
 use px_model::{MAX_PICTURE_SIZE, Scene};
 use px_sched::Layout;
+
+/// So many bytes are gathered before they are written: who reads a pipe takes each of its pieces by itself.
+const MAX_WAITING: usize = 16384;
 
 /// Three bytes a pixel, for the widest picture.
 const ROW_BYTES: usize = 3 * MAX_PICTURE_SIZE as usize;
@@ -69,13 +74,43 @@ pub fn write_rows<A: Array, O: Sink>(
     let width = side_shown(plane, scene.width());
     let height = side_shown(plane, scene.height());
     let header = header(width, height);
-    write_whole(out, header.as_str().as_bytes())?;
+    let mut waiting = ArrayVec::new();
+    let text = header.as_str().as_bytes();
+    waiting.try_extend_from_slice(text).unwrap();
     let across = across_of(plane);
     let mut strip = Strip::new();
     for y in 0..height {
         strip.enter_row(array, field, scene.width(), across * y);
         let row = row_bytes(&strip, scene, plane, width, y);
-        write_whole(out, &row[..3 * width as usize])?;
+        make_room(out, &mut waiting, 3 * width as usize)?;
+        waiting
+            .try_extend_from_slice(&row[..3 * width as usize])
+            .unwrap();
+    }
+    write_whole(out, waiting.as_slice())?;
+    Ok(())
+}
+
+/// Writes the bytes that wait, where so many more have no room behind them.
+#[tactic(auto, using(crate::proofs::RowLaws::none_waits))]
+fn make_room<O: Sink>(
+    out: &mut O,
+    waiting: &mut ArrayVec<u8, MAX_WAITING>,
+    more: usize,
+) -> Result<(), Failed>
+    requires { more ≤ MAX_WAITING }
+    ensures ok { (before : SinkState) (bytes : List ℕ) →
+        TakesAllBut waiting.old.items before (O.state out.old) bytes →
+        OnOk result (TakesAllBut waiting.new.items before (O.state out.new) bytes) }
+    ensures room { OnOk result (array_vec_len waiting.new + more ≤ MAX_WAITING) }
+    ensures err { (before : SinkState) (bytes : List ℕ) →
+        TakesAllBut waiting.old.items before (O.state out.old) bytes →
+        OnErr result (TakesFront before (O.state out.new) bytes) }
+    ensures cause { HasCause (O.state out.old).faults (O.state out.new).faults result }
+{
+    if waiting.remaining_capacity() < more {
+        write_whole(out, waiting.as_slice())?;
+        waiting.clear();
     }
     Ok(())
 }

@@ -115,6 +115,9 @@ fn add_bits(numbers: &mut [u32; 8], bits: u32, value: u32)
     ensures { (j : ℕ) → j < 8 → get_or numbers.new j 0
         ≡ get_or numbers.old j 0 + (if nat_bit bits j then value else 0) }
 {
+    if bits == 0 {
+        return;
+    }
     for j in 0..8 {
         numbers[j] += bit_value(bits, j, value);
     }

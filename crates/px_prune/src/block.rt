@@ -2,10 +2,9 @@
 ghost use Rattle.std.specs.Prelude.{◌<◌, ◌≤◌};
 ghost use Rattle.px_model.specs.declared.limits.TheConstants.{MAX_PICTURE_SIZE};
 
+use crate::CellBox;
+use px_normal::EVERYTHING;
 use px_num::Linear;
-
-/// The extent of a block of 32 by 32 pixels, the largest whose pixels are looked at one by one.
-const SMALL_EXTENT: u32 = 62;
 
 /// The pixels `x0` to `x1` of the rows `y0` to `y1`, both ends included.
 #[derive(Clone, Copy)]
@@ -21,7 +20,7 @@ pub(crate) struct Block {
 }
 
 impl Block {
-    ghost use Rattle.std.specs.Prelude.{◌≡◌, ◌<◌, ◌-◌, ◌^◌, ◌≤ℤ◌, ◌&&◌, ◌||◌, nat_lt, ℕ, true, false};
+    ghost use Rattle.std.specs.Prelude.{◌≡◌, ◌<◌, ◌-◌, ◌^◌, ◌≤ℤ◌, ◌&&◌, ◌||◌, nat_le, nat_lt, ℕ, true, false};
     ghost use Rattle.px_num.specs.Forms.{IsInTreeRange, IsWithin, value_at};
     ghost use Rattle.px_model.specs.Scenes.{IsPlane};
     ghost use Rattle.px_model.specs.declared.limits.TheConstants.{MAX_PICTURE_SIZE};
@@ -55,29 +54,41 @@ impl Block {
         self.x0 == self.x1 && self.y0 == self.y1
     }
 
-    /// Whether its pixels may be looked at one by one.
+    /// Whether its pixels may be looked at one by one, at most 32 by 32.
     pub(crate) fn is_small(&self) -> bool {
-        (self.x1 - self.x0) + (self.y1 - self.y0) <= SMALL_EXTENT
+        (self.x1 - self.x0) + (self.y1 - self.y0) <= 62
     }
 
-    /// Its two halves, across the longer side.
-    pub(crate) fn halves(&self) -> (Block, Block)
+    /// Whether it is at least as wide as it is high.
+    pub(crate) fn is_wide(&self) -> bool
+        ensures { result ≡ nat_le (self.now.y1 - self.now.y0) (self.now.x1 - self.now.x0) }
+    {
+        self.y1 - self.y0 <= self.x1 - self.x0
+    }
+
+    /// Its two parts, cut across the longer side at an edge of the box that was found, where one crosses it, otherwise in the
+    /// middle. Where a box was found, it began at the upper left: the lower or right part may let it grow more, and comes first.
+    pub(crate) fn parts(&self, found: Option<CellBox>) -> (Block, Block)
         requires { is_one_pixel self.now ≡ false }
         ensures parts { (x y : ℕ) → has_pixel self.now x y
             ≡ (has_pixel result.0 x y || has_pixel result.1 x y) }
         ensures first { extent result.0 < extent self.now }
         ensures second { extent result.1 < extent self.now }
     {
-        let mut first = *self;
-        let mut second = *self;
-        if self.x1 - self.x0 < self.y1 - self.y0 {
-            first.y1 = (self.y0 + self.y1) / 2;
-            second.y0 = first.y1 + 1;
+        let edges = found.unwrap_or(EVERYTHING);
+        let mut low = *self;
+        let mut high = *self;
+        if self.is_wide() {
+            low.x1 = last_before(self.x0, self.x1, edges.x0, edges.x1);
+            high.x0 = low.x1 + 1;
         } else {
-            first.x1 = (self.x0 + self.x1) / 2;
-            second.x0 = first.x1 + 1;
+            low.y1 = last_before(self.y0, self.y1, edges.y0, edges.y1);
+            high.y0 = low.y1 + 1;
         }
-        (first, second)
+        match found {
+            None => (low, high),
+            Some(_) => (high, low),
+        }
     }
 
     /// The least value of a form in the block, which it has at a corner.
@@ -101,5 +112,20 @@ impl Block {
         let x = if form.a < 0 { self.x0 } else { self.x1 };
         let y = if form.b < 0 { self.y0 } else { self.y1 };
         form.value(x, y)
+    }
+}
+
+/// The last place before an edge of a range that crosses the places `low` to `high`, or before their middle.
+fn last_before(low: u32, high: u32, from: u32, to: u32) -> u32
+    requires places { low < high }
+    ensures from { low ≤ result }
+    ensures to { result < high }
+{
+    if low < from && from <= high {
+        from - 1
+    } else if low <= to && to < high {
+        to
+    } else {
+        low + (high - low) / 2
     }
 }

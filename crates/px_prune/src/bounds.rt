@@ -57,13 +57,8 @@ pub fn box_of(scene: &Scene, solid: usize) -> Option<CellBox>
     ensures joined { result ≡ bounding_box scene.now solid }
 {
     let picture = Block::of_picture(scene.width(), scene.height());
-    grown(
-        None,
-        &scene.solids()[solid],
-        scene.far(),
-        scene.fraction_bits(),
-        &picture,
-    )
+    let solid = &scene.solids()[solid];
+    grown(None, solid, scene.far(), scene.fraction_bits(), &picture)
 }
 
 /// The boxes of the solids of a scene, in their order.
@@ -104,10 +99,10 @@ fn grown(
     if block.is_pixel() {
         return hull(found, reach);
     }
-    if is_shut(solid, far, fraction_bits, block) {
+    if block.is_wide() && is_shut(solid, far, fraction_bits, block) {
         return found;
     }
-    let (first, second) = block.halves();
+    let (first, second) = block.parts(found);
     let half_grown = grown(found, solid, far, fraction_bits, &first);
     grown(half_grown, solid, far, fraction_bits, &second)
 }

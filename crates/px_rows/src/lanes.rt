@@ -36,6 +36,9 @@ pub fn add_constant(words: &mut [u64], mask: u64, k: i64)
         (u +ℤ (if nat_bit mask j then k else pos 0)) }
     ensures words { length words.new ≡ length words.old }
 {
+    if k == 0 {
+        return;
+    }
     let number = word_of(k);
     let mut carry = 0;
     for t in 0..words.len() {

@@ -57,16 +57,16 @@ fn scene_of_three_rows() -> &'static [u8] {
 }
 
 /// Words, and in how many calls a sink is given what they write of three rows and is finished: of an
-/// image a head and each row, in `tile` 512 pixels at once, and of a text all.
+/// image so small all, in `tile` a head and 512 pixels of a row at once, and of a text all.
 const CALLS: [(&[&str], u64); 8] = [
-    (&["render"], 9),
-    (&["colour"], 5),
+    (&["render"], 3),
+    (&["colour"], 2),
     (&["tidy"], 2),
     (&["plan"], 2),
     (&["cost"], 2),
-    (&["shadow"], 5),
+    (&["shadow"], 2),
     (&["tile", "2", "3"], 5),
-    (&["refine", "2"], 5),
+    (&["refine", "2"], 2),
 ];
 
 #[test]

@@ -25,5 +25,5 @@ pub returns : goal.returns
 returns t c cells is =
     let inside = is_inside c.args.solid.now (depths c.args.far c.args.fraction_bits)
     in let half_grown = c.grown-half_grown.ensures cells is
-    in by_halves cells inside c.args.block.now c.halves.result.0 c.halves.result.1 c.halves.ensures.parts _
-    (c.grown.ensures (with_block cells inside c.halves.result.0) half_grown)
+    in by_halves cells inside c.args.block.now c.parts.result.0 c.parts.result.1 c.parts.ensures.parts _
+    (c.grown.ensures (with_block cells inside c.parts.result.0) half_grown)
