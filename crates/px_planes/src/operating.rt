@@ -46,15 +46,10 @@ pub(crate) fn operate_planes<const N: usize>(
     }
 }
 
-/// Whether an operation looks at each word in which a pixel is enabled bit by bit, however many these
-/// are.
-pub(crate) fn is_made_by_words(m: &Macro) -> bool {
+/// Whether an operation has no form: the tree then stands still, and its clocks, which take whole rows, may be faster.
+pub(crate) fn is_without_form(m: &Macro) -> bool {
     match m {
-        Macro::LoadLinear(..)
-        | Macro::KeepAtMost(..)
-        | Macro::LoadConst(..)
-        | Macro::Copy(..)
-        | Macro::KeepLess(..) => true,
+        Macro::LoadConst(..) | Macro::Copy(..) | Macro::KeepLess(..) => true,
         _ => false,
     }
 }
@@ -70,6 +65,9 @@ fn operate_part(planes: &mut Planes, reach: Reach, m: &Macro, ny: u32)
     requires part { IsPartial m.now }
     ensures { IsDone m.now ny (length planes.old.enable) planes.old planes.new }
 {
+    if reach.from >= reach.to {
+        return;
+    }
     match m {
         Macro::KeepBit(at, v) => keep_bit(planes, *at, *v, ny),
         Macro::SetBit(at, v) => set_bit(planes, *at, *v, ny),
@@ -97,9 +95,6 @@ fn operate_words(planes: &mut Planes, reach: Reach, m: &Macro, ny: u32)
     requires wordwise { IsWordwise m.now }
     ensures { IsDone m.now ny (length planes.old.enable) planes.old planes.new }
 {
-    if reach.from >= reach.to {
-        return;
-    }
     let mut room = [0; 40];
     let offsets = &mut room[..offset_bits(m)];
     make_offsets(m, ny, offsets);

@@ -12,7 +12,7 @@ ghost use Rattle.px_planes.specs.Pixels.{HasPixels, pixels_in};
 ghost use Rattle.px_tree.specs.Nodes.{IsGrid};
 
 use crate::acts::act_planes;
-use crate::operating::{is_made_by_words, operate_planes};
+use crate::operating::{is_without_form, operate_planes};
 use crate::planes::Planes;
 use crate::reach::{Reach, is_crowd, whole};
 use crate::shelf::Shelf;
@@ -202,7 +202,7 @@ impl<const N: usize> OperatingGrid for PlaneGrid<N> {
 fn is_faster_by_clocks(planes: &Planes, reach: Reach, m: &Macro) -> bool
     ensures { OnTrue result (IsCrowd planes.now) }
 {
-    is_made_by_words(m) && is_crowd(planes, reach)
+    is_without_form(m) && is_crowd(planes, reach)
 }
 
 /// Rows of 0 for the pixels of a grid.

@@ -1,9 +1,12 @@
 //! The words outside of which no pixel is enabled.
-ghost use Rattle.std.specs.Prelude.{◌≡◌};
+ghost use Rattle.std.specs.Prelude.{◌≡◌, ◌/◌, ◌<◌, ◌≤◌, ℕ, IsTrue, false, length};
 ghost use Rattle.std.specs.Bool.{OnTrue};
+ghost use Rattle.std.specs.List.{list_any};
 ghost use Rattle.px_planes.specs.Operations.{IsCrowd, IsReach, has_some};
+ghost use Rattle.px_rows.specs.Rows.{row_bit};
 
 use crate::planes::Planes;
+use px_rows::{BLOCK, part};
 
 /// The words from `from` on and below `to`.
 #[derive(Clone, Copy)]
@@ -46,30 +49,55 @@ pub(crate) fn narrowed(planes: &Planes, reach: Reach) -> Reach
     requires { IsReach reach planes.now }
     ensures { IsReach result planes.now }
 {
-    without_last(planes, without_first(planes, reach))
+    let rough = without_last(planes, without_first(planes, reach, BLOCK), BLOCK);
+    without_last(planes, without_first(planes, rough, 1), 1)
 }
 
-fn without_first(planes: &Planes, reach: Reach) -> Reach
-    requires { IsReach reach planes.now }
+/// Without the first words, in steps of so many.
+#[inline(always)]
+fn without_first(planes: &Planes, reach: Reach, step: usize) -> Reach
+    requires reach { IsReach reach planes.now }
+    requires step { 1 ≤ step }
     ensures { IsReach result planes.now }
 {
     let mut from = reach.from;
-    while from < reach.to && planes.enable.word(from) == 0 {
-        from += 1;
+    while reach.to.saturating_sub(from) >= step && is_clear(planes, from, from + step) {
+        from += step;
     }
     Reach { from, to: reach.to }
 }
 
-fn without_last(planes: &Planes, reach: Reach) -> Reach
-    requires { IsReach reach planes.now }
+/// Without the last words, in steps of so many.
+#[inline(always)]
+fn without_last(planes: &Planes, reach: Reach, step: usize) -> Reach
+    requires reach { IsReach reach planes.now }
+    requires step { 1 ≤ step }
     ensures { IsReach result planes.now }
 {
     let mut to = reach.to;
-    while reach.from < to && planes.enable.word(to - 1) == 0 {
-        to -= 1;
+    while to.saturating_sub(reach.from) >= step && is_clear(planes, to - step, to) {
+        to -= step;
     }
     Reach {
         from: reach.from,
         to,
     }
+}
+
+/// Whether no pixel is enabled in the words from `from` on and below `to`.
+#[inline(always)]
+fn is_clear(planes: &Planes, from: usize, to: usize) -> bool
+    requires order { from ≤ to }
+    requires within { to ≤ length planes.now.enable }
+    ensures { IsTrue result → (p : ℕ) → from ≤ p / 64 → p / 64 < to
+        → row_bit planes.now.enable p ≡ false }
+{
+    !has_any(part(planes.enable.words(), from, to))
+}
+
+#[inline(always)]
+fn has_any(row: &[u64]) -> bool
+    ensures { result ≡ list_any has_some row.now }
+{
+    row.iter().any(|word| has_some(*word))
 }
