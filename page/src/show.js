@@ -5,6 +5,8 @@ import {packed} from "./palette.js";
 // Where arrow keys lead.
 export const STEPS = {ArrowLeft: [-1, 0], ArrowRight: [1, 0], ArrowUp: [0, -1], ArrowDown: [0, 1]};
 const SCALES = [1, 2, 3, 4, 6, 8, 12, 16, 24, 32, 48, 64], DRAGGED = 4, LINED = 12, LIT = 0xb000d6ff;
+// Lines of words do not touch where they are so many times as high apart.
+const APART = 1.25;
 
 export class Screen {
   // `onPixel` is called with x and y of the pixel under the pointer, or chosen by a click or the arrow keys; or with null. `onKeep` is
@@ -197,9 +199,9 @@ export class Lines {
   }
 
   write(lines) {
-    const isSame = lines.join() === this.lines.join();
+    const before = this.lines;
     this.lines = lines;
-    if (this.theme !== document.documentElement.dataset.theme) this.fit(); else if (!isSame) this.draw();
+    if (this.theme !== document.documentElement.dataset.theme) this.fit(); else if (lines.join() !== before.join()) this.draw(before);
   }
 
   fit() {
@@ -209,14 +211,19 @@ export class Lines {
     this.draw();
   }
 
-  draw() {
-    const {pen, colours: [paper, ink], high, canvas: {width, height}} = this;
-    pen.fillStyle = paper;
-    pen.fillRect(0, 0, width, height);
-    pen.fillStyle = ink;
+  // Draws the lines that are others than before; all of them where they touch each other.
+  draw(before = []) {
+    const {pen, colours: [paper, ink], high, lines, canvas: {width, height}} = this;
     // (closer where there is less room)
-    const step = Math.min(1.5 * high, height / this.lines.length);
-    this.lines.forEach((words, row) => pen.fillText(words.replaceAll("`", ""), 0, row * step, width));
+    const step = Math.floor(Math.min(1.5 * high, height / lines.length)), isAll = before.length !== lines.length || step < APART * high;
+    const clear = (top, tall) => { pen.fillStyle = paper; pen.fillRect(0, top, width, tall); };
+    if (isAll) clear(0, height);
+    lines.forEach((words, row) => {
+      if (!isAll && words === before[row]) return;
+      if (!isAll) clear(row * step, step);
+      pen.fillStyle = ink;
+      pen.fillText(words.replaceAll("`", ""), 0, row * step + Math.max(0, step - high) / 2, width);
+    });
   }
 }
 

@@ -92,11 +92,11 @@ const [ONE, ZERO] = [ON, OFF].map(packed), FULL = 255;
 // The colours of places of which no bit is 1, a 255th part, and so on.
 const SHARES = Uint32Array.from({length: FULL + 1}, (_, share) => packed(OFF.map((off, part) => Math.round(off + (ON[part] - off) * share / FULL))));
 
-// The columns or rows that each of so many places along a side of the array shows: where they begin, and how many there are, one at least
-// (and no more than a word has bits).
+// The columns or rows that each of so many places along a side of the array shows: where they begin, how many there are, one at least
+// (and no more than a word has bits), and as many bits.
 function parted(side, count) {
-  const first = Uint16Array.from({length: count}, (_, at) => at * side / count);
-  return {first, many: first.map((from, at) => Math.max(1, (first[at + 1] ?? side) - from))};
+  const first = Uint16Array.from({length: count}, (_, at) => at * side / count), many = first.map((from, at) => Math.max(1, (first[at + 1] ?? side) - from));
+  return {first, many, masks: Uint32Array.from(many, each => 2 ** each - 1)};
 }
 
 // Where the array is drawn in small on an image: `pixels` has so many columns in a row, and the array begins at a place of it.
@@ -113,7 +113,7 @@ function fillShares({words, perRow, perPlane}, plane, {pixels, wide, start, x, y
       for (let column = 0; column < counts.length; column++) {
         const bit = x.first[column], many = x.many[column], at = from + (bit >> 5), shift = bit & 31;
         const own = words[at] >>> shift | (shift + many > 32 ? words[at + 1] << 32 - shift : 0);
-        counts[column] += onesIn(own & 2 ** many - 1);
+        counts[column] += onesIn(own & x.masks[column]);
       }
     }
     for (let column = 0, to = start + row * wide; column < counts.length; column++, to++)
@@ -144,18 +144,23 @@ function rowsOf({words, perRow, perPlane, width, wordsPerRow}, {at, length}, row
 
 // The least and the greatest number in a field, of the pixels where not all of its bits are 1: from the highest bit on, those stay that may have it.
 function endsOf({words, width, perRow, perPlane}, {at, length}) {
-  const wordOf = (bit, place) => words[(at + bit) * perPlane + place], bits = [...Array(length).keys()].reverse();
-  const others = Uint32Array.from({length: perPlane}, (_, place) => {
-    const columns = width - 32 * (place % perRow), own = columns < 32 ? 2 ** Math.max(0, columns) - 1 : -1;
-    return own & ~bits.reduce((all, bit) => all & wordOf(bit, place), -1);
-  });
-  return [0, 1].map(wanted => {
-    let found = others;
-    return bits.reduce((number, bit) => {
-      const own = found.map((word, place) => word & (wanted ? wordOf(bit, place) : ~wordOf(bit, place))), isThere = own.some(Boolean);
-      if (isThere) found = own;
-      return 2 * number + (isThere ? wanted : 1 - wanted);
-    }, 0);
+  const others = new Uint32Array(perPlane);
+  for (let place = 0; place < perPlane; place++) {
+    const columns = width - 32 * (place % perRow);
+    let all = -1;
+    for (let bit = at; bit < at + length; bit++) all &= words[bit * perPlane + place];
+    others[place] = (columns < 32 ? 2 ** Math.max(0, columns) - 1 : -1) & ~all;
+  }
+  return [-1, 0].map(turn => {
+    const found = others.slice();
+    let number = 0;
+    for (let bit = at + length - 1; bit >= at; bit--) {
+      let some = 0;
+      for (let place = 0, from = bit * perPlane; place < perPlane; place++) some |= found[place] & (words[from + place] ^ turn);
+      if (some) for (let place = 0, from = bit * perPlane; place < perPlane; place++) found[place] &= words[from + place] ^ turn;
+      number = 2 * number + Number((some === 0) === (turn !== 0));
+    }
+    return number;
   });
 }
 

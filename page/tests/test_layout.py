@@ -94,3 +94,16 @@ def test_all_planes_are_in_sight(browser: Browser) -> None:
     browser.until("document.querySelectorAll('.tile').length === 74 && document.body.dataset.shown === '20000'")
     hidden = "[...document.querySelectorAll('.tile')].filter(each => each.getBoundingClientRect().bottom > document.getElementById('planes').getBoundingClientRect().bottom).length"
     browser.until("%s === 0" % hidden, 5)
+
+
+@pytest.mark.parametrize("width, height", [(1280, 720), (1366, 768)])
+def test_the_bits_of_a_kept_pixel_are_in_sight(browser: Browser, width: int, height: int) -> None:
+    """All 64 that the letters use, in three rows below the registers and the keys; and the words of quick play lie where they lie, with nothing of
+    the names of the parts below them."""
+    browser.size(width, height)
+    pages.alone(browser, fragment="#s=letters&t=machine&c=20000&v=enable&p=60,180")
+    browser.until("document.body.dataset.inside === '60 180 20000'")
+    boxes = "[...document.querySelectorAll('.register, .key, .memory td')].map(each => each.getBoundingClientRect())"
+    assert browser.run("%s.length" % boxes) == 4 + 2 + 64
+    browser.until("(pane => %s.every(({top, bottom}) => top >= pane.top && bottom <= pane.bottom))(document.querySelector('.inside').getBoundingClientRect())" % boxes, 5)
+    assert browser.run("document.querySelector('.pixel-bits .quick-words').getBoundingClientRect().top >= document.querySelector('.pixel-head').getBoundingClientRect().bottom")

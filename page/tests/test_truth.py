@@ -404,6 +404,29 @@ def test_words_of_quick_play_have_the_colours_of_the_theme_and_room_for_all_line
     page.run("studio.machine.stop()")
 
 
+def test_quick_play_writes_only_the_lines_that_change(page: Browser) -> None:
+    """Of three lines the second is another one, then none is; and lines that touch each other are written all, as one may lie over the next."""
+    machine(page)
+    page.until("document.body.dataset.shown")
+    quick(page)
+    page.run("studio.machine.goOn('clock-on')")
+    page.until("document.body.dataset.shown === '1'")
+    written = """async lines => {
+      const {lines: own} = studio.machine, {pen} = own, known = pen.fillText, said = [];
+      pen.fillText = (words, ...more) => { said.push(words); known.call(pen, words, ...more); };
+      own.write(lines);
+      const {canvas: {width, height}} = own, image = () => String(pen.getImageData(0, 0, width, height).data), seen = image();
+      pen.fillText = known;
+      own.fit();
+      return [said, seen === image()];
+    }"""
+    for lines, due in ((["a", "b", "c"], None), (["a", "Bjg", "c"], ["Bjg"]), (["a", "Bjg", "c"], []), (["a", "b", "c"], ["b"]), (["jg"] * 5, ["jg"] * 5),
+                       (["jg"] * 4 + ["A"], ["jg"] * 4 + ["A"])):
+        said, is_whole = called(page, written, lines)
+        assert is_whole and due in (None, said)
+    page.run("studio.machine.stop()")
+
+
 def test_quick_play_moves_neither_the_stretch_that_is_shown_nor_where_a_key_goes_on(page: Browser) -> None:
     """At the left end of a stretch of the time line, from 3000 * (1 - 0.8^5) = 2016.96 on, where eight pixels are 12 clocks; a key on the slider, which
     is behind, goes on from the clock that was asked for last."""
@@ -458,6 +481,28 @@ def test_a_small_image_of_depths_has_the_greys_of_the_large_one(page: Browser) -
     firsts = [y * height // rows for y in range(rows)]
     assert 1 not in firsts and len(set(large)) == 3
     assert [tuple(data[at:at + 3]) for at in range(0, len(data), 4)] == [large[y * width + x * width // columns] for y in firsts for x in range(columns)]
+
+
+def test_a_small_image_of_a_plane_is_as_light_as_many_of_its_bits_are_1(page: Browser) -> None:
+    """Places of the letters' planes, which begin within words and go over their ends: by the bits of the library, counted one by one."""
+    alone(page, fragment="#s=letters&t=machine&c=20000&v=enable")
+    page.until("document.body.dataset.shown === '20000'")
+    found = page.run("""studio.library().then(px => {
+      const {wall: {sheet, tiles}, text} = studio.machine, state = px.state(text, 20000), wrong = [];
+      for (const name of ["carry", "28", "52", "leaf"]) {
+        const {box: [left, top, columns, rows], view: {plane}} = tiles.find(({view}) => view.name === name), {data} = sheet.getContext("2d").getImageData(left, top, columns, rows);
+        const ends = (at, count) => [Math.floor(at * 256 / count), Math.floor((at + 1) * 256 / count)];
+        for (let y = 0; y < rows; y++) for (let x = 0; x < columns; x++) {
+          const [[from, to], [first, last]] = [ends(x, columns), ends(y, rows)];
+          let ones = 0;
+          for (let row = first; row < last; row++) for (let column = from; column < to; column++) ones += state.bit(plane, column, row);
+          const share = Math.floor(255 * ones / (to - from) / (last - first)), due = [24, 30, 40].map(off => Math.round(off + (255 - off) * share / 255));
+          if (String(due) !== String([...data.slice(4 * (y * columns + x), 4 * (y * columns + x) + 3)])) wrong.push([name, x, y]);
+        }
+      }
+      return wrong.slice(0, 4);
+    })""")
+    assert found == []
 
 
 def test_the_array_ends_with_the_colours_of_the_picture(page: Browser) -> None:

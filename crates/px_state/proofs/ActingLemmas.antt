@@ -1,8 +1,8 @@
 -- What an act leaves of a pixel whose bits are in words.
 use Rattle.px_num.proofs.Basics.{◌≡◌, ◌≢◌, ℕ, ◌+◌, ◌*◌, ◌^◌, ◌<◌, Bool, false, List}
-use Rattle.px_num.proofs.Basics.{length, get_or, sym, ap, subst, ◌∙◌, arith, inl, inr}
+use Rattle.px_num.proofs.Basics.{length, get_or, refl, sym, ap, subst, ◌∙◌, arith, inl, inr}
 use Rattle.px_num.proofs.Basics.{cases_lt, length-replicate, pow-add}
-use Rattle.px_num.proofs.ListLaws.{get_or-tabulate}
+use Rattle.px_num.proofs.ListLaws.{get_or-tabulate, is_tabulate}
 use Rattle.px_num.proofs.TruthLaws.{lt_false, lt_true}
 use Rattle.px_num.specs.Bits.{bit_at, nat_bit}
 use Rattle.px_array.specs.Arrays.{HasGrid, State, no_pixel, pixel_at, pixel_of}
@@ -10,6 +10,7 @@ use Rattle.px_array.specs.Clocks.{acted}
 use Rattle.px_array.specs.Acts.{after_act}
 use Rattle.px_array.specs.Pixels.{PixelState}
 use Rattle.px_array.specs.declared.act.Act.{Act}
+use Rattle.px_array.specs.declared.act.Act.TheVariants.{Nop}
 use Rattle.px_asm.proofs.WrittenLemmas.{other_bit}
 use Rattle.px_planes.proofs.GridLemmas.{acted_inside, acted_outside}
 use Rattle.px_planes.specs.Pixels.{acted_at}
@@ -44,6 +45,12 @@ kept_pixels shape pixels old new is same held y c i row word bit =
     let within : k < shape.plane = omega (arith, is.plane, plane_end y (2 ^ shape.ny) (row_words shape.nx) row) in
     same_pixel shape.bits shape.plane k i old new _
     (λ b below. same _ (omega (arith, within, plane_end b (shape.bits + 3) shape.plane below))) (held y c i row word bit)
+
+-- `nop` leaves each pixel
+pub none_acted : (bits nx ny : ℕ) (s : State) → HasGrid bits nx ny s → acted Nop s.tree s.pixels ≡ s.pixels
+none_acted bits nx ny s grid =
+    sym (is_tabulate s.pixels (2 ^ (s.tree.nx + s.tree.ny)) (pixel_at s) no_pixel (rw (grid.columns, grid.rows) grid.pixels)
+    (λ k within. refl))
 
 -- once each word has done the act, the words hold the pixels that have done it
 module _ (shape : Shape) (s : State) (is : IsShape shape) (grid : HasGrid shape.bits shape.nx shape.ny s) (act : Act)

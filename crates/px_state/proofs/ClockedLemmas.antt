@@ -1,7 +1,7 @@
 -- A state by the parts that are in its words, and its clocks one after another.
 use Rattle.px_num.proofs.Basics.{◌≡◌, ℕ, ◌+◌, ◌-◌, ◌*◌, ◌<◌, ◌≤◌, nat_lt, Bool, true, false, cond, not, List, [], ◌∷◌}
 use Rattle.px_num.proofs.Basics.{length, drop, take, map, get_or, None, Some, refl, sym, ap, ◌∙◌, arith, map-append}
-use Rattle.px_num.proofs.Basics.{take_more}
+use Rattle.px_num.proofs.Basics.{◌⊎◌, inl, inr, take_more}
 use Rattle.std.proofs.lemmas.List.{get_or-drop, length-drop}
 use Rattle.std.proofs.lemmas.List.Sums.{fails_before_first}
 use Rattle.std.specs.List.{position_or_len}
@@ -10,11 +10,15 @@ use Rattle.px_num.proofs.TruthLaws.{lt_fails, not_false}
 use Rattle.px_array.proofs.ClockLaws.{after_clocks-append}
 use Rattle.px_array.specs.Arrays.{State}
 use Rattle.px_array.specs.Clocks.{after_clock, after_clocks}
-use Rattle.px_state.specs.Cells.{HoldsLeaves, HoldsNodes, HoldsPixels, IsShape, IsShapeOf, nodes_at}
+use Rattle.px_num.specs.Bits.{nat_bit}
+use Rattle.px_state.proofs.ActingLemmas.{kept_pixels}
+use Rattle.px_state.specs.Cells.{HoldsLeaves, HoldsNodes, HoldsPixels, HoldsPixelsAndNodes, IsShape, IsShapeOf, leaves_at}
+use Rattle.px_state.specs.Cells.{nodes_at}
 use Rattle.px_state.specs.Clocking.{HoldsState, first_stray}
 use Rattle.px_state.specs.Packing.{is_micro, micro_in}
 use Rattle.px_state.specs.Words.{BeginsWithState, HoldsWords, room_of}
 use Rattle.px_state.specs.declared.shape.Shape.{Shape}
+use Rattle.px_tree.specs.Nodes.{TreeState}
 
 pub room_is : (shape : Shape) → IsShape shape → room_of shape.bits shape.nx shape.ny ≡ nodes_at shape + 2 * shape.nodes
 room_is shape is = rw (is.plane, is.nodes) refl
@@ -31,6 +35,34 @@ module _ (shape : Shape) (s : State) (is : IsShape shape) (grid : IsShapeOf shap
 
   pub whole_of : HoldsParts shape s words → HoldsWords shape.bits s words
   whole_of parts = grind arith
+
+-- nodes stay where their words do
+pub kept_nodes : (shape : Shape) (tree : TreeState) (old new : List ℕ)
+    → ((j : ℕ) → nodes_at shape ≤ j → get_or new j 0 ≡ get_or old j 0) → HoldsNodes shape tree old
+    → HoldsNodes shape tree new
+kept_nodes shape tree old new same held = record {
+  output = λ k within i bit. ap (λ w. nat_bit w i) (same _ (omega arith)) ∙ held.output k within i bit;
+  carry = λ k within i bit. ap (λ w. nat_bit w i) (same _ (omega arith)) ∙ held.carry k within i bit;
+}
+
+module _ (shape : Shape) (s : State) (is : IsShape shape) where
+  pub but_leaves : (words : List ℕ) → HoldsState shape.bits shape.nx shape.ny s words → HoldsPixelsAndNodes shape s words
+  but_leaves words held =
+      let parts = parts_of shape s is (record { columns = held.grid.columns; rows = held.grid.rows }) words held.holds in
+      record { grid = held.grid; pixels = parts.pixels; nodes = parts.nodes }
+
+  -- once the leaves are written, the words hold all of the state
+  pub with_leaves : (old new : List ℕ) → HoldsPixelsAndNodes shape s old
+      → ((k : ℕ) → (k < leaves_at shape) ⊎ (nodes_at shape ≤ k) → get_or new k 0 ≡ get_or old k 0)
+      → HoldsLeaves shape s.tree new → HoldsState shape.bits shape.nx shape.ny s new
+  with_leaves old new held others leaves = record {
+    grid = held.grid;
+    holds = whole_of shape s is (record { columns = held.grid.columns; rows = held.grid.rows }) new (record {
+      pixels = kept_pixels shape s.pixels old new is (λ j low. others j (inl low)) held.pixels;
+      leaves = leaves;
+      nodes = kept_nodes shape s.tree old new (λ j high. others j (inr high)) held.nodes;
+    });
+  }
 
 -- lists that are the same from a place on
 pub same_behind : (n : ℕ) (xs ys : List ℕ) → length xs ≡ length ys → ((j : ℕ) → n ≤ j → get_or xs j 0 ≡ get_or ys j 0)

@@ -2,7 +2,7 @@
 use Rattle.std.specs.Prelude.{◌≡◌, ℕ, ◌+◌, ◌*◌, ◌^◌, ◌<◌, ◌≤◌, ◌&&◌, Bool, List, get_or, length, nat_lt, slice_index_or}
 use Rattle.std.specs.Prelude.{if◌then◌else◌}
 use Rattle.px_num.specs.Bits.{bit_at, nat_bit}
-use Rattle.px_array.specs.Arrays.{no_pixel}
+use Rattle.px_array.specs.Arrays.{HasGrid, State, no_pixel}
 use Rattle.px_array.specs.Pixels.{PixelState, zero_pixel}
 use Rattle.px_array.specs.declared.act.Act.{Act}
 use Rattle.px_planes.specs.Pixels.{acted_at}
@@ -74,3 +74,9 @@ pub record HoldsNodes (shape : Shape) (tree : TreeState) (words : List ℕ) : Ty
   pub output : (k : ℕ) → k < shape.nodes → IsNodeWord (λ n. n.output) tree k (get_or words (nodes_at shape + k) 0)
   pub carry : (k : ℕ) → k < shape.nodes
       → IsNodeWord (λ n. n.carry) tree k (get_or words (nodes_at shape + shape.nodes + k) 0)
+
+-- the words hold the pixels and the nodes of a state; of the leaves nothing is said
+pub record HoldsPixelsAndNodes (shape : Shape) (s : State) (words : List ℕ) : Type 0 where
+  pub grid : HasGrid shape.bits shape.nx shape.ny s
+  pub pixels : HoldsPixels shape s.pixels words
+  pub nodes : HoldsNodes shape s.tree words

@@ -1,18 +1,18 @@
 //! Clocks of a state where its words stand.
 ghost use Rattle.std.specs.Prelude.{◌≡◌, ◌≤◌, ◌<◌, None, Some, IfErr, OnErr, OnOk, get_or, length, ℕ};
-ghost use Rattle.px_array.specs.Clocks.{after_clock};
-ghost use Rattle.px_array.specs.Arrays.{State};
+ghost use Rattle.px_array.specs.Clocks.{acted, after_clock};
+ghost use Rattle.px_array.specs.Arrays.{HasGrid, State};
 ghost use Rattle.px_tree.specs.Nodes.{IsGrid};
-ghost use Rattle.px_state.specs.Cells.{IsShape};
-ghost use Rattle.px_state.specs.Clocking.{AreClocked, HoldsState, first_stray};
+ghost use Rattle.px_state.specs.Cells.{HoldsNodes, HoldsPixels, HoldsPixelsAndNodes, IsShape, nodes_at};
+ghost use Rattle.px_state.specs.Clocking.{AreClocked, first_stray};
 ghost use Rattle.px_state.specs.Packing.{memory_place};
 ghost use Rattle.px_state.specs.Words.{room_of};
 
 use crate::acting::act_all;
-use crate::nodes::move_nodes;
+use crate::nodes::{move_nodes, write_leaves};
 use crate::packing::{is_micro, micro_in};
 use crate::shape::Shape;
-use px_array::Micro;
+use px_array::{Act, Micro};
 
 /// Makes a clock of each micro on the state of `2^nx` by `2^ny` pixels of so many memory bits that is
 /// in the words.
@@ -45,7 +45,7 @@ pub fn make_clocks(
     }
 }
 
-/// Makes a clock of each micro, of which each word is one.
+/// Makes a clock of each micro, of which each word is one. The plane of leaves is written once after them.
 fn clock_all(words: &mut [u64], shape: &Shape, micros: &[u64])
     requires shape { IsShape shape.now }
     requires some { 1 ≤ shape.now.bits }
@@ -57,6 +57,7 @@ fn clock_all(words: &mut [u64], shape: &Shape, micros: &[u64])
     for word in micros {
         clock(words, shape, &micro_in(*word));
     }
+    write_leaves(words, shape);
 }
 
 /// The first word that is no micro for pixels of so many memory bits.
@@ -66,17 +67,49 @@ fn first_stray(micros: &[u64], bits: usize) -> Option<usize>
     micros.iter().position(|word| !is_micro(*word, bits))
 }
 
-/// One clock.
+/// One clock, of which the plane of leaves is not written.
 fn clock(words: &mut [u64], shape: &Shape, m: &Micro)
     requires shape { IsShape shape.now }
     requires place { memory_place m.now.act < shape.now.bits }
     requires room { room_of shape.now.bits shape.now.nx shape.now.ny ≤ length words.old }
-    ensures clocked { (s : State) → HoldsState shape.now.bits shape.now.nx shape.now.ny s words.old
-        → HoldsState shape.now.bits shape.now.nx shape.now.ny (after_clock m.now s) words.new }
+    ensures clocked { (s : State) → HoldsPixelsAndNodes shape.now s words.old
+        → HoldsPixelsAndNodes shape.now (after_clock m.now s) words.new }
     ensures behind { (j : ℕ) → room_of shape.now.bits shape.now.nx shape.now.ny ≤ j
         → get_or words.new j 0 ≡ get_or words.old j 0 }
     ensures length { length words.new ≡ length words.old }
 {
-    act_all(words, shape, &m.act);
+    act_by_nodes(words, shape, &m.act);
     move_nodes(words, shape, m.tree);
+}
+
+/// Makes every pixel do an act, by the nodes. Most acts of an operation are `nop`, for which no leaf is written.
+fn act_by_nodes(words: &mut [u64], shape: &Shape, act: &Act)
+    requires shape { IsShape shape.now }
+    requires place { memory_place act.now < shape.now.bits }
+    requires room { room_of shape.now.bits shape.now.nx shape.now.ny ≤ length words.old }
+    ensures pixels { (s : State) → HasGrid shape.now.bits shape.now.nx shape.now.ny s
+        → HoldsPixels shape.now s.pixels words.old → HoldsNodes shape.now s.tree words.old
+        → HoldsPixels shape.now (acted act.now s.tree s.pixels) words.new }
+    ensures behind { (j : ℕ) → nodes_at shape.now ≤ j → get_or words.new j 0 ≡ get_or words.old j 0 }
+    ensures length { length words.new ≡ length words.old }
+{
+    match act {
+        Act::Nop => {}
+        _ => act_by_leaves(words, shape, act),
+    }
+}
+
+/// Writes the plane of leaves, and makes every pixel do an act by them.
+fn act_by_leaves(words: &mut [u64], shape: &Shape, act: &Act)
+    requires shape { IsShape shape.now }
+    requires place { memory_place act.now < shape.now.bits }
+    requires room { room_of shape.now.bits shape.now.nx shape.now.ny ≤ length words.old }
+    ensures pixels { (s : State) → HasGrid shape.now.bits shape.now.nx shape.now.ny s
+        → HoldsPixels shape.now s.pixels words.old → HoldsNodes shape.now s.tree words.old
+        → HoldsPixels shape.now (acted act.now s.tree s.pixels) words.new }
+    ensures behind { (j : ℕ) → nodes_at shape.now ≤ j → get_or words.new j 0 ≡ get_or words.old j 0 }
+    ensures length { length words.new ≡ length words.old }
+{
+    write_leaves(words, shape);
+    act_all(words, shape, act);
 }

@@ -15,28 +15,20 @@ use px_planes::full_word;
 use px_rows::chosen_word;
 use px_tree::Lines;
 
-/// Makes the tree do its operation, and the leaves follow.
+/// Makes the tree do its operation.
 pub(crate) fn move_nodes(words: &mut [u64], shape: &Shape, op: TreeOp)
     requires shape { IsShape shape.now }
     requires room { nodes_at shape.now + 2 * shape.now.nodes ≤ length words.old }
     ensures nodes { (tree : TreeState) → IsShapeOf shape.now tree → HoldsNodes shape.now tree words.old
         → HoldsNodes shape.now (after_tree_op op tree) words.new }
-    ensures leaves { (tree : TreeState) → IsShapeOf shape.now tree → HoldsNodes shape.now tree words.old
-        → HoldsLeaves shape.now tree words.old → HoldsLeaves shape.now (after_tree_op op tree) words.new }
-    ensures others { (k : ℕ) → (k < leaves_at shape.now) ⊎ (nodes_at shape.now + 2 * shape.now.nodes ≤ k)
+    ensures others { (k : ℕ) → (k < nodes_at shape.now) ⊎ (nodes_at shape.now + 2 * shape.now.nodes ≤ k)
         → get_or words.new k 0 ≡ get_or words.old k 0 }
     ensures length { length words.new ≡ length words.old }
 {
     match op {
         TreeOp::Hold => {}
-        TreeOp::Clear => {
-            clear_nodes(words, shape);
-            write_leaves(words, shape);
-        }
-        TreeOp::Feed { a, b, c } => {
-            feed_nodes(words, shape, Lines { a, b, c });
-            write_leaves(words, shape);
-        }
+        TreeOp::Clear => clear_nodes(words, shape),
+        TreeOp::Feed { a, b, c } => feed_nodes(words, shape, Lines { a, b, c }),
     }
 }
 

@@ -1,7 +1,11 @@
 use Rattle.std.proofs.lemmas.Grind.{common_steps}
-use Rattle.px_num.proofs.Basics.{map, arith}
-use Rattle.px_state.proofs.ClockedLemmas.{has_words, none_stray, one_more}
+use Rattle.px_num.proofs.Basics.{map, subst, ◌∙◌, arith, inr, take_all}
+use Rattle.px_array.specs.Arrays.{State}
+use Rattle.px_array.specs.Clocks.{after_clocks}
+use Rattle.px_state.proofs.ClockedLemmas.{but_leaves, has_words, none_stray, one_more, room_is, with_leaves}
 use Rattle.px_state.proofs.PackingLemmas.{micro_only}
+use Rattle.px_state.specs.Cells.{HoldsPixelsAndNodes}
+use Rattle.px_state.specs.Packing.{micro_in}
 use Rattle.px_state.proofs.clocks.clock_all.Goals as goal
 
 pub loop-word-preserved : goal.loop-word-preserved
@@ -11,4 +15,20 @@ pub clock-requires-clause-place : goal.clock-requires-clause-place
 clock-requires-clause-place c = grind (arith, common_steps, none_stray, micro_only)
 
 pub returns-clause-clocked : goal.returns-clause-clocked
-returns-clause-clocked c = grind (arith, common_steps, has_words, map)
+returns-clause-clocked c = λ s held.
+    let shape = c.args.shape.now in
+    let is = c.requires.shape in
+    let old = c.args.words.now in
+    let new = c.write_leaves.new.words in
+    let micros = c.args.micros.now in
+    let before = c.loop-word.invariant in
+    let leaves = c.write_leaves.ensures in
+    let end : State = after_clocks (map micro_in micros) s in
+    let inner : HoldsPixelsAndNodes shape end c.loop-word.words =
+    subst (λ ms. HoldsPixelsAndNodes shape (after_clocks (map micro_in ms) s) c.loop-word.words)
+    (take_all c.loop-word.word-index micros c.loop-word-test.false) (before.clocked s (but_leaves shape s is old held)) in
+    has_words shape.bits shape.nx shape.ny end old new
+    (with_leaves shape end is c.loop-word.words new inner leaves.others
+    (leaves.leaves end.tree (record { columns = inner.grid.columns; rows = inner.grid.rows }) inner.nodes))
+    (leaves.length ∙ before.same)
+    (λ j past. leaves.others j (inr (omega (arith, past, room_is shape is))) ∙ before.behind j past)
