@@ -1,25 +1,11 @@
 -- What an act leaves of a pixel whose bits are in words.
-use Rattle.px_num.proofs.Basics.{◌≡◌, ◌≢◌, ℕ, ◌+◌, ◌*◌, ◌^◌, ◌<◌, Bool, false, List}
-use Rattle.px_num.proofs.Basics.{length, get_or, refl, sym, ap, subst, ◌∙◌, arith, inl, inr}
-use Rattle.px_num.proofs.Basics.{cases_lt, length-replicate, pow-add}
-use Rattle.px_num.proofs.ListLaws.{get_or-tabulate, is_tabulate}
-use Rattle.px_num.proofs.TruthLaws.{lt_false, lt_true}
-use Rattle.px_num.specs.Bits.{bit_at, nat_bit}
-use Rattle.px_array.specs.Arrays.{HasGrid, State, no_pixel, pixel_at, pixel_of}
-use Rattle.px_array.specs.Clocks.{acted}
-use Rattle.px_array.specs.Acts.{after_act}
-use Rattle.px_array.specs.Pixels.{PixelState}
-use Rattle.px_array.specs.declared.act.Act.{Act}
-use Rattle.px_array.specs.declared.act.Act.TheVariants.{Nop}
-use Rattle.px_asm.proofs.WrittenLemmas.{other_bit}
-use Rattle.px_planes.proofs.GridLemmas.{acted_inside, acted_outside}
-use Rattle.px_planes.specs.Pixels.{acted_at}
-use Rattle.px_tree.specs.Nodes.{leaf_bit, leaf_output}
+use Rattle.px_state.proofs.Cited.{Act, acted, acted_at, acted_inside, acted_outside, after_act, ap, arith, bit_at, Bool}
+use Rattle.px_state.proofs.Cited.{cases_lt, false, get_or, get_or-tabulate, HasGrid, HoldsLeaves, HoldsPixels, inl, inr}
+use Rattle.px_state.proofs.Cited.{is_tabulate, IsActed, IsPixel, IsShape, leaf_bit, leaf_output, leaves_at, length}
+use Rattle.px_state.proofs.Cited.{length-replicate, List, lt_false, lt_true, memory_place, nat_bit, no_pixel, Nop}
+use Rattle.px_state.proofs.Cited.{other_bit, pixel_at, pixel_here, pixel_of, PixelState, pow-add, refl, row_words}
+use Rattle.px_state.proofs.Cited.{Shape, State, subst, sym, word_bit, ℕ, ◌*◌, ◌+◌, ◌<◌, ◌^◌, ◌∙◌, ◌≡◌, ◌≢◌}
 use Rattle.px_state.proofs.ShapeLemmas.{plane_end}
-use Rattle.px_state.specs.Cells.{HoldsLeaves, HoldsPixels, IsActed, IsShape, leaves_at, pixel_here}
-use Rattle.px_state.specs.Packing.{memory_place}
-use Rattle.px_state.specs.Words.{IsPixel, row_words, word_bit}
-use Rattle.px_state.specs.declared.shape.Shape.{Shape}
 
 -- an act leaves all other bits, and their number
 pub other_bits : (inside : Bool) (a : Act) (t : Bool) (p : PixelState) (b : ℕ) → b ≢ memory_place a

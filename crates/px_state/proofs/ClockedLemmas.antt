@@ -1,24 +1,13 @@
 -- A state by the parts that are in its words, and its clocks one after another.
-use Rattle.px_num.proofs.Basics.{◌≡◌, ℕ, ◌+◌, ◌-◌, ◌*◌, ◌<◌, ◌≤◌, nat_lt, Bool, true, false, cond, not, List, [], ◌∷◌}
-use Rattle.px_num.proofs.Basics.{length, drop, take, map, get_or, None, Some, refl, sym, ap, ◌∙◌, arith, map-append}
-use Rattle.px_num.proofs.Basics.{◌⊎◌, inl, inr, take_more}
-use Rattle.std.proofs.lemmas.List.{get_or-drop, length-drop}
-use Rattle.std.proofs.lemmas.List.Sums.{fails_before_first}
-use Rattle.std.specs.List.{position_or_len}
-use Rattle.px_num.proofs.ListLaws.{is_tabulate}
-use Rattle.px_num.proofs.TruthLaws.{lt_fails, not_false}
-use Rattle.px_array.proofs.ClockLaws.{after_clocks-append}
-use Rattle.px_array.specs.Arrays.{State}
-use Rattle.px_array.specs.Clocks.{after_clock, after_clocks}
-use Rattle.px_num.specs.Bits.{nat_bit}
+use Rattle.px_state.proofs.Cited.{[], after_clock, after_clocks, after_clocks-append, ap, arith, BeginsWithState, Bool}
+use Rattle.px_state.proofs.Cited.{cond, drop, fails_before_first, false, first_stray, get_or, get_or-drop, HoldsLeaves}
+use Rattle.px_state.proofs.Cited.{HoldsNodes, HoldsPixels, HoldsPixelsAndNodes, HoldsState, HoldsWords, inl, inr}
+use Rattle.px_state.proofs.Cited.{is_tabulate, IsShape, IsShapeOf, leaves_at, length, length-drop, List, lt_fails, map}
+use Rattle.px_state.proofs.Cited.{map-append, nat_bit, nat_lt, nodes_at, None, not, not_false, position_or_len, refl}
+use Rattle.px_state.proofs.Cited.{room_of, Shape, Some, State, sym, take, take_more, TreeState, true, ℕ, ◌*◌, ◌+◌, ◌-◌}
+use Rattle.px_state.proofs.Cited.{◌<◌, ◌∙◌, ◌∷◌, ◌≡◌, ◌≤◌, ◌⊎◌}
 use Rattle.px_state.proofs.ActingLemmas.{kept_pixels}
-use Rattle.px_state.specs.Cells.{HoldsLeaves, HoldsNodes, HoldsPixels, HoldsPixelsAndNodes, IsShape, IsShapeOf, leaves_at}
-use Rattle.px_state.specs.Cells.{nodes_at}
-use Rattle.px_state.specs.Clocking.{HoldsState, first_stray}
 use Rattle.px_state.specs.Packing.{is_micro, micro_in}
-use Rattle.px_state.specs.Words.{BeginsWithState, HoldsWords, room_of}
-use Rattle.px_state.specs.declared.shape.Shape.{Shape}
-use Rattle.px_tree.specs.Nodes.{TreeState}
 
 pub room_is : (shape : Shape) → IsShape shape → room_of shape.bits shape.nx shape.ny ≡ nodes_at shape + 2 * shape.nodes
 room_is shape is = rw (is.plane, is.nodes) refl

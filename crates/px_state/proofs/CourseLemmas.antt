@@ -1,22 +1,13 @@
 -- The broadcasts of operations, one operation after another.
-use Rattle.px_num.proofs.Basics.{◌≡◌, ℕ, suc, ◌+◌, ◌<◌, ◌≤◌, List, ◌∷◌, ◌++◌, length, take, drop, get_or}
-use Rattle.px_num.proofs.Basics.{Some, sym, ap, ◌∙◌, arith, between, flat_map, slice_get}
-use Rattle.px_num.proofs.Basics.{drop-cons, take-append-add, take-append_seam, take-append-drop}
-use Rattle.px_num.proofs.Basics.{take-append-le, flat_map-cons, get_or_from_slice_get, slice_get-get_or}
-use Rattle.px_num.proofs.Basics.{slice_get_within, between_from_start}
-use Rattle.std.proofs.lemmas.List.{length-take-le}
-use Rattle.std.proofs.lemmas.List.Concat.{flat_map-append}
-use Rattle.px_num.proofs.ListLaws.{length-tabulate}
-use Rattle.px_array.specs.Arrays.{Device, zero_state}
-use Rattle.px_array.specs.Clocks.{after_clocks, all_clocked}
-use Rattle.px_array.specs.declared.micro.Micro.{Micro}
-use Rattle.px_array.proofs.ClockLaws.{after_clocks-append, nx-after_clocks, ny-after_clocks}
-use Rattle.px_asm.specs.Micros.{all_micros, cycles, micro_at, micros}
-use Rattle.px_macro.specs.declared.operation.Macro.{Macro}
+use Rattle.px_state.proofs.Cited.{after_clocks, after_clocks-append, all_clocked, all_micros, ap, arith, below_total}
+use Rattle.px_state.proofs.Cited.{between, between_from_start, broadcasts, cycles, Device, device_after, drop}
+use Rattle.px_state.proofs.Cited.{drop-cons, flat_map, flat_map-append, flat_map-cons, get_or, get_or_from_slice_get}
+use Rattle.px_state.proofs.Cited.{IsNextBroadcast, length, length-tabulate, length-take-le, List, ListingView, Macro}
+use Rattle.px_state.proofs.Cited.{Micro, micro_at, micro_here, micros, nx-after_clocks, ny-after_clocks, slice_get}
+use Rattle.px_state.proofs.Cited.{slice_get-get_or, slice_get_within, Some, start_in_listing, start_more, suc, sym}
+use Rattle.px_state.proofs.Cited.{take, take-append-add, take-append-drop, take-append-le, take-append_seam, zero_state}
+use Rattle.px_state.proofs.Cited.{ℕ, ◌++◌, ◌+◌, ◌<◌, ◌∙◌, ◌∷◌, ◌≡◌, ◌≤◌}
 use Rattle.px_macro.specs.declared.operation.Macro.TheVariants as op
-use Rattle.px_listing.specs.Listings.{ListingView}
-use Rattle.px_control.proofs.StepLemmas.{below_total, micro_here, start_more}
-use Rattle.px_state.specs.Courses.{IsNextBroadcast, broadcasts, device_after, start_in_listing}
 
 -- the micro of a cycle is the broadcast at its clock
 pub broadcast_here : (l : ListingView) (k i : ℕ) (m : Macro) → slice_get l.macros k ≡ Some m → i < cycles m l.nx l.ny

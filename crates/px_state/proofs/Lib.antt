@@ -12,3 +12,4 @@ pub mod SceneLemmas
 pub mod TextLemmas
 pub mod TurningLemmas
 pub mod WordLemmas
+pub mod Cited

@@ -1,19 +1,12 @@
 -- The nodes of a tree whose latches are in words.
-use Rattle.px_num.proofs.Basics.{◌≡◌, ℕ, ◌+◌, ◌*◌, ◌/◌, ◌%◌, ◌^◌, ◌<◌, ◌≤◌, ◌==◌, ◌&&◌, eqb, nat_lt, nat_le, Bool}
-use Rattle.px_num.proofs.Basics.{false, cond, List, get_or, refl, sym, ap, ◌∙◌, arith, inl, inr}
-use Rattle.px_num.proofs.Basics.{cases_lt, get_or-replicate, pow-add}
-use Rattle.px_num.proofs.ListLaws.{get_or-tabulate}
-use Rattle.px_num.proofs.TruthLaws.{lt_false, lt_true, power_grows}
-use Rattle.px_num.specs.Bits.{nat_bit}
-use Rattle.px_plane_tree.specs.Lent.{IsLatch}
-use Rattle.px_rows.proofs.BitLaws.{bit_of_zero}
-use Rattle.px_tree.specs.Nodes.{TreeState, after_feed, at_place, cleared, next_at, next_node, zero_node}
-use Rattle.px_tree.specs.declared.lines.Lines.{Lines}
-use Rattle.px_tree.specs.declared.node.Node.{Node}
+use Rattle.px_state.proofs.Cited.{after_feed, ap, arith, at_place, bit_of_zero, Bool, cases_lt, cleared, cond, eqb}
+use Rattle.px_state.proofs.Cited.{false, get_or, get_or-tabulate, HoldsNodes, inl, inr, IsLatch, IsNodeWord, IsShape}
+use Rattle.px_state.proofs.Cited.{IsShapeOf, Lines, List, lt_false, lt_true, nat_bit, nat_le, nat_lt, next_node, Node}
+use Rattle.px_state.proofs.Cited.{node_bit, nodes_at, padded_leaf, placed, pow-add, power_grows, refl, Shape, sym}
+use Rattle.px_state.proofs.Cited.{TreeState, zero_node, ℕ, ◌%◌, ◌&&◌, ◌*◌, ◌+◌, ◌/◌, ◌<◌, ◌==◌, ◌^◌, ◌∙◌, ◌≡◌, ◌≤◌}
+use Rattle.px_num.proofs.Basics.{get_or-replicate}
+use Rattle.px_tree.specs.Nodes.{next_at}
 use Rattle.px_state.proofs.ShapeLemmas.{plane_end}
-use Rattle.px_state.specs.Cells.{HoldsNodes, IsShape, IsShapeOf, nodes_at, placed}
-use Rattle.px_state.specs.Words.{IsNodeWord, node_bit, padded_leaf}
-use Rattle.px_state.specs.declared.shape.Shape.{Shape}
 
 -- the parents of nodes, of which the root is line c
 pub parents_root : (word j : ℕ) (c : Bool) → 2 ≤ j → j < 64

@@ -1,26 +1,15 @@
 -- The operations of a text, one after another.
-use Rattle.px_num.proofs.Basics.{◌≡◌, ℕ, ◌+◌, ◌<◌, ◌≤◌, List, [], ◌∷◌, ◌++◌, length, take, drop, get_or}
-use Rattle.px_num.proofs.Basics.{Some, None, inl, inr, sym, ap, ◌∙◌, arith, length-append}
-use Rattle.px_num.proofs.Basics.{flat_map, slice_get, cases_lt, take-append-drop, take_all, take_more, flat_map-cons}
-use Rattle.px_num.proofs.Basics.{get_or-flat_map, length-flat_map-take, get_or_from_slice_get, slice_get-get_or}
-use Rattle.px_num.proofs.Basics.{slice_get_within}
-use Rattle.std.proofs.lemmas.List.Concat.{flat_map-append}
-use Rattle.px_control.specs.ProgramLaws.{IsGoodProgram}
-use Rattle.px_sched.proofs.LawfulLaws.{lawful_here}
-use Rattle.px_macro.specs.Macros.{IsLawful, IsLawfulInMore}
-use Rattle.px_macro.specs.declared.operation.Macro.{Macro}
+use Rattle.px_state.proofs.Cited.{[], ap, arith, cases_lt, drop, flat_map, flat_map-append, flat_map-cons, get_or}
+use Rattle.px_state.proofs.Cited.{get_or-flat_map, get_or_from_slice_get, inl, inr, IsGoodProgram, IsLawful}
+use Rattle.px_state.proofs.Cited.{IsLawfulInMore, IsPassed, lawful_here, layout_of, LayoutView, length, length-append}
+use Rattle.px_state.proofs.Cited.{length-flat_map-take, List, literals_in, Macro, need_of, no_operation, None}
+use Rattle.px_state.proofs.Cited.{Operation, operations, operations_before, passes_listing, purpose_of, SceneView}
+use Rattle.px_state.proofs.Cited.{slice_get, slice_get-get_or, slice_get_within, Some, start_in_listing, Step, steps}
+use Rattle.px_state.proofs.Cited.{sym, take, take-append-drop, take_all, take_more, told, ℕ, ◌++◌, ◌+◌, ◌<◌, ◌∙◌, ◌∷◌}
+use Rattle.px_state.proofs.Cited.{◌≡◌, ◌≤◌}
 use Rattle.px_macro.specs.declared.operation.Macro.TheVariants as m
-use Rattle.px_model.specs.Scenes.{SceneView}
-use Rattle.px_sched.specs.declared.step.Step.{Step}
-use Rattle.px_sched.specs.Layouts.{LayoutView, layout_of, need_of}
-use Rattle.px_sched.specs.Passes.{operations, passes, steps}
-use Rattle.px_sched.specs.StepCursors.{literals_in}
-use Rattle.px_listing.specs.PassesText.{passes_listing}
-use Rattle.px_state.specs.Courses.{start_in_listing}
-use Rattle.px_state.specs.Operations.{IsPassed, no_operation}
-use Rattle.px_state.specs.Operations.{operations_before, purpose_of, told}
+use Rattle.px_sched.specs.Passes.{passes}
 use Rattle.px_state.specs.Putting.{IsPutTo}
-use Rattle.px_state.specs.declared.operation.Operation.{Operation}
 
 -- those before one, and that one
 pub put_next : (Is : ℕ → Operation → Type 0) (first k : ℕ) (operation : Operation) (old new : List Operation)

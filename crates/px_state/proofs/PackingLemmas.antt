@@ -1,13 +1,9 @@
 -- The fields of a packed micro identify it.
-use Rattle.px_num.proofs.Basics.{◌≡◌, ℕ, ◌+◌, ◌*◌, ◌/◌, ◌%◌, ◌^◌, ◌<◌, ◌≤◌, ◌==◌, Bool, true, false, refl, arith}
-use Rattle.px_array.specs.Acts.{HasPlace}
-use Rattle.px_array.specs.declared.act.Act.{Act}
+use Rattle.px_state.proofs.Cited.{Act, act_number, act_with, arith, Bool, false, HasPlace, lines_number, memory_place}
+use Rattle.px_state.proofs.Cited.{Micro, packed_bit, packed_value, refl, tree_number, tree_with, TreeOp, true, ℕ, ◌%◌}
+use Rattle.px_state.proofs.Cited.{◌*◌, ◌+◌, ◌/◌, ◌<◌, ◌==◌, ◌^◌, ◌≡◌, ◌≤◌}
 use Rattle.px_array.specs.declared.act.Act.TheVariants as act
-use Rattle.px_array.specs.declared.micro.Micro.{Micro}
-use Rattle.px_array.specs.declared.micro.TreeOp.{TreeOp}
-use Rattle.px_state.specs.Packing.{act_number, act_with, packed_bit, is_micro, lines_number, micro_in, packed}
-use Rattle.px_state.specs.Packing.{memory_place}
-use Rattle.px_state.specs.Packing.{tree_number, tree_with, packed_value}
+use Rattle.px_state.specs.Packing.{is_micro, micro_in, packed}
 
 pub act_back : (a : Act) → act_with (act_number a) (packed_value a) (memory_place a) ≡ a
 act_back act.Nop = refl

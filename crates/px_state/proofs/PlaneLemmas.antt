@@ -1,14 +1,9 @@
 -- Planes by columns, and by 64 words at once.
-use Rattle.px_num.proofs.Basics.{◌≡◌, ℕ, zero, suc, ◌+◌, ◌*◌, ◌/◌, ◌%◌, ◌^◌, ◌<◌, List, get_or, ap}
-use Rattle.px_num.proofs.Basics.{◌∙◌, arith, inl, inr, cases_eq, div-lt_iff_lt-mul, pow-add}
-use Rattle.px_num.proofs.Basics.{get_or-set_other, get_or-set_same, length, set}
-use Rattle.px_num.proofs.BitLaws.{pow_above}
-use Rattle.px_num.specs.Bits.{nat_bit}
-use Rattle.std.proofs.Math.Nat.{div-add-mod}
-use Rattle.px_rows.proofs.BitLaws.{bit_down}
-use Rattle.px_rows.specs.Rows.{row_bit}
+use Rattle.px_state.proofs.Cited.{ap, arith, bit_down, cases_eq, div-add-mod, div-lt_iff_lt-mul, get_or}
+use Rattle.px_state.proofs.Cited.{get_or-set_other, get_or-set_same, inl, inr, length, List, nat_bit, pow-add}
+use Rattle.px_state.proofs.Cited.{pow_above, row_bit, row_words, set, suc, zero, ℕ, ◌%◌, ◌*◌, ◌+◌, ◌/◌, ◌<◌, ◌^◌, ◌∙◌}
+use Rattle.px_state.proofs.Cited.{◌≡◌}
 use Rattle.px_state.proofs.ShapeLemmas.{apart}
-use Rattle.px_state.specs.Words.{row_words}
 
 -- the bits of a column from a row on that is a multiple of 64 are in one word
 pub in_one_word : (ny x w j : ℕ) → 64 * w + j < 2 ^ ny → j < 64 → (x * 2 ^ ny + 64 * w) % 64 + j < 64

@@ -1,11 +1,7 @@
 -- Micros that are written operation by operation.
-use Rattle.px_num.proofs.Basics.{◌≡◌, ℕ, ◌+◌, ◌-◌, ◌<◌, ◌≤◌, List, length, get_or, Some, inl, inr, ap, ◌∙◌, arith}
-use Rattle.px_num.proofs.Basics.{slice_get, cases_lt}
-use Rattle.px_asm.specs.Micros.{cycles, micro_at}
-use Rattle.px_macro.specs.declared.operation.Macro.{Macro}
-use Rattle.px_listing.specs.Listings.{ListingView}
-use Rattle.px_state.specs.Courses.{broadcasts, start_in_listing}
-use Rattle.px_state.specs.Packed.{HasMicro}
+use Rattle.px_state.proofs.Cited.{ap, arith, broadcasts, cases_lt, cycles, get_or, HasMicro, inl, inr, length, List}
+use Rattle.px_state.proofs.Cited.{ListingView, Macro, micro_at, slice_get, Some, start_in_listing, ℕ, ◌+◌, ◌-◌, ◌<◌}
+use Rattle.px_state.proofs.Cited.{◌∙◌, ◌≡◌, ◌≤◌}
 use Rattle.px_state.specs.Packing.{packed}
 use Rattle.px_state.proofs.CourseLemmas.{broadcast_here}
 

@@ -1,16 +1,8 @@
 -- The planes of an array, by the rows that it lends.
-use Rattle.px_num.proofs.Basics.{◌≡◌, ℕ, ◌+◌, ◌*◌, ◌^◌, ◌<◌, ◌≤◌, Bool, false, List, length, arith}
-use Rattle.px_num.proofs.Basics.{pow-add}
-use Rattle.px_num.specs.Bits.{bit_at}
-use Rattle.px_array.specs.Arrays.{State, levels_of}
-use Rattle.px_array.specs.Words.{memory_bit}
-use Rattle.px_array.specs.Pixels.{PixelState, zero_pixel}
-use Rattle.px_planes.specs.Lent.{IsRegister}
-use Rattle.px_tree.specs.Nodes.{TreeState}
-use Rattle.px_rows.specs.Rows.{EachBit, words_for}
+use Rattle.px_state.proofs.Cited.{arith, bit_at, Bool, EachBit, false, IsRegister, IsShapeOf, length, levels_of, List}
+use Rattle.px_state.proofs.Cited.{memory_bit, pixel_here, PixelState, placed, pow-add, Shape, State, TreeState}
+use Rattle.px_state.proofs.Cited.{words_for, zero_pixel, ℕ, ◌*◌, ◌+◌, ◌<◌, ◌^◌, ◌≡◌, ◌≤◌}
 use Rattle.px_state.proofs.ShapeLemmas.{plane_end}
-use Rattle.px_state.specs.Cells.{IsShapeOf, pixel_here, placed}
-use Rattle.px_state.specs.declared.shape.Shape.{Shape}
 
 pub placed_register : (shape : Shape) (s : State) (register : PixelState → Bool) (row : List ℕ) → IsShapeOf shape s.tree
     → register (zero_pixel shape.bits) ≡ false → IsRegister s register row → (x y : ℕ) → y < 2 ^ shape.ny

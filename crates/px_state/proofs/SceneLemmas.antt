@@ -1,19 +1,9 @@
 -- The operations of a scene as those of a listing.
-use Rattle.px_num.proofs.Basics.{◌≡◌, ℕ, Some, refl, ◌∙◌, arith}
-use Rattle.px_array.specs.Arrays.{Device}
-use Rattle.px_asm.specs.Micros.{micro_at}
-use Rattle.px_array.specs.declared.micro.Micro.{Micro}
-use Rattle.px_macro.specs.Macros.{IsLawfulInMore}
-use Rattle.px_macro.specs.declared.operation.Macro.{Macro}
-use Rattle.px_model.specs.Scenes.{SceneView}
-use Rattle.px_control.specs.Program.{IsAt, array_after, columns_of, program, rows_of}
+use Rattle.px_state.proofs.Cited.{arith, columns_of, Device, device_after, IsAt, IsGoodCourse, IsGoodProgram}
+use Rattle.px_state.proofs.Cited.{IsLawfulInMore, IsNextBroadcast, Macro, Micro, micro_at, passes_listing, Place, refl}
+use Rattle.px_state.proofs.Cited.{rows_of, SceneView, Some, StandsFor, total_of_listing, ℕ, ◌∙◌, ◌≡◌}
+use Rattle.px_control.specs.Program.{array_after, program}
 use Rattle.px_control.specs.Program as program
-use Rattle.px_control.specs.ProgramLaws.{IsGoodProgram}
-use Rattle.px_control.specs.Standing.{StandsFor}
-use Rattle.px_control.specs.declared.place.Place.{Place}
-use Rattle.px_listing.specs.PassesText.{passes_listing}
-use Rattle.px_state.specs.Courses.{IsNextBroadcast, device_after, total_of_listing}
-use Rattle.px_state.specs.Inputs.{IsGoodCourse}
 use Rattle.px_state.proofs.CourseLemmas.{next_here}
 
 pub same_total : (scene : SceneView) → program.total scene ≡ total_of_listing (passes_listing scene)

@@ -1,10 +1,7 @@
 -- The words of a grid.
-use Rattle.px_num.proofs.Basics.{◌≡◌, ◌≢◌, ℕ, ◌+◌, ◌*◌, ◌^◌, ◌<◌, ◌≤◌, nat_lt, refl, sym, ◌∙◌, arith, inl, inr}
-use Rattle.px_num.proofs.Basics.{mul-le-mul_right, cases_eq, cases_lt}
-use Rattle.px_num.proofs.BitLaws.{pow_above}
-use Rattle.px_num.proofs.TruthLaws.{lt_true, power_grows}
-use Rattle.px_planes.proofs.GridLemmas.{whole_words}
-use Rattle.px_state.specs.Words.{plane_words, row_words}
+use Rattle.px_state.proofs.Cited.{arith, cases_eq, cases_lt, inl, inr, lt_true, mul-le-mul_right, nat_lt, plane_words}
+use Rattle.px_state.proofs.Cited.{pow_above, power_grows, refl, row_words, sym, whole_words, ℕ, ◌*◌, ◌+◌, ◌<◌, ◌^◌, ◌∙◌}
+use Rattle.px_state.proofs.Cited.{◌≡◌, ◌≢◌, ◌≤◌}
 
 -- each word of a row has the same pixels: 64, or all of the row
 pub full_law : (nx c i : ℕ) → c < row_words nx → i < 64 → nat_lt i (2 ^ nx) ≡ nat_lt (64 * c + i) (2 ^ nx)

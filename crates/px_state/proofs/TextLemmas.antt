@@ -1,19 +1,13 @@
 -- What a text broadcasts, or why it is refused, by its first word.
-use Rattle.px_num.proofs.Basics.{◌≡◌, ℕ, ◌<◌, ◌≤◌, ◌⊎◌, true, false, List, length, Option, Some, inl, inr, refl, ap}
-use Rattle.px_num.proofs.Basics.{option_map, option_or, lt-ltb}
-use Rattle.px_num.specs.Want.{want}
-use Rattle.px_num.proofs.TruthLaws.{lt_false}
-use Rattle.px_text.specs.declared.text.TheConstants.{MAX_TEXT_BYTES}
-use Rattle.px_text.specs.Text.{worded}
-use Rattle.px_scene.specs.Reading.{scene_of}
+use Rattle.px_state.proofs.Cited.{ap, false, fault_of_scene, inl, inr, IsRefusedBy, length, List, list_fault, ListFault}
+use Rattle.px_state.proofs.Cited.{listing_of, lt-ltb, lt_false, MAX_TEXT_BYTES, Option, option_map, option_or}
+use Rattle.px_state.proofs.Cited.{passes_listing, past_text_limit, refl, refusal_by_bits, scene_of, Some, true, want}
+use Rattle.px_state.proofs.Cited.{worded, ℕ, ◌<◌, ◌≡◌, ◌≤◌, ◌⊎◌}
 use Rattle.px_scene.specs.Reading as reading
 use Rattle.px_show.specs.declared.fault.TextFault.TheVariants as text_fault
-use Rattle.px_listing.specs.PassesText.{passes_listing}
-use Rattle.px_listing.specs.Reading.{listing_of}
 use Rattle.px_listing.specs.Reading as listing
-use Rattle.px_listing.specs.Reading.{ListFault}
-use Rattle.px_state.specs.Refusals.{IsRefusedBy, course_of, is_listing, refusal_by_bits}
-use Rattle.px_state.specs.Refusals.{list_fault, fault_of_scene, input_refusal, past_text_limit}
+use Rattle.px_state.specs.Refusals.{course_of, is_listing}
+use Rattle.px_state.specs.Refusals.{input_refusal}
 
 pub long_text : (bits : ℕ) (text : List ℕ) → MAX_TEXT_BYTES < length text
     → IsRefusedBy past_text_limit (input_refusal bits text)

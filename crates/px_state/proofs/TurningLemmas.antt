@@ -1,9 +1,7 @@
 -- The shuffles by which a block is turned over.
-use Rattle.px_num.proofs.Basics.{◌≡◌, ℕ, ◌+◌, ◌*◌, ◌/◌, ◌%◌, ◌<◌, ◌==◌, cond, List, get_or, length, set, sym, ap}
-use Rattle.px_num.proofs.Basics.{◌∙◌, arith, inl, inr, cases_lt, get_or-set_other, get_or-set_same, length-set}
-use Rattle.px_num.specs.Bits.{nat_bit}
-use Rattle.px_rows.specs.Rows.{row_bit}
-use Rattle.px_state.specs.Turning.{shuffled}
+use Rattle.px_state.proofs.Cited.{ap, arith, cases_lt, cond, get_or, get_or-set_other, get_or-set_same, inl, inr}
+use Rattle.px_state.proofs.Cited.{length, length-set, List, nat_bit, row_bit, set, shuffled, sym, ℕ, ◌%◌, ◌*◌, ◌+◌, ◌/◌}
+use Rattle.px_state.proofs.Cited.{◌<◌, ◌==◌, ◌∙◌, ◌≡◌}
 
 -- a shuffle stays in the block, and six of them turn it over
 pub shuffled_below : (p : ℕ) → p < 4096 → shuffled p < 4096

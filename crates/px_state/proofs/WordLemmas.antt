@@ -1,8 +1,6 @@
 -- The first word of a line, and of a text.
-use Rattle.px_num.proofs.Basics.{◌≡◌, ℕ, ◌<◌, List, [], ◌∷◌, length, get_or, Some, Bool, codes, ap, sym, arith}
-use Rattle.px_num.proofs.Basics.{slice_get, bytes_eq}
-use Rattle.px_text.specs.Text.{Words}
-use Rattle.px_state.specs.Refusals.{starts_listing}
+use Rattle.px_state.proofs.Cited.{[], ap, arith, Bool, bytes_eq, codes, get_or, length, List, slice_get, Some}
+use Rattle.px_state.proofs.Cited.{starts_listing, sym, Words, ℕ, ◌<◌, ◌∷◌, ◌≡◌}
 
 pub first_word : (ws : Words) (w : List ℕ) → 0 < length ws → w ≡ get_or ws 0 w
     → Some (bytes_eq w (codes "pxlist")) ≡ starts_listing ws

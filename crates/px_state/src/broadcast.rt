@@ -39,6 +39,7 @@ pub(crate) struct Mark {
 }
 
 /// Reads a text, for pixels of so many memory bits.
+#[tactic(auto, using(crate::proofs::TextLemmas::list_text, crate::proofs::TextLemmas::scene_text, crate::proofs::TextLemmas::long_text))]
 pub(crate) fn read_input(alloc: Global, text: &[u8], bits: u32) -> Result<Input, StateFault>
     requires bits { bits ≤ 256 }
     ensures ok { IfOk result (λ input. IsReadAs bits text.now input) }
@@ -61,6 +62,7 @@ pub(crate) fn read_input(alloc: Global, text: &[u8], bits: u32) -> Result<Input,
 
 impl<'s> Broadcast<'s> {
     /// Of an input, for pixels of so many memory bits.
+    #[tactic(auto, using(crate::proofs::TextLemmas::scene_course, crate::proofs::TextLemmas::list_course))]
     pub(crate) fn of(
         alloc: Global,
         input: &'s Input,
@@ -81,6 +83,7 @@ impl<'s> Broadcast<'s> {
     }
 
     /// The exponents of the grid.
+    #[tactic(auto, using(crate::proofs::SceneLemmas::good_course))]
     pub(crate) fn grid(&self) -> (u32, u32)
         ensures columns { result.0 ≡ (listing_in self.now).nx }
         ensures rows { result.1 ≡ (listing_in self.now).ny }
@@ -154,6 +157,7 @@ fn program_of<'s>(alloc: Global, scene: &'s Scene, bits: u32) -> Result<Program<
 }
 
 /// How many clocks a listing takes.
+#[tactic(auto, using(crate::proofs::CourseLemmas::begins, crate::proofs::CourseLemmas::here_in))]
 fn clocks_of(listing: &Listing) -> u64
     ensures clocks { result ≡ total_of_listing listing.now }
     ensures few { result < 2 ^ 43 }

@@ -46,6 +46,7 @@ pub fn make_clocks(
 }
 
 /// Makes a clock of each micro, of which each word is one. The plane of leaves is written once after them.
+#[tactic(auto, using(crate::proofs::ClockedLemmas::one_more))]
 fn clock_all(words: &mut [u64], shape: &Shape, micros: &[u64])
     requires shape { IsShape shape.now }
     requires some { 1 ≤ shape.now.bits }

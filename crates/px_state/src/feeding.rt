@@ -40,6 +40,7 @@ pub(crate) fn fed_word(
 }
 
 /// The node table on 64 nodes from an even place on.
+#[tactic(auto, using(px_rows::proofs::BitLaws::odd_bits))]
 fn next_words(parents: u64, line: u64, carry: u64) -> (u64, u64)
     ensures output { (j : ℕ) → j < 64 → nat_bit result.0 j
         ≡ (next_node (j % 2 == 1) (nat_bit parents j) (nat_bit line j) (nat_bit carry j)).output }

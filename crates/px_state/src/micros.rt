@@ -14,6 +14,7 @@ use px_asm::{cycles, micro_at};
 use px_macro::Macro;
 
 /// Writes the micros of what is broadcast from a clock on.
+#[tactic(auto, using(px_control::proofs::StepLemmas::start_within))]
 pub(crate) fn put_course(course: &Broadcast<'_>, first: u64, micros: &mut [u64])
     requires within { first + length micros.old ≤ total_of_listing (listing_in course.now) }
     ensures micros { HasMicros (listing_in course.now) first micros.new }

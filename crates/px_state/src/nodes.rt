@@ -33,6 +33,7 @@ pub(crate) fn move_nodes(words: &mut [u64], shape: &Shape, op: TreeOp)
 }
 
 /// Writes the plane of leaves, by the nodes.
+#[tactic(auto, using(px_num::proofs::TruthLaws::power_grows))]
 pub(crate) fn write_leaves(words: &mut [u64], shape: &Shape)
     requires shape { IsShape shape.now }
     requires room { nodes_at shape.now + 2 * shape.now.nodes ≤ length words.old }

@@ -66,6 +66,7 @@ fn put_listing(listing: &Listing, first: u64, list: &mut [Operation])
 }
 
 /// Writes the operations of a scene's passes from one on, where there are as many.
+#[tactic(auto, using(crate::proofs::OperationLemmas::before_all, crate::proofs::OperationLemmas::no_more))]
 fn put_passes(scene: &Scene, plan: &Plan, layout: &Layout, first: u64, list: &mut [Operation])
     requires products { plan.now.products.items ≡ plan_of scene.now }
     requires layout { layout.now ≡ layout_of scene.now }
@@ -90,6 +91,7 @@ fn put_passes(scene: &Scene, plan: &Plan, layout: &Layout, first: u64, list: &mu
 ///
 /// The first of the step stands at a place among all operations and begins at a clock, and what is
 /// answered is where those after the step begin.
+#[tactic(auto, using(px_control::proofs::StepLemmas::start_within, crate::proofs::SceneLemmas::same_total))]
 fn put_step(
     scene: &Scene,
     layout: &Layout,

@@ -140,6 +140,7 @@ pub(crate) fn is_micro(word: u64, bits: usize) -> bool
 }
 
 /// The words of micros are those of the micros that are found in them, and no others are.
+#[tactic(auto, using(crate::proofs::PackingLemmas::micro_back, crate::proofs::PackingLemmas::unpacked, crate::proofs::PackingLemmas::micro_only))]
 pub fn law_of_unpacking()
     ensures { AreUnpacked }
 {}

@@ -27,6 +27,7 @@ pub(crate) fn write_plane(words: &mut [u64], first: usize, shape: &Shape, row: &
 }
 
 /// The bits of 64 columns from column `64 * c` on, in the rows from row `64 * w` on, a column in each word.
+#[tactic(auto, using(px_num::proofs::TruthLaws::power_grows))]
 fn block_of(row: &[u64], shape: &Shape, from: usize, w: usize, c: usize) -> [u64; 64]
     requires shape { IsShape shape.now }
     requires from { from ≤ 2 ^ 9 }

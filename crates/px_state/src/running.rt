@@ -34,6 +34,7 @@ pub(crate) fn run_to<A: Operating>(
 }
 
 /// Makes the first clocks of a scene on a new array.
+#[tactic(auto, using(crate::proofs::SceneLemmas::same_total))]
 fn draw_to<A: Operating>(program: &Program<'_>, array: &mut A, clock: u64) -> Option<Next>
     requires held { need_of (layout_of program.now) ≤ A.BITS }
     requires new { (A.view array.old).device
@@ -46,6 +47,7 @@ fn draw_to<A: Operating>(program: &Program<'_>, array: &mut A, clock: u64) -> Op
 }
 
 /// The broadcast before which a place of a scene's program stands.
+#[tactic(auto, using(px_control::proofs::PlaceLemmas::at_end))]
 fn next_at(program: &Program<'_>, place: &Place) -> Option<Next>
     requires { StandsFor program.now place.now }
     ensures some { IfSome result (λ n. IsNextBroadcast (passes_listing program.now) place.now.clock
@@ -63,6 +65,7 @@ fn next_at(program: &Program<'_>, place: &Place) -> Option<Next>
 }
 
 /// Makes the first clocks of a listing on a new array.
+#[tactic(auto, using(crate::proofs::CourseLemmas::columns_are, crate::proofs::CourseLemmas::rows_are))]
 fn play_to<A: Array>(listing: &Listing, array: &mut A, clock: u64) -> Option<Next>
     requires lawful { All (λ m. IsLawful m A.BITS) listing.now.macros }
     requires new { (A.view array.old).device ≡ opened A.BITS listing.now.nx listing.now.ny }

@@ -22,6 +22,7 @@ pub(crate) struct Shape {
 }
 
 impl Shape {
+    #[tactic(auto, using(crate::proofs::ShapeLemmas::full_law))]
     pub(crate) fn of(bits: usize, nx: u32, ny: u32) -> Shape
         requires bits { bits ≤ 256 }
         requires grid { IsGrid nx ny }

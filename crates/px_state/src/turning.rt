@@ -38,6 +38,7 @@ fn shuffled(block: &[u64; 64]) -> [u64; 64]
 
 /// The bits of one word at even places, and those of another at odd ones.
 #[inline(always)]
+#[tactic(auto, using(px_rows::proofs::BitLaws::odd_bits))]
 fn merged(even: u64, odd: u64) -> [u64; 2]
     ensures { (h j : ℕ) → h < 2 → j < 64 → nat_bit (get_or result h 0) j
         ≡ cond (j % 2 == 1) (nat_bit odd (32 * h + j / 2)) (nat_bit even (32 * h + j / 2)) }

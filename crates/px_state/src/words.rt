@@ -33,6 +33,7 @@ pub fn row_words(nx: u32) -> usize
     power(nx).div_ceil(64)
 }
 
+#[tactic(auto, using(crate::proofs::ShapeLemmas::few_words))]
 pub(crate) fn plane_words(nx: u32, ny: u32) -> usize
     requires grid { IsGrid nx ny }
     ensures words { result ≡ plane_words nx ny }

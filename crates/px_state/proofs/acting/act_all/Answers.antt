@@ -1,7 +1,5 @@
-use Rattle.px_num.proofs.Basics.{◌+◌, ◌<◌, ap, sym, ◌∙◌, arith, inl, inr, cases_eq}
-use Rattle.px_num.specs.Bits.{nat_bit}
+use Rattle.px_state.proofs.Cited.{ap, arith, cases_eq, inl, inr, leaves_at, nat_bit, sym, ◌+◌, ◌<◌, ◌∙◌}
 use Rattle.px_state.proofs.ActingLemmas.{same_pixel}
-use Rattle.px_state.specs.Cells.{leaves_at}
 use Rattle.px_state.proofs.acting.act_all.Goals as goal
 
 pub loop-k-preserved : goal.loop-k-preserved

@@ -1,5 +1,4 @@
-use Rattle.px_num.proofs.Basics.{◌≡◌, ℕ, ◌+◌, ◌*◌, ◌<◌, ◌≤◌, length, get_or}
-use Rattle.px_state.specs.Cells.{IsActed, leaves_at}
+use Rattle.px_state.proofs.Cited.{get_or, IsActed, leaves_at, length, ℕ, ◌*◌, ◌+◌, ◌<◌, ◌≡◌, ◌≤◌}
 use Rattle.px_state.proofs.acting.act_all.Given as goal
 
 abbrev pub invariant-loop-k : goal.invariant-loop-k

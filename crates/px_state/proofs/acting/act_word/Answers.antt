@@ -1,10 +1,7 @@
-use Rattle.px_num.proofs.Basics.{ℕ, ◌+◌, ◌*◌, ◌<◌, ap, sym, ◌∙◌, arith, inl, inr, cases_eq}
-use Rattle.px_num.specs.Bits.{nat_bit}
+use Rattle.px_state.proofs.Cited.{ap, arith, cases_eq, inl, inr, leaves_at, memory_place, nat_bit, sym, word_bit, ℕ}
+use Rattle.px_state.proofs.Cited.{◌*◌, ◌+◌, ◌∙◌}
 use Rattle.px_state.proofs.ActingLemmas.{other_bits}
-use Rattle.px_state.proofs.ShapeLemmas.{apart, beside, plane_end}
-use Rattle.px_state.specs.Cells.{leaves_at}
-use Rattle.px_state.specs.Packing.{memory_place}
-use Rattle.px_state.specs.Words.{word_bit}
+use Rattle.px_state.proofs.ShapeLemmas.{apart, beside}
 use Rattle.px_state.proofs.acting.act_word.Goals as goal
 
 pub returns-clause-acted : goal.returns-clause-acted
@@ -50,13 +47,3 @@ returns-clause-others c = λ b j within other.
     let plane = c.args.shape.now.plane in
     let apart = λ (at : ℕ). beside b at plane j c.args.k within c.requires.within other in
     c.put_cells.ensures.others (b * plane + j) (apart _) (apart _) (apart _) (apart _)
-
-pub returns-clause-behind : goal.returns-clause-behind
-returns-clause-behind c = λ j past.
-    let shape = c.args.shape.now in
-    let low : (b : ℕ) → b < shape.bits + 3 → b * shape.plane + c.args.k < leaves_at shape =
-    λ b below. omega (arith, c.requires.within, plane_end b (shape.bits + 3) shape.plane below) in
-    c.put_cells.ensures.others j
-    (omega (arith, past, low c.place_of-at.result (omega (arith, c.place_of-at.ensures, c.requires.place))))
-    (omega (arith, past, low shape.bits (omega arith))) (omega (arith, past, low (shape.bits + 1) (omega arith)))
-    (omega (arith, past, low (shape.bits + 2) (omega arith)))

@@ -1,5 +1,4 @@
-use Rattle.px_num.proofs.Basics.{◌≡◌, ◌*◌, ◌≤◌}
-use Rattle.px_state.specs.Courses.{start_in_listing}
+use Rattle.px_state.proofs.Cited.{start_in_listing, ◌*◌, ◌≡◌, ◌≤◌}
 use Rattle.px_state.proofs.broadcast.clocks_of.Given as goal
 
 abbrev pub invariant-loop-m : goal.invariant-loop-m

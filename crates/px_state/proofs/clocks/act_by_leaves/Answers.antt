@@ -1,6 +1,5 @@
-use Rattle.px_num.proofs.Basics.{inl, inr, ◌∙◌, arith}
+use Rattle.px_state.proofs.Cited.{inl, IsShapeOf}
 use Rattle.px_state.proofs.ActingLemmas.{acted_pixels, kept_pixels}
-use Rattle.px_state.specs.Cells.{IsShapeOf}
 use Rattle.px_state.proofs.clocks.act_by_leaves.Goals as goal
 
 pub returns-clause-pixels : goal.returns-clause-pixels
@@ -14,7 +13,3 @@ returns-clause-pixels c = λ s grid pixels nodes.
     acted_pixels shape s is grid c.args.act.now new c.act_all.new.words
     (kept_pixels shape s.pixels old new is (λ j low. leaves.others j (inl low)) pixels) (leaves.leaves s.tree size nodes)
     c.act_all.ensures.acted
-
-pub returns-clause-behind : goal.returns-clause-behind
-returns-clause-behind c = λ j high.
-    c.act_all.ensures.behind j (omega (arith, high)) ∙ c.write_leaves.ensures.others j (inr high)

@@ -1,7 +1,5 @@
-use Rattle.px_num.proofs.Basics.{sym, ap, subst, ◌∙◌}
-use Rattle.px_array.specs.Clocks.{acted}
+use Rattle.px_state.proofs.Cited.{acted, ap, HoldsPixels, subst, sym, ◌∙◌}
 use Rattle.px_state.proofs.ActingLemmas.{none_acted}
-use Rattle.px_state.specs.Cells.{HoldsPixels}
 use Rattle.px_state.proofs.clocks.act_by_nodes.Goals as goal
 
 pub returns-in-Nop-clause-pixels : goal.returns-in-Nop-clause-pixels

@@ -1,8 +1,6 @@
-use Rattle.px_num.proofs.Basics.{inl, arith}
-use Rattle.px_array.proofs.ClockLaws.{grid_after_clock}
+use Rattle.px_state.proofs.Cited.{arith, grid_after_clock, inl, IsShapeOf}
 use Rattle.px_state.proofs.ActingLemmas.{kept_pixels}
 use Rattle.px_state.proofs.ClockedLemmas.{kept_nodes}
-use Rattle.px_state.specs.Cells.{IsShapeOf}
 use Rattle.px_state.proofs.clocks.clock.Goals as goal
 
 pub returns-clause-clocked : goal.returns-clause-clocked

@@ -1,15 +1,9 @@
-use Rattle.std.proofs.lemmas.Grind.{common_steps}
-use Rattle.px_num.proofs.Basics.{map, subst, ◌∙◌, arith, inr, take_all}
-use Rattle.px_array.specs.Arrays.{State}
-use Rattle.px_array.specs.Clocks.{after_clocks}
-use Rattle.px_state.proofs.ClockedLemmas.{but_leaves, has_words, none_stray, one_more, room_is, with_leaves}
+use Rattle.px_state.proofs.Cited.{after_clocks, arith, common_steps, HoldsPixelsAndNodes, inr, map, State, subst}
+use Rattle.px_state.proofs.Cited.{take_all, ◌∙◌}
+use Rattle.px_state.proofs.ClockedLemmas.{but_leaves, has_words, none_stray, room_is, with_leaves}
 use Rattle.px_state.proofs.PackingLemmas.{micro_only}
-use Rattle.px_state.specs.Cells.{HoldsPixelsAndNodes}
 use Rattle.px_state.specs.Packing.{micro_in}
 use Rattle.px_state.proofs.clocks.clock_all.Goals as goal
-
-pub loop-word-preserved : goal.loop-word-preserved
-loop-word-preserved c = grind (arith, common_steps, one_more, map)
 
 pub clock-requires-clause-place : goal.clock-requires-clause-place
 clock-requires-clause-place c = grind (arith, common_steps, none_stray, micro_only)

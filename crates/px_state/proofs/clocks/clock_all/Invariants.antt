@@ -1,9 +1,6 @@
-use Rattle.px_num.proofs.Basics.{◌≡◌, ℕ, ◌≤◌, get_or, length, map, take}
-use Rattle.px_array.specs.Arrays.{State}
-use Rattle.px_array.specs.Clocks.{after_clocks}
-use Rattle.px_state.specs.Cells.{HoldsPixelsAndNodes}
+use Rattle.px_state.proofs.Cited.{after_clocks, get_or, HoldsPixelsAndNodes, length, map, room_of, State, take, ℕ, ◌≡◌}
+use Rattle.px_state.proofs.Cited.{◌≤◌}
 use Rattle.px_state.specs.Packing.{micro_in}
-use Rattle.px_state.specs.Words.{room_of}
 use Rattle.px_state.proofs.clocks.clock_all.Given as goal
 
 abbrev pub invariant-loop-word : goal.invariant-loop-word

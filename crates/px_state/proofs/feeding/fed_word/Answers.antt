@@ -1,7 +1,4 @@
-use Rattle.px_num.proofs.Basics.{ap, ◌∙◌}
-use Rattle.px_tree.specs.Nodes.{after_feed}
-use Rattle.px_tree.specs.declared.node.Node.{Node}
-use Rattle.px_state.specs.Cells.{IsShapeOf}
+use Rattle.px_state.proofs.Cited.{after_feed, ap, IsShapeOf, Node, ◌∙◌}
 use Rattle.px_state.proofs.NodeLemmas.{fed_node, masked}
 use Rattle.px_state.proofs.feeding.fed_word.Goals as goal
 

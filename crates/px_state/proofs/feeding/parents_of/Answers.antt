@@ -1,6 +1,5 @@
-use Rattle.px_num.proofs.Basics.{◌≡◌, ◌+◌, ◌*◌, ◌/◌, ◌%◌, get_or, ap, refl, ◌∙◌, arith, get_or_default}
-use Rattle.px_num.proofs.TruthLaws.{lt_false}
-use Rattle.px_num.specs.Bits.{nat_bit}
+use Rattle.px_state.proofs.Cited.{ap, arith, get_or, get_or_default, lt_false, nat_bit, refl, ◌%◌, ◌*◌, ◌+◌, ◌/◌, ◌∙◌}
+use Rattle.px_state.proofs.Cited.{◌≡◌}
 use Rattle.px_state.proofs.NodeLemmas.{parents_root}
 use Rattle.px_state.proofs.feeding.parents_of.Goals as goal
 use Rattle.px_state.proofs.feeding.parents_of.Goals.{then-w-eq0, else-w-eq0}

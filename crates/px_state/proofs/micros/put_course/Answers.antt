@@ -1,13 +1,8 @@
-use Rattle.std.proofs.lemmas.Grind.{common_steps}
-use Rattle.px_num.proofs.Basics.{◌≡◌, Some, sym, ◌∙◌, arith, slice_get}
-use Rattle.px_control.proofs.StepLemmas.{start_within}
+use Rattle.px_state.proofs.Cited.{arith, given_by, listing_in, slice_get, Some, sym, ◌∙◌}
+use Rattle.px_state.proofs.Cited.{◌≡◌}
 use Rattle.px_state.proofs.CourseLemmas.{begins}
-use Rattle.px_state.specs.Inputs.{given_by, listing_in}
 use Rattle.px_state.proofs.PutLemmas.{put_next}
 use Rattle.px_state.proofs.micros.put_course.Goals as goal
-
-pub put_micros-start-requires-clause-start : goal.put_micros-start-requires-clause-start
-put_micros-start-requires-clause-start c = grind (arith, common_steps, start_within)
 
 pub returns-then-end-start-clause-micros : goal.returns-then-end-start-clause-micros
 returns-then-end-start-clause-micros c j within =

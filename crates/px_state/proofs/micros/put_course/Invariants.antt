@@ -1,6 +1,4 @@
-use Rattle.px_num.proofs.Basics.{◌≡◌, ◌-◌, length}
-use Rattle.px_state.specs.Courses.{start_in_listing}
-use Rattle.px_state.specs.Inputs.{StandsIn, given_by, listing_in}
+use Rattle.px_state.proofs.Cited.{given_by, length, listing_in, StandsIn, start_in_listing, ◌-◌, ◌≡◌}
 use Rattle.px_state.proofs.PutLemmas.{IsPutTo}
 use Rattle.px_state.proofs.micros.put_course.Given as goal
 

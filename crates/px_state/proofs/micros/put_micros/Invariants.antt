@@ -1,5 +1,4 @@
-use Rattle.px_num.proofs.Basics.{◌≡◌, ℕ, ◌+◌, ◌-◌, ◌<◌, ◌≤◌, length, get_or}
-use Rattle.px_asm.specs.Micros.{micro_at}
+use Rattle.px_state.proofs.Cited.{get_or, length, micro_at, ℕ, ◌+◌, ◌-◌, ◌<◌, ◌≡◌, ◌≤◌}
 use Rattle.px_state.specs.Packing.{packed}
 use Rattle.px_state.proofs.micros.put_micros.Given as goal
 

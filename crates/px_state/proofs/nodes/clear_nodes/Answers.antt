@@ -1,5 +1,4 @@
-use Rattle.std.proofs.lemmas.Grind.{common_steps}
-use Rattle.px_num.proofs.Basics.{arith}
+use Rattle.px_state.proofs.Cited.{arith, common_steps}
 use Rattle.px_state.proofs.NodeLemmas.{cleared_nodes}
 use Rattle.px_state.proofs.nodes.clear_nodes.Goals as goal
 

@@ -1,5 +1,4 @@
-use Rattle.px_num.proofs.Basics.{◌≡◌, ℕ, ◌+◌, ◌*◌, ◌<◌, ◌≤◌, ◌⊎◌, length, get_or}
-use Rattle.px_state.specs.Cells.{nodes_at}
+use Rattle.px_state.proofs.Cited.{get_or, length, nodes_at, ℕ, ◌*◌, ◌+◌, ◌<◌, ◌≡◌, ◌≤◌, ◌⊎◌}
 use Rattle.px_state.proofs.nodes.clear_nodes.Given as goal
 
 abbrev pub invariant-loop-k : goal.invariant-loop-k

@@ -1,8 +1,5 @@
-use Rattle.px_num.proofs.Basics.{◌≡◌, ◌+◌, ◌-◌, ◌/◌, ◌<◌, ap, ◌∙◌, arith, inl, inr}
-use Rattle.px_num.specs.Bits.{nat_bit}
-use Rattle.px_tree.specs.Nodes.{after_feed}
+use Rattle.px_state.proofs.Cited.{after_feed, ap, arith, inl, inr, nat_bit, nodes_at, ◌+◌, ◌-◌, ◌/◌, ◌<◌, ◌∙◌, ◌≡◌}
 use Rattle.px_state.proofs.NodeLemmas.{one_more_word}
-use Rattle.px_state.specs.Cells.{nodes_at}
 use Rattle.px_state.proofs.nodes.feed_nodes.Goals as goal
 
 pub loop-w-preserved : goal.loop-w-preserved

@@ -1,7 +1,5 @@
-use Rattle.px_num.proofs.Basics.{◌≡◌, ℕ, ◌+◌, ◌*◌, ◌<◌, ◌≤◌, ◌⊎◌, length, get_or}
-use Rattle.px_tree.specs.Nodes.{TreeState, after_feed}
-use Rattle.px_state.specs.Cells.{HoldsNodes, IsShapeOf, nodes_at}
-use Rattle.px_state.specs.Words.{IsNodeWord}
+use Rattle.px_state.proofs.Cited.{after_feed, get_or, HoldsNodes, IsNodeWord, IsShapeOf, length, nodes_at, TreeState, ℕ}
+use Rattle.px_state.proofs.Cited.{◌*◌, ◌+◌, ◌<◌, ◌≡◌, ◌≤◌, ◌⊎◌}
 use Rattle.px_state.proofs.nodes.feed_nodes.Given as goal
 
 abbrev pub invariant-loop-w : goal.invariant-loop-w

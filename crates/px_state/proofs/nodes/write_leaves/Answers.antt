@@ -1,16 +1,9 @@
-use Rattle.std.proofs.lemmas.Grind.{common_steps}
-use Rattle.px_num.proofs.Basics.{◌≡◌, ℕ, ◌+◌, ◌-◌, ◌*◌, ◌^◌, ◌<◌, ap, sym, ◌∙◌, arith, get_or, length, pow-add}
-use Rattle.px_num.proofs.Basics.{get_or-append_right, get_or_append_left}
-use Rattle.px_num.proofs.TruthLaws.{power_grows}
-use Rattle.px_num.specs.Bits.{nat_bit}
+use Rattle.px_state.proofs.Cited.{ap, arith, common_steps, get_or, get_or-append_right, get_or_append_left, IsNodeWord}
+use Rattle.px_state.proofs.Cited.{leaves_at, length, nat_bit, nodes_at, pow-add, row_words, sym, ℕ, ◌*◌}
+use Rattle.px_state.proofs.Cited.{◌+◌, ◌-◌, ◌<◌, ◌^◌, ◌∙◌, ◌≡◌}
 use Rattle.px_state.proofs.NodeLemmas.{leaf_law}
 use Rattle.px_state.proofs.ShapeLemmas.{plane_end}
-use Rattle.px_state.specs.Cells.{leaves_at, nodes_at}
-use Rattle.px_state.specs.Words.{IsNodeWord, row_words}
 use Rattle.px_state.proofs.nodes.write_leaves.Goals as goal
-
-pub write_plane-requires-clause-from : goal.write_plane-requires-clause-from
-write_plane-requires-clause-from c = grind (arith, common_steps, power_grows)
 
 pub write_plane-requires-clause-row : goal.write_plane-requires-clause-row
 write_plane-requires-clause-row c = grind (arith, common_steps, pow-add)

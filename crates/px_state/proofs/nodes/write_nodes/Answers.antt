@@ -1,6 +1,5 @@
-use Rattle.px_num.proofs.Basics.{◌+◌, ◌<◌, ◌∙◌, arith, inl, inr}
+use Rattle.px_state.proofs.Cited.{arith, inl, inr, nodes_at, ◌+◌, ◌<◌, ◌∙◌}
 use Rattle.px_state.proofs.NodeLemmas.{latch_word, masked, one_more_word}
-use Rattle.px_state.specs.Cells.{nodes_at}
 use Rattle.px_state.proofs.nodes.write_nodes.Goals as goal
 
 pub loop-w-preserved : goal.loop-w-preserved

@@ -1,8 +1,5 @@
-use Rattle.px_num.proofs.Basics.{◌≡◌, ℕ, ◌+◌, ◌*◌, ◌<◌, ◌≤◌, ◌⊎◌, length, get_or}
-use Rattle.px_plane_tree.specs.Lent.{IsLatch}
-use Rattle.px_tree.specs.Nodes.{TreeState}
-use Rattle.px_state.specs.Cells.{IsShapeOf, nodes_at}
-use Rattle.px_state.specs.Words.{IsNodeWord}
+use Rattle.px_state.proofs.Cited.{get_or, IsLatch, IsNodeWord, IsShapeOf, length, nodes_at, TreeState, ℕ, ◌*◌, ◌+◌, ◌<◌}
+use Rattle.px_state.proofs.Cited.{◌≡◌, ◌≤◌, ◌⊎◌}
 use Rattle.px_state.proofs.nodes.write_nodes.Given as goal
 
 abbrev pub invariant-loop-w : goal.invariant-loop-w

@@ -1,6 +1,4 @@
-use Rattle.px_num.proofs.Basics.{subst, sym}
-use Rattle.px_state.specs.Inputs.{IsOperationIn}
-use Rattle.px_state.specs.Operations.{HasOperations, IsPassed}
+use Rattle.px_state.proofs.Cited.{HasOperations, IsOperationIn, IsPassed, subst, sym}
 use Rattle.px_state.proofs.operations.put_course.Goals as goal
 
 pub returns-in-Passes-clause-operations : goal.returns-in-Passes-clause-operations

@@ -1,6 +1,4 @@
-use Rattle.px_num.proofs.Basics.{◌≡◌, ◌*◌, ◌≤◌, length}
-use Rattle.px_state.specs.Courses.{start_in_listing}
-use Rattle.px_state.specs.Operations.{IsOfListing}
+use Rattle.px_state.proofs.Cited.{IsOfListing, length, start_in_listing, ◌*◌, ◌≡◌, ◌≤◌}
 use Rattle.px_state.specs.Putting.{IsPutTo}
 use Rattle.px_state.proofs.operations.put_listing.Given as goal
 

@@ -1,9 +1,5 @@
-use Rattle.px_num.proofs.Basics.{◌≡◌, ◌-◌, length}
-use Rattle.px_listing.specs.PassesText.{passes_listing}
-use Rattle.px_sched.specs.Passes.{steps}
-use Rattle.px_sched.specs.StepCursors.{StandsAtStep}
-use Rattle.px_state.specs.Courses.{start_in_listing}
-use Rattle.px_state.specs.Operations.{IsPassed, operations_before}
+use Rattle.px_state.proofs.Cited.{IsPassed, length, operations_before, passes_listing, StandsAtStep, start_in_listing}
+use Rattle.px_state.proofs.Cited.{steps, ◌-◌, ◌≡◌}
 use Rattle.px_state.specs.Putting.{IsPutTo}
 use Rattle.px_state.proofs.operations.put_passes.Given as goal
 

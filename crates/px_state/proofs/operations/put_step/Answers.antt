@@ -1,19 +1,10 @@
-use Rattle.std.proofs.lemmas.Grind.{common_steps}
-use Rattle.std.proofs.Common.{rules}
-use Rattle.px_num.proofs.Basics.{◌≡◌, ◌+◌, ◌<◌, length, refl, sym, subst, ap, ◌∙◌, arith}
-use Rattle.px_asm.specs.Micros.{cycles}
-use Rattle.px_control.proofs.StepLemmas.{start_within}
-use Rattle.px_macro.proofs.MacroLemmas.{is_lawful_in_more}
-use Rattle.px_listing.specs.PassesText.{passes_listing}
-use Rattle.px_sched.specs.Layouts.{layout_of}
-use Rattle.px_sched.specs.Passes.{operations}
-use Rattle.px_state.specs.Courses.{start_in_listing}
-use Rattle.px_state.specs.Operations.{IsPassed, operations_before}
+use Rattle.px_state.proofs.Cited.{ap, arith, cycles, is_lawful_in_more, IsPassed, layout_of, length}
+use Rattle.px_state.proofs.Cited.{operations, operations_before, passes_listing, refl, rules, start_in_listing}
+use Rattle.px_state.proofs.Cited.{subst, sym, ◌+◌, ◌<◌, ◌∙◌, ◌≡◌}
 use Rattle.px_state.specs.Putting.{IsPutTo}
 use Rattle.px_state.proofs.CourseLemmas.{begins}
 use Rattle.px_state.proofs.OperationLemmas.{before_more, before_within, found_here, is_passed, lawful_op, op_is}
 use Rattle.px_state.proofs.OperationLemmas.{put_next}
-use Rattle.px_state.proofs.SceneLemmas.{same_total}
 use Rattle.px_state.proofs.operations.put_step.Goals as goal
 
 pub told-requires : goal.told-requires
@@ -32,9 +23,6 @@ cycles-requires-clause-lawful c =
 
 pub overflow_add-operation : goal.overflow_add-operation
 overflow_add-operation c = search (rules, before_within)
-
-pub overflow_add-clock : goal.overflow_add-clock
-overflow_add-clock c = grind (arith, common_steps, start_within, same_total)
 
 pub loop-at-preserved : goal.loop-at-preserved
 loop-at-preserved c =

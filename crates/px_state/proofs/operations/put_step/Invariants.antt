@@ -1,7 +1,4 @@
-use Rattle.px_num.proofs.Basics.{◌≡◌, ◌+◌, length}
-use Rattle.px_listing.specs.PassesText.{passes_listing}
-use Rattle.px_state.specs.Courses.{start_in_listing}
-use Rattle.px_state.specs.Operations.{IsPassed}
+use Rattle.px_state.proofs.Cited.{IsPassed, length, passes_listing, start_in_listing, ◌+◌, ◌≡◌}
 use Rattle.px_state.specs.Putting.{IsPutTo}
 use Rattle.px_state.proofs.operations.put_step.Given as goal
 

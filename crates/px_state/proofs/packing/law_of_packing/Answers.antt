@@ -1,6 +1,5 @@
-use Rattle.px_num.proofs.Basics.{◌==◌, sym, ap, ◌∙◌}
-use Rattle.px_state.specs.Packing.{act_number, act_with, lines_number, memory_place, tree_number, tree_with}
-use Rattle.px_state.specs.Packing.{packed_value}
+use Rattle.px_state.proofs.Cited.{act_number, act_with, ap, lines_number, memory_place, packed_value, sym, tree_number}
+use Rattle.px_state.proofs.Cited.{tree_with, ◌==◌, ◌∙◌}
 use Rattle.px_state.proofs.PackingLemmas.{act_back, bit_back, tree_back}
 use Rattle.px_state.proofs.packing.law_of_packing.Goals as goal
 

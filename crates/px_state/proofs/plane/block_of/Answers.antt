@@ -1,13 +1,7 @@
-use Rattle.std.proofs.lemmas.Grind.{common_steps}
-use Rattle.px_num.proofs.Basics.{ℕ, ◌+◌, ◌*◌, ◌^◌, ◌<◌, ◌≡◌, ◌∙◌, arith, length-set}
-use Rattle.px_num.proofs.TruthLaws.{power_grows}
-use Rattle.px_num.specs.Bits.{nat_bit}
+use Rattle.px_state.proofs.Cited.{arith, length-set, nat_bit, placed, ℕ, ◌*◌, ◌+◌, ◌<◌, ◌^◌}
+use Rattle.px_state.proofs.Cited.{◌∙◌, ◌≡◌}
 use Rattle.px_state.proofs.PlaneLemmas.{more_words}
-use Rattle.px_state.specs.Cells.{placed}
 use Rattle.px_state.proofs.plane.block_of.Goals as goal
-
-pub column_word-requires-clause-column : goal.column_word-requires-clause-column
-column_word-requires-clause-column c = grind (arith, common_steps, power_grows)
 
 pub loop-i-preserved : goal.loop-i-preserved
 loop-i-preserved c =

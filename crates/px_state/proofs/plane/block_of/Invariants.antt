@@ -1,6 +1,4 @@
-use Rattle.px_num.proofs.Basics.{◌≡◌, ℕ, ◌+◌, ◌*◌, ◌^◌, ◌<◌, length, get_or}
-use Rattle.px_num.specs.Bits.{nat_bit}
-use Rattle.px_state.specs.Cells.{placed}
+use Rattle.px_state.proofs.Cited.{get_or, length, nat_bit, placed, ℕ, ◌*◌, ◌+◌, ◌<◌, ◌^◌, ◌≡◌}
 use Rattle.px_state.proofs.plane.block_of.Given as goal
 
 abbrev pub invariant-loop-i : goal.invariant-loop-i

@@ -1,6 +1,4 @@
-use Rattle.px_num.proofs.Basics.{◌≡◌, ◌+◌, ◌*◌, ◌^◌, ◌<◌, ap, ◌∙◌, arith}
-use Rattle.px_num.proofs.TruthLaws.{lt_true}
-use Rattle.px_rows.specs.Rows.{row_bit}
+use Rattle.px_state.proofs.Cited.{ap, arith, lt_true, row_bit, ◌*◌, ◌+◌, ◌<◌, ◌^◌, ◌∙◌, ◌≡◌}
 use Rattle.px_state.proofs.PlaneLemmas.{in_one_word, moved_bit}
 use Rattle.px_state.proofs.plane.column_word.Goals as goal
 

@@ -1,8 +1,7 @@
-use Rattle.px_num.proofs.Basics.{◌≡◌, ◌≢◌, ◌+◌, ◌*◌, ◌/◌, ◌%◌, ◌^◌, ◌<◌, ◌∙◌, arith, inl, inr, cases_lt, mod-lt}
-use Rattle.px_num.proofs.Basics.{get_or-set_other, get_or-set_same, length, length-set}
+use Rattle.px_state.proofs.Cited.{arith, cases_lt, get_or-set_other, get_or-set_same, inl, inr, length, length-set}
+use Rattle.px_state.proofs.Cited.{mod-lt, row_words, ◌%◌, ◌*◌, ◌+◌, ◌/◌, ◌<◌, ◌^◌, ◌∙◌, ◌≡◌, ◌≢◌}
 use Rattle.px_state.proofs.PlaneLemmas.{some_words}
 use Rattle.px_state.proofs.ShapeLemmas.{plane_end}
-use Rattle.px_state.specs.Words.{row_words}
 use Rattle.px_state.proofs.plane.put_block.Goals as goal
 
 pub loop-y-preserved : goal.loop-y-preserved

@@ -1,5 +1,4 @@
-use Rattle.px_num.proofs.Basics.{◌≡◌, ◌≢◌, ℕ, ◌+◌, ◌*◌, ◌/◌, ◌%◌, ◌^◌, ◌<◌, length, get_or}
-use Rattle.px_state.specs.Words.{row_words}
+use Rattle.px_state.proofs.Cited.{get_or, length, row_words, ℕ, ◌%◌, ◌*◌, ◌+◌, ◌/◌, ◌<◌, ◌^◌, ◌≡◌, ◌≢◌}
 use Rattle.px_state.proofs.plane.put_block.Given as goal
 
 abbrev pub invariant-loop-y : goal.invariant-loop-y

@@ -1,16 +1,9 @@
-use Rattle.std.proofs.lemmas.Grind.{common_steps}
-use Rattle.px_num.proofs.Basics.{◌≡◌, ◌+◌, ◌*◌, ◌/◌, ◌%◌, ◌^◌, ◌<◌, ap, sym, ◌∙◌, arith, inl, inr, cases_lt, mod-lt}
-use Rattle.px_num.proofs.Basics.{div-mul-add, mod-mul-add}
-use Rattle.px_num.specs.Bits.{nat_bit}
-use Rattle.px_state.proofs.PlaneLemmas.{block_is, block_row, same_place, some_words}
+use Rattle.px_state.proofs.Cited.{ap, arith, cases_lt, div-mul-add, inl, inr, mod-lt, mod-mul-add}
+use Rattle.px_state.proofs.Cited.{nat_bit, placed, row_words, sym, word_bit, ◌%◌, ◌*◌, ◌+◌, ◌/◌, ◌<◌, ◌^◌, ◌∙◌, ◌≡◌}
+use Rattle.px_state.proofs.PlaneLemmas.{block_is, same_place, some_words}
 use Rattle.px_state.proofs.ShapeLemmas.{plane_end}
 use Rattle.px_state.proofs.TurningLemmas.{turned_in}
-use Rattle.px_state.specs.Cells.{placed}
-use Rattle.px_state.specs.Words.{row_words, word_bit}
 use Rattle.px_state.proofs.plane.write_plane.Goals as goal
-
-pub put_block-requires-clause-block : goal.put_block-requires-clause-block
-put_block-requires-clause-block c = grind (arith, common_steps, block_row)
 
 pub loop-b-preserved : goal.loop-b-preserved
 loop-b-preserved c =

@@ -1,6 +1,5 @@
-use Rattle.px_num.proofs.Basics.{◌≡◌, ℕ, ◌+◌, ◌*◌, ◌/◌, ◌^◌, ◌<◌, ◌≤◌, ◌⊎◌, length, get_or}
-use Rattle.px_state.specs.Cells.{placed}
-use Rattle.px_state.specs.Words.{row_words, word_bit}
+use Rattle.px_state.proofs.Cited.{get_or, length, placed, row_words, word_bit, ℕ, ◌*◌, ◌+◌, ◌/◌, ◌<◌, ◌^◌, ◌≡◌, ◌≤◌}
+use Rattle.px_state.proofs.Cited.{◌⊎◌}
 use Rattle.px_state.proofs.plane.write_plane.Given as goal
 
 abbrev pub invariant-loop-b : goal.invariant-loop-b

@@ -1,11 +1,6 @@
-use Rattle.std.proofs.lemmas.Grind.{common_steps}
-use Rattle.px_num.proofs.Basics.{◌≡◌, arith}
-use Rattle.px_control.proofs.StepLemmas.{at_opened}
+use Rattle.px_state.proofs.Cited.{arith, at_opened, ◌≡◌}
 use Rattle.px_state.proofs.SceneLemmas.{device_is, same_total}
 use Rattle.px_state.proofs.running.draw_to.Goals as goal
-
-pub run_clocks-place-requires-clause-left : goal.run_clocks-place-requires-clause-left
-run_clocks-place-requires-clause-left g c = grind (arith, common_steps, same_total)
 
 pub run_clocks-place-requires-clause-at : goal.run_clocks-place-requires-clause-at
 run_clocks-place-requires-clause-at g c =

@@ -1,16 +1,7 @@
-use Rattle.std.proofs.Common.{rules}
-use Rattle.px_num.proofs.Basics.{◌≡◌, ◌+◌, ◌<◌, length, get_or, ap, ◌∙◌, arith}
-use Rattle.px_asm.specs.Micros.{cycles}
+use Rattle.px_state.proofs.Cited.{ap, arith, cycles, get_or, length, ListingView, ◌+◌, ◌<◌, ◌∙◌, ◌≡◌}
 use Rattle.px_macro.specs.declared.operation.Macro.TheVariants as m
-use Rattle.px_listing.specs.Listings.{ListingView}
-use Rattle.px_state.proofs.CourseLemmas.{begins, columns_are, goes_on, here_in, next_here, rows_are}
+use Rattle.px_state.proofs.CourseLemmas.{begins, goes_on, here_in, next_here}
 use Rattle.px_state.proofs.running.play_to.Goals as goal
-
-pub make_micros-requires-clause-grid : goal.make_micros-requires-clause-grid
-make_micros-requires-clause-grid g c = search (rules, columns_are, rows_are)
-
-pub make_micros-requires-clause-within : goal.make_micros-requires-clause-within
-make_micros-requires-clause-within g c = search (rules, columns_are, rows_are)
 
 pub returns-then-made-cycles : goal.returns-then-made-cycles
 returns-then-made-cycles g c =

@@ -1,6 +1,4 @@
-use Rattle.px_num.proofs.Basics.{◌≡◌, ◌*◌, ◌≤◌}
-use Rattle.px_array.specs.Slots.{HasWorked}
-use Rattle.px_state.specs.Courses.{device_after, start_in_listing}
+use Rattle.px_state.proofs.Cited.{device_after, HasWorked, start_in_listing, ◌*◌, ◌≡◌, ◌≤◌}
 use Rattle.px_state.proofs.running.play_to.Given as goal
 
 abbrev pub invariant-loop-operation : goal.invariant-loop-operation

@@ -1,8 +1,7 @@
-use Rattle.px_num.proofs.Basics.{rules, ◌==◌, [], false, refl, sym, ap, unwrap_or, slice_get, YieldsList-at}
-use Rattle.px_num.proofs.Basics.{YieldsList-end, YieldsList-turn, YieldsList-from_filter_map}
-use Rattle.px_num.proofs.Basics.{YieldsList-from_slice_split}
-use Rattle.px_text.specs.Text.{words_of}
-use Rattle.px_state.specs.Refusals.{is_listing, starts_listing}
+use Rattle.px_state.proofs.Cited.{[], ap, false, refl, rules, slice_get, starts_listing, sym, unwrap_or, words_of}
+use Rattle.px_state.proofs.Cited.{YieldsList-at, YieldsList-end, YieldsList-from_filter_map}
+use Rattle.px_state.proofs.Cited.{YieldsList-from_slice_split, YieldsList-turn, ◌==◌}
+use Rattle.px_state.specs.Refusals.{is_listing}
 use Rattle.px_state.proofs.WordLemmas.{first_of}
 use Rattle.px_state.proofs.text.is_listing.Goals as goal
 

@@ -1,7 +1,6 @@
-use Rattle.px_num.proofs.Basics.{rules, ◌==◌, [], Some, arith, refl, ap, ◌∙◌, before_first, YieldsList-at}
-use Rattle.px_num.proofs.Basics.{YieldsList-end, YieldsList-turn, YieldsList-from_filter, YieldsList-from_slice_split}
-use Rattle.px_text.specs.Text.{is_blank, is_some_byte, words_of}
-use Rattle.px_state.specs.Refusals.{starts_listing}
+use Rattle.px_state.proofs.Cited.{[], ap, arith, before_first, is_blank, is_some_byte, refl, rules, Some}
+use Rattle.px_state.proofs.Cited.{starts_listing, words_of, YieldsList-at, YieldsList-end, YieldsList-from_filter}
+use Rattle.px_state.proofs.Cited.{YieldsList-from_slice_split, YieldsList-turn, ◌==◌, ◌∙◌}
 use Rattle.px_state.proofs.WordLemmas.{first_word}
 use Rattle.px_state.proofs.text.starts_listing.Goals as goal
 

@@ -1,5 +1,4 @@
-use Rattle.std.proofs.lemmas.Grind.{common_steps}
-use Rattle.px_num.proofs.Basics.{arith}
+use Rattle.px_state.proofs.Cited.{arith, common_steps}
 use Rattle.px_state.proofs.TurningLemmas.{shuffled_more}
 use Rattle.px_state.proofs.turning.shuffled.Goals as goal
 

@@ -1,6 +1,4 @@
-use Rattle.px_num.proofs.Basics.{◌≡◌, ℕ, ◌*◌, ◌<◌, length}
-use Rattle.px_rows.specs.Rows.{row_bit}
-use Rattle.px_state.specs.Turning.{shuffled}
+use Rattle.px_state.proofs.Cited.{length, row_bit, shuffled, ℕ, ◌*◌, ◌<◌, ◌≡◌}
 use Rattle.px_state.proofs.turning.shuffled.Given as goal
 
 abbrev pub invariant-loop-w : goal.invariant-loop-w

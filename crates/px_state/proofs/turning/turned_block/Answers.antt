@@ -1,6 +1,4 @@
-use Rattle.px_num.proofs.Basics.{ap, ◌∙◌}
-use Rattle.px_rows.specs.Rows.{row_bit}
-use Rattle.px_state.specs.Turning.{shuffled}
+use Rattle.px_state.proofs.Cited.{ap, row_bit, shuffled, ◌∙◌}
 use Rattle.px_state.proofs.TurningLemmas.{shuffled_below, shuffled_often}
 use Rattle.px_state.proofs.turning.turned_block.Goals as goal
 

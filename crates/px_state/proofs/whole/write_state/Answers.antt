@@ -1,6 +1,4 @@
-use Rattle.px_num.proofs.Basics.{◌≡◌, arith}
-use Rattle.px_state.specs.Inputs.{listing_in}
-use Rattle.px_state.specs.Words.{room_of}
+use Rattle.px_state.proofs.Cited.{arith, listing_in, room_of, ◌≡◌}
 use Rattle.px_state.proofs.CourseLemmas.{columns_are, rows_are}
 use Rattle.px_state.proofs.whole.write_state.Goals as goal
 

@@ -1,5 +1,4 @@
-use Rattle.std.proofs.lemmas.Grind.{common_steps}
-use Rattle.px_num.proofs.Basics.{arith, pow_mono}
+use Rattle.px_state.proofs.Cited.{arith, common_steps, pow_mono}
 use Rattle.px_state.proofs.words.node_words.Goals as goal
 
 pub returns-clause-few : goal.returns-clause-few

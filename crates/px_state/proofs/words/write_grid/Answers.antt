@@ -1,11 +1,8 @@
-use Rattle.px_num.proofs.Basics.{◌≡◌, ◌+◌, ◌*◌, ◌^◌, ◌<◌, ap, sym, subst, refl, ◌∙◌, arith, inl, inr, length}
-use Rattle.px_num.specs.Bits.{nat_bit}
-use Rattle.px_array.specs.Pixels.{PixelState}
+use Rattle.px_state.proofs.Cited.{ap, arith, HoldsNodes, HoldsWords, inl, inr, IsShapeOf, length, nat_bit, nodes_at}
+use Rattle.px_state.proofs.Cited.{PixelState, refl, room_of, row_words, subst, sym, ◌*◌, ◌+◌, ◌<◌, ◌^◌, ◌∙◌, ◌≡◌}
 use Rattle.px_state.proofs.ClockedLemmas.{room_is, same_behind, whole_of}
 use Rattle.px_state.proofs.RegisterLemmas.{placed_register, row_room}
 use Rattle.px_state.proofs.ShapeLemmas.{plane_end}
-use Rattle.px_state.specs.Cells.{HoldsNodes, IsShapeOf, nodes_at}
-use Rattle.px_state.specs.Words.{HoldsWords, room_of, row_words}
 use Rattle.px_state.proofs.words.write_grid.Goals as goal
 
 pub write_plane-requires-clause-row : goal.write_plane-requires-clause-row

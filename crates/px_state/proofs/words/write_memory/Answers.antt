@@ -1,10 +1,8 @@
-use Rattle.px_num.proofs.Basics.{◌≡◌, ◌+◌, ◌*◌, ◌^◌, ◌<◌, false, ap, ◌∙◌, arith, inl, inr, cases_eq, length}
+use Rattle.px_state.proofs.Cited.{ap, arith, bit_at, cases_eq, false, inl, inr, length, nat_bit, PixelState, row_words}
+use Rattle.px_state.proofs.Cited.{zero_pixel, ◌*◌, ◌+◌, ◌<◌, ◌^◌, ◌∙◌, ◌≡◌}
 use Rattle.std.proofs.lemmas.List.{get_or-replicate}
-use Rattle.px_num.specs.Bits.{bit_at, nat_bit}
-use Rattle.px_array.specs.Pixels.{PixelState, zero_pixel}
 use Rattle.px_state.proofs.RegisterLemmas.{memory_register, placed_register, row_room}
 use Rattle.px_state.proofs.ShapeLemmas.{plane_end}
-use Rattle.px_state.specs.Words.{row_words}
 use Rattle.px_state.proofs.words.write_memory.Goals as goal
 
 pub write_plane-requires-clause-row : goal.write_plane-requires-clause-row

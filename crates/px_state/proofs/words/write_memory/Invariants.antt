@@ -1,6 +1,4 @@
-use Rattle.px_num.proofs.Basics.{◌≡◌, ℕ, ◌*◌, ◌<◌, ◌≤◌, length, get_or}
-use Rattle.px_num.specs.Bits.{bit_at}
-use Rattle.px_state.specs.Cells.{HasPlane, pixel_here}
+use Rattle.px_state.proofs.Cited.{bit_at, get_or, HasPlane, length, pixel_here, ℕ, ◌*◌, ◌<◌, ◌≡◌, ◌≤◌}
 use Rattle.px_state.proofs.words.write_memory.Given as goal
 
 abbrev pub invariant-loop-at : goal.invariant-loop-at
