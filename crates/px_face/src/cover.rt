@@ -41,6 +41,7 @@ pub fn laws_of_covering()
 {}
 
 /// Without a fraction a cell is its value.
+#[tactic(auto, using(crate::proofs::WholeLemmas::whole_fronts, crate::proofs::WholeLemmas::whole_backs))]
 pub fn laws_without_fraction()
     ensures inside { WholeInside }
     ensures fronts { WholeFronts }

@@ -12,6 +12,7 @@ ghost use Rattle.px_listing.specs.RoundTrip.{TextsAreReadBack};
 ///
 /// The canonical text of a listing is read as the listing. Pixels for which a text is accepted can carry its operations out, and
 /// none is refused because memory runs out.
+#[tactic(auto, using(crate::proofs::AcceptedLemmas::accepted_is_lawful))]
 pub fn laws_of_listings()
     ensures read_back { TextsAreReadBack }
     ensures accepted { AcceptedListingIsLawful }

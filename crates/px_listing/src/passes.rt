@@ -22,6 +22,7 @@ use px_sched::{Cursor, Layout};
 ///
 /// The plan is the one that `plan_of` gives for the scene, of at most `MAX_PRODUCTS` products, and the layout
 /// that of `Layout::of`. After `Failed` a front of the text was written. The sink is not finished.
+#[tactic(auto, using(px_sched::proofs::PassesLaws::passes_are_few, crate::proofs::PassesLemmas::passes_lawful_in_all, crate::proofs::PassesLemmas::ok_to_last, crate::proofs::PassesLemmas::err_to_last))]
 pub fn write_passes<O: Sink>(
     scene: &Scene,
     plan: &Plan,
@@ -44,6 +45,7 @@ pub fn write_passes<O: Sink>(
 }
 
 /// A line for each operation of the passes.
+#[tactic(auto, using(crate::proofs::PassesLemmas::puts_start))]
 fn put_passes<O: Sink>(
     scene: &Scene,
     plan: &Plan,

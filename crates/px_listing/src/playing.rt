@@ -16,6 +16,7 @@ use px_num::Memory;
 /// leaves what their clocks leave (docs/LISTINGS.md, "Playing").
 ///
 /// After `Memory` no array is open.
+#[tactic(auto, using(crate::proofs::PlayLemmas::clocks_of_all, crate::proofs::PlayLemmas::grid_of_played))]
 pub fn play<A: Operating>(listing: &Listing, array: &mut A) -> Result<(), Memory>
     requires lawful { All (λ m. IsLawful m A.BITS) listing.now.macros }
     ensures device { OnOk result ((A.view array.new).device ≡ played_on A.BITS listing.now) }

@@ -30,6 +30,7 @@ pub fn write_listing<O: Sink>(listing: &Listing, out: &mut O) -> Result<(), Fail
 }
 
 /// The header and the grid.
+#[tactic(auto, using(crate::proofs::PieceLaws::ok_both))]
 pub fn put_first_lines<O: Sink>(
     out: &mut O,
     piece: &mut Piece,

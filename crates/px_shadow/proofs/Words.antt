@@ -22,7 +22,6 @@ pub use Rattle.px_num.proofs.TruthLaws.{and_both, and_false, and_left, and_right
 pub use Rattle.px_num.proofs.TruthLaws.{turned_from_false}
 pub use Rattle.px_num.specs.Bits.{bit_at, modulo}
 pub use Rattle.px_num.specs.declared.linear.Linear.{Linear}
-pub use Rattle.px_commands.proofs.RunLaws.{serves_front, serves_whole}
 pub use Rattle.px_commands.proofs.StopLaws.{stop_serves}
 pub use Rattle.px_commands.specs.Outcomes.{done, Outcome, refusal, refused, unless_refused}
 pub use Rattle.px_commands.specs.Refusals.{text_refusal, too_long}

@@ -165,6 +165,7 @@ fn light_of(scene: &Scene, line: &[u8]) -> Result<Option<SolidSet>, Cause>
 
 impl Said {
     /// With a word more.
+    #[tactic(auto, using(crate::proofs::SayingLemmas::light_more))]
     fn with(self, scene: &Scene, word: &[u8]) -> Said
         ensures { (ws : Words) → self ≡ said_of scene.now.solids ws →
             result ≡ said_of scene.now.solids (ws ++ word.now ∷ []) }

@@ -95,6 +95,7 @@ fn all_lights<A: Operating>(array: &mut A, scene: &Scene, layout: &Layout, light
 }
 
 /// The passes of a light.
+#[tactic(auto, using(crate::proofs::StepLemmas::all_known))]
 fn one_light<A: Operating>(
     array: &mut A,
     scene: &Scene,

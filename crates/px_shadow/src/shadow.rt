@@ -44,6 +44,7 @@ use std::alloc::Global;
 
 /// Reads the input to its end, and draws the image of the lights that the lines after its scene
 /// part name.
+#[tactic(auto, using(crate::proofs::ShadowLemmas::performs_unread))]
 pub fn shadow_input<S: Source, O: Sink, A: Operating>(
     alloc: Global,
     input: &mut S,
@@ -65,6 +66,7 @@ pub fn shadow_input<S: Source, O: Sink, A: Operating>(
 }
 
 /// Draws the lights of a text.
+#[tactic(auto, using(crate::proofs::ShadowLemmas::long_shadowed))]
 fn shade_text<O: Sink, A: Operating>(
     alloc: Global,
     text: &[u8],

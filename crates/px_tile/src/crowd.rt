@@ -12,6 +12,7 @@ use px_normal::{MAX_PRODUCTS, count_products, laws_of_live_products};
 
 /// Whether no wanted list is past the limit, whatever the boxes of the solids are: no operator is `^`, and the whole sum
 /// has at most `MAX_PRODUCTS` products. Takes no memory.
+#[tactic(auto, using(crate::proofs::CrowdLemmas::never_crowded))]
 pub(crate) fn is_never_crowded(expr: &Expr) -> bool
     ensures { OnTrue result ((boxes : ℕ → Option AnyBox) → crowd boxes expr.now ≡ None) }
 {

@@ -66,6 +66,7 @@ pub fn check_tiles(
 }
 
 /// The first coefficient past the limit of the first tile that has one.
+#[tactic(auto, using(crate::proofs::FirstLemmas::none_more))]
 fn first_coefficient(scene: &Scene, width: u32, height: u32) -> Option<i64>
     requires size { IsWideSize width height }
     ensures { result ≡ first_coefficient scene.now width height }
@@ -95,6 +96,7 @@ fn coefficient_of_tile(scene: &Scene, width: u32, height: u32, tile: u32) -> Opt
 /// Whether no tile has a wanted list of products past the limit, or the length of the first one.
 ///
 /// Where none can have one, whatever the boxes of its solids are, no tile is planned before it is drawn.
+#[tactic(auto, using(crate::proofs::FirstLemmas::none_anywhere, crate::proofs::FirstLemmas::none_more))]
 fn check_products(alloc: Global, scene: &Scene, width: u32, height: u32) -> Result<(), WideFault>
     requires size { IsWideSize width height }
     requires within { first_coefficient scene.now width height ≡ None }
@@ -178,6 +180,7 @@ pub fn render_tiles<A: Operating>(
 }
 
 /// Draws the tiles of a picture that is not refused.
+#[tactic(auto, using(crate::proofs::DrawLemmas::tile_within, crate::proofs::DrawLemmas::tile_fits))]
 fn draw_tiles<A: Operating>(
     alloc: Global,
     scene: &Scene,

@@ -1,14 +1,7 @@
-use Rattle.px_num.proofs.Basics.{arith, ◌∙◌, sym}
+use Rattle.px_num.proofs.Basics.{◌∙◌, sym}
 use Rattle.px_listing.proofs.Words.{on_err, passes}
-use Rattle.px_sched.proofs.LawfulLaws.{lawful_here}
-use Rattle.px_listing.proofs.PassesLemmas.{puts_next, puts_next_front, puts_start}
+use Rattle.px_listing.proofs.PassesLemmas.{puts_next, puts_next_front}
 use Rattle.px_listing.proofs.passes.put_passes.Goals as goal
-
-pub loop-m-init : goal.loop-m-init
-loop-m-init g c = grind (arith, puts_start)
-
-pub macro_line-requires : goal.macro_line-requires
-macro_line-requires g c = grind (arith, lawful_here)
 
 pub loop-m-preserved : goal.loop-m-preserved
 loop-m-preserved g c = record {

@@ -1,16 +1,10 @@
 use Rattle.px_num.proofs.Basics.{◌∙◌, subst, ap, arith}
 use Rattle.px_listing.proofs.Words.{after_macros, bits_of, Device, grid_of_zero_state, IsListing, pixel_of, zero_state}
-use Rattle.px_listing.proofs.PlayLemmas.{clocks_of_all, grid_of_played, zero_in_grid}
+use Rattle.px_listing.proofs.PlayLemmas.{zero_in_grid}
 use Rattle.px_listing.proofs.playing.play.Goals as goal
 
 pub returns-clause-device : goal.returns-clause-device
 returns-clause-device g c = grind arith
-
-pub returns-clause-clocks : goal.returns-clause-clocks
-returns-clause-clocks g c = grind (arith, returns-clause-device, clocks_of_all)
-
-pub returns-clause-grid : goal.returns-clause-grid
-returns-clause-grid g c = grind (arith, returns-clause-device, grid_of_played)
 
 pub returns-clause-played : goal.returns-clause-played
 returns-clause-played g c x y column row =

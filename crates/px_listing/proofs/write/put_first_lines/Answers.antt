@@ -1,11 +1,8 @@
-use Rattle.px_num.proofs.Basics.{arith, ◌++◌, ◌∙◌, [], ap}
+use Rattle.px_num.proofs.Basics.{◌++◌, ◌∙◌, [], ap}
 use Rattle.std.proofs.lemmas.List.{append-nil}
 use Rattle.px_listing.specs.Listings.{listing_head, grid_line, header_line}
-use Rattle.px_listing.proofs.PieceLaws.{err_cut, ok_both}
+use Rattle.px_listing.proofs.PieceLaws.{err_cut}
 use Rattle.px_listing.proofs.write.put_first_lines.Goals as goal
-
-pub returns-clause-ok : goal.returns-clause-ok
-returns-clause-ok g c = grind (arith, ok_both)
 
 pub returns-clause-err : goal.returns-clause-err
 returns-clause-err g c =

@@ -1,7 +1,6 @@
 use Rattle.px_num.proofs.Basics.{◌<◌, true, [], ◌∷◌, ℕ, List, length, get_or, ap, sym, arith, ◌∙◌}
 use Rattle.px_shadow.proofs.Words.{depths_of, end_of, light_bit, light_passes, Macro, solid_of, solid_passes, solids}
 use Rattle.px_shadow.proofs.DeviceLemmas.{all_left, can_first, each_first, each_next, left_next}
-use Rattle.px_shadow.proofs.StepLemmas.{all_known}
 use Rattle.px_macro.specs.declared.operation.Macro.TheVariants as m
 use Rattle.px_shadow.proofs.passes.one_light.Goals as goal
 
@@ -16,9 +15,6 @@ loop-solid-init g c =
     c.requires.can in
     left_next _ _ _ (m.All ∷ m.SetBit (light_bit c.args.layout.now c.args.light) true ∷ []) _ _ _ start
     (rw c.light_bit.ensures at c.carry_out.ensures)
-
-pub one_solid-requires-clause-solid : goal.one_solid-requires-clause-solid
-one_solid-requires-clause-solid g c = grind (arith, all_known)
 
 pub one_solid-requires-clause-can : goal.one_solid-requires-clause-can
 one_solid-requires-clause-can g c =

@@ -1,12 +1,6 @@
-use Rattle.px_num.proofs.Basics.{ap, arith, refl, sym, ◌∙◌}
-use Rattle.px_commands.specs.Outcomes.{refused}
-use Rattle.px_shadow.proofs.ShadowLemmas.{long_shadowed, parts_serve, serves_refused}
+use Rattle.px_num.proofs.Basics.{arith, refl}
+use Rattle.px_shadow.proofs.ShadowLemmas.{parts_serve}
 use Rattle.px_shadow.proofs.shadow.shade_text.Goals as goal
-
-pub returns-then-text-ge-READ_LIMIT-clause-serves : goal.returns-then-text-ge-READ_LIMIT-clause-serves
-returns-then-text-ge-READ_LIMIT-clause-serves g c =
-    let is = long_shadowed c.args.text.now g.A.Array.BITS (omega (arith, c.if-text-ge-READ_LIMIT.true)) in
-    serves_refused _ _ _ (is ∙ ap refused (sym c.too_long.ensures))
 
 pub returns-clause-serves : goal.returns-clause-serves
 returns-clause-serves g c =

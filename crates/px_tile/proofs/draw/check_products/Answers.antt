@@ -2,12 +2,9 @@ use Rattle.px_num.proofs.Basics.{◌<◌, arith, err_from_is_err_and, inl, inr}
 use Rattle.px_model.specs.Planes.{first_past}
 use Rattle.px_tile.specs.Drawn.{crowd_of_tile}
 use Rattle.px_tile.specs.Tilings.{scene_of_tile, tile_count}
-use Rattle.px_tile.proofs.FirstLemmas.{made_first, none_anywhere, none_each, none_more}
+use Rattle.px_tile.proofs.FirstLemmas.{made_first, none_each}
 use Rattle.px_tile.specs.declared.fault.WideFault.TheVariants as wide
 use Rattle.px_tile.proofs.draw.check_products.Goals as goal
-
-pub returns-then-is_never_crowded-clause-ok : goal.returns-then-is_never_crowded-clause-ok
-returns-then-is_never_crowded-clause-ok c = grind (arith, none_anywhere)
 
 pub check_products_of_tile-requires-clause-within : goal.check_products_of_tile-requires-clause-within
 check_products_of_tile-requires-clause-within c =
@@ -16,9 +13,6 @@ check_products_of_tile-requires-clause-within c =
     none_each (λ tile. first_past (scene_of_tile c.args.scene.now c.args.width c.args.height tile).solids)
     c.loop-tile.tile
     count c.requires.within low
-
-pub loop-tile-preserved : goal.loop-tile-preserved
-loop-tile-preserved c = grind (arith, none_more)
 
 pub returns-in_err-check_products_of_tile-clause-err : goal.returns-in_err-check_products_of_tile-clause-err
 returns-in_err-check_products_of_tile-clause-err c =

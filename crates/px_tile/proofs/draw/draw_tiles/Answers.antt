@@ -1,13 +1,7 @@
 use Rattle.px_num.proofs.Basics.{◌≡◌, ◌<◌, ◌++◌, ap, arith, drop, length, take}
 use Rattle.px_tile.specs.Tilings.{tile_count}
-use Rattle.px_tile.proofs.DrawLemmas.{last_left, put_back, tile_fits, tile_within, tiles_all, tiles_more}
+use Rattle.px_tile.proofs.DrawLemmas.{last_left, put_back, tiles_all, tiles_more}
 use Rattle.px_tile.proofs.draw.draw_tiles.Goals as goal
-
-pub draw_tile-requires-clause-within : goal.draw_tile-requires-clause-within
-draw_tile-requires-clause-within g c = grind (arith, tile_within)
-
-pub draw_tile-requires-clause-fits : goal.draw_tile-requires-clause-fits
-draw_tile-requires-clause-fits g c = grind (arith, tile_fits)
 
 pub loop-tile-preserved : goal.loop-tile-preserved
 loop-tile-preserved g c =

@@ -1,11 +1,8 @@
 use Rattle.px_num.proofs.Basics.{◌<◌, ◌∙◌, sym, arith}
 use Rattle.px_model.specs.Planes.{first_past}
 use Rattle.px_tile.specs.Tilings.{scene_of_tile, tile_count}
-use Rattle.px_tile.proofs.FirstLemmas.{first_is, none_is, none_more}
+use Rattle.px_tile.proofs.FirstLemmas.{first_is}
 use Rattle.px_tile.proofs.draw.first_coefficient.Goals as goal
-
-pub loop-tile-preserved : goal.loop-tile-preserved
-loop-tile-preserved c = grind (arith, none_more, none_is)
 
 pub returns-then-is_some : goal.returns-then-is_some
 returns-then-is_some c =

@@ -1,4 +1,4 @@
-use Rattle.px_num.proofs.Basics.{arith, ◌∙◌}
+use Rattle.px_num.proofs.Basics.{◌∙◌}
 use Rattle.px_control.proofs.GridLaws.{covers_the_picture}
 use Rattle.px_tile.proofs.render.render_tile.Goals as goal
 
@@ -7,6 +7,3 @@ put_tile-requires-clause-covers g c =
     let same = c.finish.ensures.scene ∙ c.in_ok-job.ensures.job.0 in
     let at = rw same at c.finish.ensures.at in
     covers_the_picture _ _ _ _ c.laws_of_scenes.ensures.scene at
-
-pub put_tile-requires-clause-shows : goal.put_tile-requires-clause-shows
-put_tile-requires-clause-shows g c = grind arith
