@@ -39,6 +39,7 @@ struct Shown {
 }
 
 /// Draws the sample of so many blocks, and prints its numbers.
+#[tactic(auto, using(crate::proofs::DrawingLemmas::sample_serves, crate::proofs::DrawingLemmas::sample_draws))]
 pub fn draw_sample<O: Sink, A: Operating>(
     n: u32,
     alloc: Global,
@@ -61,6 +62,7 @@ pub fn draw_sample<O: Sink, A: Operating>(
 }
 
 /// Draws the scene of a text, and prints its numbers.
+#[tactic(auto, using(std::proofs::lemmas::Result::err_from_is_err_and, px_commands::proofs::StopLaws::stop_serves, px_commands::proofs::StopLaws::stop_leaves, crate::proofs::DrawingLemmas::scene_serves))]
 fn measure_text<O: Sink, A: Operating>(
     alloc: Global,
     text: &[u8],
@@ -122,6 +124,7 @@ fn deliver_measures<A: Operating, O: Sink>(
 }
 
 /// The pixels of a drawn array that show a face.
+#[tactic(auto, using(crate::proofs::DrawingLemmas::most_grows, crate::proofs::DrawingLemmas::rows_more, crate::proofs::DrawingLemmas::most_together))]
 fn count_shown<A: Array>(array: &A, layout: &Layout, scene: &Scene) -> Shown
     requires layout { layout.now ≡ layout_of scene.now }
     requires drawn { IsDrawn A.BITS scene.now (A.view array.now).device }
@@ -136,6 +139,7 @@ fn count_shown<A: Array>(array: &A, layout: &Layout, scene: &Scene) -> Shown
 }
 
 /// Those of row `y`.
+#[tactic(auto, using(crate::proofs::DrawingLemmas::most_grows, crate::proofs::DrawingLemmas::row_more, crate::proofs::DrawingLemmas::most_together))]
 fn shown_in_row<A: Array>(array: &A, layout: &Layout, scene: &Scene, y: u32) -> Shown
     requires layout { layout.now ≡ layout_of scene.now }
     requires drawn { IsDrawn A.BITS scene.now (A.view array.now).device }

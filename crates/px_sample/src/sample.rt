@@ -53,6 +53,7 @@ pub fn sample_text(alloc: Global, n: u32) -> Result<Vec<u8>, Memory>
 
 /// The union of blocks as it is written: one alone by its name, more in two halves, of which the
 /// second may be the greater; and the text of the sample is a scene's, for each number of blocks.
+#[tactic(auto, using(crate::proofs::SampleLemmas::union_of_one, crate::proofs::SampleLemmas::union_of_halves, crate::proofs::SampleTextLemmas::samples_accepted))]
 pub fn laws_of_samples()
     ensures one { (first : ℕ) → union_of first (first + 1) ≡ block_name first }
     ensures halves { (first end : ℕ) → first + 1 < end → union_of first end

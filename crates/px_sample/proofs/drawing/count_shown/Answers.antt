@@ -1,15 +1,7 @@
-use Rattle.px_num.proofs.Basics.{ap, ◌∙◌, arith}
+use Rattle.px_num.proofs.Basics.{ap, ◌∙◌}
 use Rattle.px_sample.specs.Countings.{shown_within, shown_together}
-use Rattle.px_sample.proofs.DrawingLemmas.{most_grows, most_together, rows_more}
+use Rattle.px_sample.proofs.DrawingLemmas.{most_together, rows_more}
 use Rattle.px_sample.proofs.drawing.count_shown.Goals as goal
-
-pub plus-shown-requires-clause-first : goal.plus-shown-requires-clause-first
-plus-shown-requires-clause-first g c =
-    most_grows _ _ _ (omega (arith, c.height-y-end.ensures.value, c.laws_of_scenes.ensures.scene.sizes.height_limit))
-    c.loop-y.invariant.most
-
-pub plus-shown-requires-clause-second : goal.plus-shown-requires-clause-second
-plus-shown-requires-clause-second g c = most_grows 8589934592 _ _ (omega arith) c.shown_in_row.ensures.most
 
 pub loop-y-preserved : goal.loop-y-preserved
 loop-y-preserved g c =
