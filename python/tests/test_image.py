@@ -191,6 +191,12 @@ def test_a_missing_library_is_named_with_its_package(monkeypatch):
         read("grey16.png")
 
 
+def test_a_name_that_ends_like_a_film_does_not_matter(tmp_path):
+    for name in ("maps_qt", "maps.qt", "mapsmov", "maps.xavi"):
+        (tmp_path / name).write_bytes(bytes_of("grey16.png"))
+        assert np.array_equal(maps.read(str(tmp_path / name))[0].numbers, numbers("sixteen.pgm"))
+
+
 def test_standard_input_is_read_by_content(monkeypatch):
     class Standard:
         buffer = io.BytesIO(bytes_of("grey16.png"))

@@ -234,13 +234,13 @@ def by_library(data: bytes, name: str, channel: Optional[str]) -> Map:
     library = needed("OpenImageIO")
     wanted = library.ImageSpec()
     wanted.attribute("oiio:UnassociatedAlpha", 1)
-    with tempfile.NamedTemporaryFile(suffix=os.path.splitext(name)[1]) as copy:
-        path = name
-        if name == "-":
+    with tempfile.NamedTemporaryFile(suffix=".picture") as copy:
+        image = None if name == "-" else library.ImageInput.open(name, wanted)
+        # (the library takes a file for a film without a frame if its name ends like one, as in "maps_qt", whatever it holds)
+        if name == "-" or image is not None and not image.seek_subimage(0, 0):
             copy.write(data)
             copy.flush()
-            path = copy.name
-        image = library.ImageInput.open(path, wanted)
+            image = library.ImageInput.open(copy.name, wanted)
         if image is None:
             raise Trouble(refused(data, library.geterror()))
         try:
@@ -267,6 +267,8 @@ def of_channels(image: Any, data: bytes, channel: Optional[str]) -> Map:
     specs: list[Any] = []
     while image.seek_subimage(len(specs), 0):
         specs.append(image.spec())
+    if not specs:
+        raise Trouble(refused(data, image.geterror()))
     image.geterror()
     found = [(part, at, str(each)) for part, spec in enumerate(specs) for at, each in enumerate(spec.channelnames)]
     part, at = chosen(found, channel)
