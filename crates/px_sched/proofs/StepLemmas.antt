@@ -36,9 +36,7 @@ sign_of_edge head tail es n at place e size from to is =
 pub behind_edges : (scene : SceneView) (solid face : ℕ) (head tail : List Macro) (at place : ℕ)
     → face < face_count (solid_of scene solid) → at ≡ length head + edge_count (solid_of scene solid) + place
     → get_or tail place m.All ≡ get_or (around_edges scene solid face head tail) at m.All
-behind_edges scene solid face head tail at place there is =
-    let count = edges_count (solid_of scene solid) (end_of (depths_of scene)) face there in
-    grind (arith, get_or-append_right, length-append, length-map)
+behind_edges scene solid face head tail at place there is = grind (arith, edges_count, get_or-append_right, length-append, length-map)
 
 pub others_known : (scene : SceneView) (products : List Product) (g : Group) (rs : List Literal)
     → g.product < length products → All (HasKnownLiterals scene) products → rs ≡ others_of products g

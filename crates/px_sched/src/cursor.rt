@@ -25,6 +25,7 @@ pub struct Cursor {
 
 impl Cursor {
     /// Before the first operation.
+    #[tactic(auto, using(crate::proofs::LawfulLaws::passes_are))]
     pub fn start() -> Cursor
         ensures given { result.given ≡ 0 }
         ensures stands { (scene : SceneView) →
@@ -40,6 +41,7 @@ impl Cursor {
     /// Gives the next operation of the passes of a scene, by its plan and its layout.
     ///
     /// The plan is the one that `plan_of` gives for the scene, and the layout that of `Layout::of`.
+    #[tactic(auto, using(crate::proofs::DrawnLaws::kept_drawn, crate::proofs::StandingLemmas::none_left))]
     pub fn next_macro(&mut self, scene: &Scene, plan: &Plan, layout: &Layout) -> Option<Macro>
         requires products { plan.now.products.items ≡ plan_of scene.now }
         requires layout { layout.now ≡ layout_of scene.now }

@@ -129,6 +129,7 @@ fn literal_from(scene: &Scene, products: &[Product], product: usize, literal: us
 }
 
 /// The products from one on.
+#[tactic(auto, using(crate::proofs::StepLemmas::product_opens))]
 fn product_from(scene: &Scene, products: &[Product], product: usize) -> Stage
     requires drawn { All (HasKnownLiterals scene.now) products.now }
     ensures { BeginAt scene.now products.now (products_from scene.now products.now product) result }

@@ -213,6 +213,7 @@ impl Layout {
 }
 
 /// How many bits a number below `2^12` has.
+#[tactic(auto, using(crate::proofs::LayoutLaws::counted, crate::proofs::LayoutLaws::passed_over, px_num::proofs::TruthLaws::le_false, px_num::proofs::TruthLaws::le_true))]
 fn bit_length(number: u32) -> u32
     ensures { result ≡ bit_length number }
 {

@@ -24,6 +24,7 @@ pub struct StepCursor {
 
 impl StepCursor {
     /// Before the first step.
+    #[tactic(auto, using(crate::proofs::StandingLemmas::first_stands))]
     pub fn start() -> StepCursor
         ensures given { result.given ≡ 0 }
         ensures stands { (scene : SceneView) →
@@ -39,6 +40,7 @@ impl StepCursor {
     /// Gives the next step of a scene, by its plan.
     ///
     /// The plan is the one that `plan_of` gives for the scene.
+    #[tactic(auto, using(crate::proofs::DrawnLaws::kept_drawn, crate::proofs::StandingLemmas::few_literals, crate::proofs::StandingLemmas::literals_more, crate::proofs::StandingLemmas::none_found, crate::proofs::StandingLemmas::others_here, crate::proofs::StandingLemmas::stands_behind))]
     pub fn next_step(&mut self, scene: &Scene, plan: &Plan) -> Option<Step>
         requires products { plan.now.products.items ≡ plan_of scene.now }
         requires stands { StandsAtStep scene.now self.old }

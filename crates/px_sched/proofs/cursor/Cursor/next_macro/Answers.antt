@@ -1,11 +1,7 @@
 use Rattle.px_num.proofs.Basics.{◌+◌, ◌<◌, arith, length, refl, sym, ◌∙◌}
 use Rattle.px_sched.proofs.Words.{layout_of, operations}
-use Rattle.px_sched.proofs.DrawnLaws.{kept_drawn}
-use Rattle.px_sched.proofs.StandingLemmas.{inside, none_left, operation_found, stands_along, stands_onward}
+use Rattle.px_sched.proofs.StandingLemmas.{inside, operation_found, stands_along, stands_onward}
 use Rattle.px_sched.proofs.cursor.Cursor.next_macro.Goals as goal
-
-pub next-self-requires-clause-drawn : goal.next-self-requires-clause-drawn
-next-self-requires-clause-drawn c = grind (arith, kept_drawn)
 
 pub returns-then-self-count-clause-operation : goal.returns-then-self-count-clause-operation
 returns-then-self-count-clause-operation c =
@@ -36,6 +32,3 @@ returns-else-self-count-clause-stands c =
       c.if-self-count.false,
     ) in
     stands_along scene c.args.self.now c.in-Some.step c.requires.stands here _ refl refl refl more
-
-pub returns-in-None-clause-operation : goal.returns-in-None-clause-operation
-returns-in-None-clause-operation c = grind (arith, none_left)
