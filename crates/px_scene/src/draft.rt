@@ -179,6 +179,7 @@ impl Draft {
     }
 
     /// Takes a statement in; an expression is judged as it is read.
+    #[tactic(auto, using(crate::proofs::TakenLemmas::face_room, crate::proofs::LawfulLemmas::can_be_taken))]
     fn take(&mut self, alloc: Global, statement: Statement) -> Result<(), LineError<LimitKind>>
         requires lawful { IsLawfulDraft (view_of self.old) }
         requires due { is_due self.old.due (keyword_in statement) ≡ true }

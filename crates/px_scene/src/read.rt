@@ -57,6 +57,7 @@ impl Drafting for Draft {
 
 /// What holds of the scene of every text that is accepted: it is within the limits of scenes, and so
 /// are its solids, as of every `Scene`.
+#[tactic(auto, using(crate::proofs::AcceptedLemmas::accepted_lawful))]
 pub fn laws_of_texts()
     ensures accepted { AcceptedIsLawful }
 {}

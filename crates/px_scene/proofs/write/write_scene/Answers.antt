@@ -1,17 +1,5 @@
-use Rattle.px_num.proofs.Basics.{All-push}
-use Rattle.px_scene.proofs.CanonicalWords.{IsLawfulSolid, solid_lines}
-use Rattle.px_scene.proofs.WriteLaws.{next_item, next_taken}
 use Rattle.px_scene.proofs.TextWalkLemmas.{parts_are_text, parts_read}
 use Rattle.px_scene.proofs.write.write_scene.Goals as goal
-
-pub loop-solid-preserved : goal.loop-solid-preserved
-loop-solid-preserved c =
-    let next = next_taken _ _ _ _ c.solids-solid-items.ensures.value c.loop-solid-test.true c.solid-item.is in
-    record {
-      text = next_item solid_lines _ _ _ _ _ _ _ c.solids-solid-items.ensures.value c.loop-solid-test.true
-          c.solid-item.is c.loop-solid.invariant.text c.in_ok-put_solid.ensures.text;
-      lawful = rw next (All-push IsLawfulSolid _ _ c.loop-solid.invariant.lawful c.in_ok-put_solid.ensures.lawful);
-    }
 
 pub returns-clause-text : goal.returns-clause-text
 returns-clause-text c =
