@@ -12,7 +12,7 @@ ghost use Rattle.px_sched.specs.declared.step.Step.TheVariants as st;
 ghost use Rattle.px_sched.specs.Layouts.{LayoutView};
 ghost use Rattle.px_sched.specs.Passes.{candidate, load_candidate, operations, solid_of, where_passed};
 ghost use Rattle.px_sched.specs.StepCursors.{opens_literal};
-ghost use Rattle.px_sched.specs.Steps.{IsStep, IsStepOf, behind_step, candidates_end, candidates_from, confirmed_from, drops_from, fronts_from, first_candidate, judged_from, turns_from};
+ghost use Rattle.px_sched.specs.Steps.{IsFace, IsStep, IsStepOf, behind_step, candidates_end, candidates_from, confirmed_from, drops_from, fronts_from, first_candidate, judged_from, turns_from};
 ghost use Rattle.px_sched.specs.Onward.{AreKnown, BeginIfAny, BeginWith, around_edges, passed_plane};
 
 use crate::layout::Layout;
@@ -290,8 +290,7 @@ fn judged(layout: &Layout, parity: bool, at: usize) -> Macro
 
 /// An operation of a step that makes a face the candidate where it covers.
 fn candidate(scene: &Scene, solid: u8, face: usize, layout: &Layout, at: usize) -> Macro
-    requires solid { solid < length scene.now.solids }
-    requires face { face < face_count (solid_of scene.now solid) }
+    requires face { IsFace scene.now solid face }
     requires bits { layout.now.fraction_bits ≡ scene.now.fraction_bits }
     requires at { at < length (candidate layout.now (depths_of scene.now) (solid_of scene.now solid) face) }
     ensures { result ≡
@@ -309,8 +308,7 @@ fn candidate(scene: &Scene, solid: u8, face: usize, layout: &Layout, at: usize) 
 
 /// One of the operations of such a step behind those of the edges.
 fn load(scene: &Scene, solid: u8, face: usize, layout: &Layout, place: usize) -> Macro
-    requires solid { solid < length scene.now.solids }
-    requires face { face < face_count (solid_of scene.now solid) }
+    requires face { IsFace scene.now solid face }
     requires bits { layout.now.fraction_bits ≡ scene.now.fraction_bits }
     requires place { place < length (load_candidate layout.now (depths_of scene.now) (solid_of scene.now solid) face) }
     ensures { result ≡ get_or
@@ -342,8 +340,7 @@ fn where_passed(
     operation: Macro,
     at: usize,
 ) -> Macro
-    requires solid { solid < length scene.now.solids }
-    requires face { face < face_count (solid_of scene.now solid) }
+    requires face { IsFace scene.now solid face }
     requires at { at < edge_count (solid_of scene.now solid) + 4 }
     ensures { result ≡ get_or (where_passed layout.now (end_of (depths_of scene.now)) (solid_of scene.now solid) face
         (passed_plane scene.now solid face further) operation) at m.All }
@@ -365,8 +362,7 @@ fn where_passed(
 /// The operation of one of a face's edges, which stands behind any head.
 #[inline(always)]
 fn edge(scene: &Scene, solid: u8, face: usize, place: usize) -> Macro
-    requires solid { solid < length scene.now.solids }
-    requires face { face < face_count (solid_of scene.now solid) }
+    requires face { IsFace scene.now solid face }
     requires place { place < edge_count (solid_of scene.now solid) }
     ensures { (head tail : List Macro) (at : ℕ) → at ≡ length head + place →
         result ≡ get_or (around_edges scene.now solid face head tail) at m.All }
@@ -377,8 +373,7 @@ fn edge(scene: &Scene, solid: u8, face: usize, place: usize) -> Macro
 
 /// The plane of a face, or a whole cell further.
 fn passed_plane(scene: &Scene, solid: u8, face: usize, further: bool) -> Linear
-    requires solid { solid < length scene.now.solids }
-    requires face { face < face_count (solid_of scene.now solid) }
+    requires { IsFace scene.now solid face }
     ensures { result ≡ passed_plane scene.now solid face further }
 {
     let plane = plane_at(scene, solid, face);
@@ -391,8 +386,7 @@ fn passed_plane(scene: &Scene, solid: u8, face: usize, further: bool) -> Linear
 
 /// The plane of a face.
 fn plane_at(scene: &Scene, solid: u8, face: usize) -> Linear
-    requires solid { solid < length scene.now.solids }
-    requires face { face < face_count (solid_of scene.now solid) }
+    requires { IsFace scene.now solid face }
     ensures plane { result ≡ face_plane (solid_of scene.now solid) (end_of (depths_of scene.now)) face }
     ensures half { IsInHalfRange result }
 {

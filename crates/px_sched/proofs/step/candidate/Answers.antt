@@ -13,5 +13,5 @@ pub returns-else-at-tail : goal.returns-else-at-tail
 returns-else-at-tail c =
     c.load.ensures
     ∙ behind_edges c.args.scene.now c.args.solid c.args.face (m.All ∷ []) (load_candidate c.args.layout.now
-    (depths_of c.args.scene.now) (solid_of c.args.scene.now c.args.solid) c.args.face) c.args.at _ c.requires.face
+    (depths_of c.args.scene.now) (solid_of c.args.scene.now c.args.solid) c.args.face) c.args.at _ c.requires.face.there
     (grind arith)

@@ -16,11 +16,11 @@ returns-then-at-tail-2 c =
     rw (c.passed_plane.ensures, c.t_deep.ensures.field)
     (behind_edges c.args.scene.now c.args.solid c.args.face (m.All ∷ m.KeepBit l.alive true ∷ []) (m.KeepAtMost
     (passed_plane c.args.scene.now c.args.solid c.args.face c.args.further) (deep_part l l.key_t)
-    ∷ c.args.operation ∷ []) c.args.at 0 c.requires.face (grind arith))
+    ∷ c.args.operation ∷ []) c.args.at 0 c.requires.face.there (grind arith))
 
 pub returns-else-at-tail-2 : goal.returns-else-at-tail-2
 returns-else-at-tail-2 c =
     let l = c.args.layout.now in
     behind_edges c.args.scene.now c.args.solid c.args.face (m.All ∷ m.KeepBit l.alive true ∷ []) (m.KeepAtMost
     (passed_plane c.args.scene.now c.args.solid c.args.face c.args.further) (deep_part l l.key_t)
-    ∷ c.args.operation ∷ []) c.args.at 1 c.requires.face (grind arith)
+    ∷ c.args.operation ∷ []) c.args.at 1 c.requires.face.there (grind arith)
