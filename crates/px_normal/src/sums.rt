@@ -203,13 +203,11 @@ fn list_of(
         (filter (is_live (boxes_in boxes.now)) (sum_when combination left.now right.now))
         ∷ []) ≡ Some count }
 {
-    let mut list = Vec::new(alloc);
     if !wanted {
-        return Ok(list);
+        return Ok(Vec::new(alloc));
     }
     check_limit(count_of(alloc, boxes, combination, left, right)?)?;
-    push_all(alloc, &mut list, boxes, combination, left, right)?;
-    Ok(list)
+    Ok(live_of(alloc, boxes, combination, left, right)?)
 }
 
 /// How many live products a combination makes of those of two sides: none is kept.
@@ -239,39 +237,35 @@ fn count_of(
     }
 }
 
-/// Adds the live products that a combination makes of those of two sides.
-fn push_all(
+/// The live products that a combination makes of those of two sides.
+fn live_of(
     alloc: Global,
-    list: &mut Vec<Product>,
     boxes: &[Option<CellBox>],
     combination: Combination,
     left: &Sums,
     right: &Sums,
-) -> Result<(), Memory>
-    ensures { OnOk result (list.new.items ≡ list.old.items
-        ++ filter (is_live (boxes_in boxes.now)) (sum_when combination left.now right.now)) }
+) -> Result<Vec<Product>, Memory>
+    ensures { IfOk result (λ list. list.items
+        ≡ filter (is_live (boxes_in boxes.now)) (sum_when combination left.now right.now)) }
 {
+    let mut list = Vec::new(alloc);
     match combination {
         Combination::Both(first, second) => {
-            push_crossed(
-                alloc,
-                list,
-                boxes,
-                left.in_sense(first),
-                right.in_sense(second),
-            )
+            let others = right.in_sense(second);
+            push_crossed(alloc, &mut list, boxes, left.in_sense(first), others)?;
         }
         Combination::Either(first, second) => {
-            push_live(list, boxes, left.in_sense(first))?;
-            push_live(list, boxes, right.in_sense(second))
+            push_live(&mut list, boxes, left.in_sense(first))?;
+            push_live(&mut list, boxes, right.in_sense(second))?;
         }
         Combination::EitherWay(sense) => {
             let own = right.in_sense(sense);
             let others = right.in_sense(sense.opposite());
-            push_crossed(alloc, list, boxes, left.products(), own)?;
-            push_crossed(alloc, list, boxes, left.complement(), others)
+            push_crossed(alloc, &mut list, boxes, left.products(), own)?;
+            push_crossed(alloc, &mut list, boxes, left.complement(), others)?;
         }
     }
+    Ok(list)
 }
 
 /// Whether a list can have so many products.
