@@ -172,10 +172,6 @@ stays_long : (ms : List Macro) (x y : ℕ) (p : PixelBits)
 stays_long [] x y p = refl
 stays_long (m ∷ ms) x y p = stays_long ms x y (after_macro m x y p) ∙ memory_stays_long m x y p
 
--- without fraction bits a depth is as it is
-cleared_none : (f n : ℕ) → f ≡ 0 → n ≡ n / 2 ^ f * 2 ^ f
-cleared_none f n e = rw e (omega arith)
-
 module _ (scene : SceneView) (i x y : ℕ)
     (faces : (solid face : ℕ) → face_number (solid_of scene solid) face < 2 ^ i)
     (background : end_of (depths_of scene) * 2 ^ i < 2 ^ (scene.depth_bits + scene.fraction_bits + i)) where
@@ -257,7 +253,7 @@ module _ (scene : SceneView) (i x y : ℕ)
             ≡ (if c then loaded scene place s (keys memory) face else keys memory)
         without true e = named next (record (keys memory) { deep = without_fraction scene (residue scene place form) })
             next_long (written ∙ ap (λ n. record (keys memory) { deep = n })
-            (cleared_none f (residue scene place form) e))
+            (rw e (omega arith)))
         without false e = refl
 
         with_one : (c : Bool)

@@ -1,8 +1,8 @@
 -- Which candidates stay alive: those of pixels at which their solid has a cell.
-use Rattle.px_num.proofs.Basics.{◌≡◌, ◌<◌, ◌+◌, ◌^◌, ◌+ℤ◌, ◌<ℤ◌, ◌≤ℤ◌, ℕ, zero, suc, ℤ, pos, Bool, true, false, ◌&&◌}
-use Rattle.px_num.proofs.Basics.{[], ◌||◌, ◌==◌, ◌*◌, inl, inr, not, nat_le, nat_lt, List, ◌∷◌, ◌++◌, length, eqb, map}
+use Rattle.px_num.proofs.Basics.{◌≡◌, ◌<◌, ◌+◌, ◌^◌, ◌+ℤ◌, ◌≤ℤ◌, ℕ, zero, suc, ℤ, pos, Bool, true, false, ◌&&◌}
+use Rattle.px_num.proofs.Basics.{[], ◌||◌, ◌==◌, inl, inr, not, nat_le, nat_lt, List, ◌∷◌, ◌++◌, length, eqb, map}
 use Rattle.px_num.proofs.Basics.{refl, ap, sym, ◌∙◌, arith, if◌then◌else◌, fold, range_with_len, fold-map, fold-append}
-use Rattle.px_num.proofs.Basics.{ints, nat_tests, cases_Bool, pow_pos, mul-le-mul, pow-add}
+use Rattle.px_num.proofs.Basics.{ints, cases_Bool, pow_pos, mul-le-mul, pow-add}
 use Rattle.px_sched.proofs.Words.{after_step, after_steps, and_true, cell_is_first, cell_is_least, cell_of, Clear}
 use Rattle.px_sched.proofs.Words.{Confirm, covering_back, covering_front, covered_once, covers, Depths, depths_of, Drop}
 use Rattle.px_sched.proofs.Words.{dropped, end_is_small, end_of, enters_at, eqb_holds, face_plane, Front, is_inside}
@@ -31,26 +31,11 @@ drops : (t : ℕ → ℕ → Bool) (k : Keys) (is : List ℕ) → fold (drop_ste
 drops t k [] = refl
 drops t k (i ∷ is) = grind (arith, drops t (record k { alive = (if t k.deep i then false else k.alive) }) is)
 
-and_not : (g a : Bool) → (if g then false else a) ≡ (a && not g)
-and_not g a = grind arith
-
-lt_next : (z : ℕ) → nat_lt z (suc z) ≡ true
-lt_next z = grind (arith, nat_tests)
-
-above : (u : ℤ) (v : ℕ) → pos v <ℤ u → le_z u (pos v) ≡ false
-above u v h = grind (arith, ints)
-
 at_most : (u : ℤ) (v : ℕ) → u ≤ℤ pos v → le_z u (pos v) ≡ true
 at_most u v h = grind (arith, ints)
 
 whole_value : (d : Depths) (n : ℕ) → (d.fraction_bits == 0) ≡ true → value_of d (cell_of d (pos n)) ≡ n
 whole_value d n none = grind (arith, no_fraction)
-
-one_unit : (d : Depths) → (d.fraction_bits == 0) ≡ true → 2 ^ d.fraction_bits ≡ 1
-one_unit d none = ap (λ f. 2 ^ f) (no_fraction d.fraction_bits none)
-
-one_more : (v : ℤ) (z u : ℕ) → (le_z v (pos (z * u)) && true) ≡ le_z (v +ℤ pos u) (pos (suc z * u))
-one_more v z u = grind (arith, ints)
 
 module _ (scene : SceneView) (l : KeyedPixel) (solid : ℕ) where
   abbrev d : Depths
@@ -131,7 +116,7 @@ module _ (scene : SceneView) (l : KeyedPixel) (solid : ℕ) where
       (fold_single (t k.deep) (λ alive i. false) k.alive nf nb kb g
       (λ i low high. back_drops k.deep i (law.backs i (omega arith) (lt_false i nf low)))
       (lt_fails kb nf law.back.behind) (omega (arith, law.back.there))
-      ∙ and_not g k.alive)
+      ∙ grind arith)
 
   and_here : (a b c g h : Bool) → (b && c) ≡ (g && h) → (a && (b && c)) ≡ ((a && g) && h)
   and_here true b c g h e = e
@@ -196,7 +181,7 @@ module _ (scene : SceneView) (l : KeyedPixel) (solid : ℕ) where
           let below = (covered_once s end l.x l.y).depths m in
           let same : value_of d c ≡ is.depth = ap (value_of d) (sym e ∙ ap (cell_of d) is.is)
           ∙ whole_value d is.depth none in
-          above leaves (value_of d c) (omega (arith, ints, is.is, below.1, same))
+          grind (arith, ints, is.is, below.1, same)
 
   -- the cell of a barred solid's candidate
   pub barred_test : (c : ℕ) → cell_of d leaves ≡ c → met ≡ true
@@ -211,8 +196,8 @@ module _ (scene : SceneView) (l : KeyedPixel) (solid : ℕ) where
       before zero e = let law = covered_once s end l.x l.y in grind (arith, enters_depth, pow_pos, ints)
       before (suc z) e =
           let high : lt_z (pos (value_of d z)) leaves ≡ true = sym (cell_is_least d leaves z) ∙ ap (λ n. nat_lt z n) e
-          ∙ lt_next z in
-          (covered_once s end l.x l.y).values (value_of d z) ∙ rw (m, high) (one_more enters z unit)
+          ∙ lt_true z (suc z) (omega arith) in
+          (covered_once s end l.x l.y).values (value_of d z) ∙ rw (m, high) (grind (arith, ints))
 
       whole : (d.fraction_bits == 0) ≡ true → le_z (enters +ℤ pos unit) (pos (value_of d c)) ≡ true
-      whole none = grind (arith, leaves_depth, covered_once, whole_value, at_most, one_unit, ints)
+      whole none = grind (arith, leaves_depth, covered_once, whole_value, at_most, no_fraction, ints)

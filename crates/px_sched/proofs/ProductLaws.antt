@@ -1,6 +1,6 @@
 -- The literals of a product, and what it shows where it holds.
 use Rattle.px_num.proofs.Basics.{common_steps, ◌≡◌, ◌<◌, ◌≤◌, ◌+◌, ℕ, zero, suc, Bool, true, false, not, List, ◌∷◌, []}
-use Rattle.px_num.proofs.Basics.{length, get_or, ap, sym, ◌∙◌, subst, arith, inl, inr, if◌then◌else◌, filter, list_all}
+use Rattle.px_num.proofs.Basics.{length, get_or, ap, sym, ◌∙◌, subst, arith, inl, inr, if◌then◌else◌, list_all}
 use Rattle.px_num.proofs.Basics.{list_any, option_map_or, cases_Bool, cases_eq, sum_by-cons, slice_get-get_or}
 use Rattle.px_sched.proofs.Words.{and_left, and_right, AreNumberedFrom, backs_at, Cell, Depths, depths_of, faces_in}
 use Rattle.px_sched.proofs.Words.{faces_of, fronts_at, has_face, HasSolidsBelow, holds, is_void, IsNumberedFrom}
@@ -19,12 +19,9 @@ in_below (suc n) q h = elim (in_either q (below n) (n ∷ []) h) [
   | inr b ↦ elim b [ inl e ↦ omega arith | inr c ↦ absurd c ]
 ]
 
-in_filtered : (f : ℕ → Bool) (n q : ℕ) → In q (filter f (below n)) → (q < n) × (f q ≡ true)
-in_filtered f n q h = let r = out_filter f (below n) q h in (in_below n q r.0, r.1)
-
 pub in_solids : (set : SolidSet) (q : ℕ) → In q (solids set) → (q < 256) × (has set q ≡ true)
 unfolding solids
-in_solids set q h = in_filtered (has set) 256 q h
+in_solids set q h = let r = out_filter (has set) (below 256) q h in (in_below 256 q r.0, r.1)
 
 below_in : (n q : ℕ) → q < n → In q (below n)
 below_in zero q low = absurd (omega arith)

@@ -65,8 +65,5 @@ numbers_fit scene lawful solid face =
     omega (arith, number_in_scene scene lawful solid face, bits_enough (faces_of scene.solids) lawful.faces)
 
 -- a depth before the bits of a number
-times_room : (m a b : ℕ) → m < a → 0 < b → m * b < a * b
-times_room m a b less some = grind arith
-
 pub shifted : (depth w i : ℕ) → depth < 2 ^ w → depth * 2 ^ i < 2 ^ (w + i)
-shifted depth w i small = rw (pow-add 2 w i) (times_room depth (2 ^ w) (2 ^ i) small (pow_above i))
+shifted depth w i small = rw (pow-add 2 w i) (grind (arith, pow_above i))

@@ -1,6 +1,6 @@
 -- A cursor gives the passes, or the steps, in their order.
 use Rattle.px_num.proofs.Basics.{nat_tests, common_steps, ◌≡◌, ℕ, ◌+◌, ◌-◌, ◌^◌, ◌<◌, ◌≤◌, Bool, List, ◌∷◌, ◌++◌, drop}
-use Rattle.px_num.proofs.Basics.{[], filter, get_or, IfSome, length, slice_get, take, Some, None, ap, sym, ◌∙◌, arith}
+use Rattle.px_num.proofs.Basics.{[], filter, get_or, length, slice_get, take, Some, None, ap, sym, ◌∙◌, arith}
 use Rattle.px_num.proofs.Basics.{cond, length-append, unwrap_or, flat_map, drop_more, count_by-le-length, length-filter}
 use Rattle.px_num.proofs.Basics.{slice_get-get_or, slice_get_past, get_or_append_left}
 use Rattle.px_sched.proofs.Words.{behind_stage, from_stage, IsStage, layout_of, length-drop, length-take, Macro}
@@ -45,9 +45,6 @@ module _ (scene : SceneView) (products : List Product) where
       ∷ behind_stage scene products st
   here_from x s here = grind (arith, unwrap_or)
 
-  end_from : (st : Stage) → None ≡ step_of st → from_stage scene products st ≡ []
-  end_from x here = grind arith
-
   pub others_here : (st : Stage) (s : Step) → Some s ≡ step_of st → IsStage scene products st → HasFewOthers s
   others_here x s here is = grind (arith, unwrap_or, few_others)
 
@@ -87,10 +84,6 @@ module _ (scene : SceneView) where
 
   abbrev ops_from : Stage → List Macro
   ops_from st = flat_map ops (from_stage scene (plan_of scene) st)
-
-  -- each step has an operation
-  first_place : (st : Stage) → IfSome (step_of st) (λ step. 0 < length (ops step))
-  first_place x = grind arith
 
   -- the operations from a cursor on
   module _ (c : Cursor) (s : Step) (stands : Stands scene c) (here : Some s ≡ step_of c.stage) where

@@ -1,10 +1,10 @@
 -- What comes after a step, of a literal or of a group, begins with the next one.
-use Rattle.px_num.proofs.Basics.{◌≡◌, ◌+◌, ◌-◌, ◌<◌, ◌≤◌, ◌==◌, ◌++◌, ◌∙◌, ℕ, not, List, ◌∷◌, All, drop}
+use Rattle.px_num.proofs.Basics.{◌≡◌, ◌+◌, ◌-◌, ◌<◌, ◌==◌, ◌++◌, ◌∙◌, ℕ, not, List, ◌∷◌, All, drop}
 use Rattle.px_num.proofs.Basics.{get_or, length, map, flat_map, ap, sym, subst, arith, common_steps, append_assoc}
 use Rattle.px_num.proofs.Basics.{length-append, length-map, drop_more, get_or-map, get_or-append_right}
 use Rattle.px_num.proofs.Basics.{get_or_append_left, All-filter, All-get_or}
-use Rattle.px_sched.proofs.Words.{AreKnown, around_edges, At, Begin, BeginAt, BeginWith, behind_step, depths_of}
-use Rattle.px_sched.proofs.Words.{edge_count, edges_count, end_of, face_count, HasKnownLiterals, judged_from, level}
+use Rattle.px_sched.proofs.Words.{AreKnown, around_edges, At, Begin, BeginAt, BeginWith, behind_step}
+use Rattle.px_sched.proofs.Words.{edge_count, edges_count, face_count, HasKnownLiterals, judged_from, level}
 use Rattle.px_sched.proofs.Words.{Linear, Literal, literal_of, literal_steps, literals, literals_from, Macro}
 use Rattle.px_sched.proofs.Words.{no_product, Open, others_of, Product, product_at, product_steps, products_from}
 use Rattle.px_sched.proofs.Words.{SceneView, solid_of}
