@@ -145,11 +145,6 @@ module _ (scene : SceneView) (l : KeyedPixel) where
       rounded scene l _ _ (covered_once s far l.x l.y).back.value
       (leaves_depth far s l.x l.y (and_left (is_met s far l.x l.y) _ both))
 
-  cell_test : (solid : ℕ) (plain : Bool) → let s = solid_of scene solid in is_covered s plain far l.x l.y ≡ true
-      → sure scene l solid plain (value_of d (cell_found s plain d l.x l.y))
-      ≡ has_cell s plain d l.x l.y (cell_found s plain d l.x l.y)
-  cell_test solid plain met = grind (arith, plain_test, barred_test, and_left)
-
   -- the candidate of a literal that stays alive
   record IsKept (s : SolidView) (plain : Bool) (k new : Keys) : Type 0 where
     best : new.best ≡ k.best
@@ -162,7 +157,7 @@ module _ (scene : SceneView) (l : KeyedPixel) where
       → AreKept (sure scene l solid plain start.deep) start new → IsKept s plain k new
   kept solid plain k start new dead is c = let s = solid_of scene solid in
       elim (cases_Bool (is_covered s plain far l.x l.y)) [
-        | inl yea ↦ grind (arith, loaded_deep, cell_test)
+        | inl yea ↦ grind (arith, loaded_deep, plain_test, barred_test, and_left)
         | inr nay ↦ grind (arith, never)
       ]
 

@@ -37,10 +37,6 @@ number_cut at high low memory =
     let swap : high + low ≡ low + high = omega arith in
     ap (λ n. number_in (record { at = at; len = n }) memory) swap ∙ number_of_two_parts at low high memory
 
--- a whole and a part, without the part
-without_part : (f low high : ℕ) → low < 2 ^ f → (low + 2 ^ f * high) / 2 ^ f * 2 ^ f ≡ 0 + 2 ^ f * high
-without_part f low high small = grind (arith, div-mul-add)
-
 -- two numbers are what their joined number is cut into
 low_part : (i a b c d : ℕ) → a < 2 ^ i → c < 2 ^ i → a + 2 ^ i * b ≡ c + 2 ^ i * d → a ≡ c
 low_part i a b c d first second same = grind (arith, mod_low b i a first, mod_low d i c second)
@@ -98,8 +94,7 @@ module _ (w f i : ℕ) where
           read_back t_fraction 0 memory (omega arith) (pow_above f),
           number_is_kept t_fraction high 0 memory (omega arith) (inl (omega arith)),
         ) (sym (ap (λ n. n / 2 ^ f * 2 ^ f) (number_cut t_fraction.at w f memory)
-        ∙ without_part f (number_in t_fraction memory) (number_in high memory)
-        (number_is_below t_fraction memory))) in
+        ∙ grind (arith, div-mul-add, number_is_below t_fraction memory))) in
         rw (
           number_is_kept t_fraction laid.key_b 0 memory (omega arith) (inr (omega arith)),
           number_is_kept t_fraction t_number 0 memory (omega arith) (inr (omega arith)),

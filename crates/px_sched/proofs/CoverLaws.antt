@@ -23,16 +23,12 @@ mod_small n m h = let e : 0 * m + n ≡ n = omega arith in ap (λ k. k % m) (sym
 pub no_fraction : (f : ℕ) → (f == 0) ≡ true → f ≡ 0
 no_fraction f e = grind (arith, nat_tests)
 
--- and is kept as itself
-pub modulo_is : (v : ℤ) (end bits : ℕ) → end < 2 ^ bits → (d : IsDepth v end) → modulo v bits ≡ d.depth
-modulo_is v end bits big d = let small : d.depth < 2 ^ bits = omega (arith, d.below) in
-    rw d.is (mod_small d.depth (2 ^ bits) small)
-
 pub le_same : (m n : ℕ) → nat_le m n ≡ le_z (pos m) (pos n)
 le_same m n = grind (arith, nat_tests, ints)
 
 pub at_most_is : (v : ℤ) (end bits z : ℕ) → end < 2 ^ bits → IsDepth v end → nat_le (modulo v bits) z ≡ le_z v (pos z)
-at_most_is v end bits z big d = rw (modulo_is v end bits big d, d.is) (le_same d.depth z)
+at_most_is v end bits z big d =
+    rw d.is (ap (λ k. nat_le k z) (mod_small d.depth (2 ^ bits) (omega (arith, d.below))) ∙ le_same d.depth z)
 
 module _ (end : ℕ) (s : SolidView) (x y : ℕ) where
   pub enters_depth : is_met s end x y ≡ true → IsDepth (enters_at s x y) end

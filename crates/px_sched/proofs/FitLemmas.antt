@@ -28,9 +28,6 @@ module _ (scene : SceneView) (lawful : IsLawfulScene scene)
   end_small : end < 2 ^ 32
   end_small = grind (arith, nat_tests, common_steps, pow_mono, small)
 
-  unit_most : 2 ^ f ≤ 2 ^ 8
-  unit_most = pow_mono {i = f} {j = 8} lawful.sizes.fraction_limit
-
   plane : (solid face : ℕ) → IsThere scene solid face → IsPlane (face_plane (solid_of scene solid) end face)
   plane solid face there =
       plane_of_range (solid_of scene solid) (solid_lawful scene solids solid) end end_small face there
@@ -53,7 +50,7 @@ module _ (scene : SceneView) (lawful : IsLawfulScene scene)
   -- a face's plane so much further
   moved : (n : ℕ) → n ≤ 2 ^ f → (solid face : ℕ) → IsThere scene solid face
       → IsInTreeRange (plus (face_plane (solid_of scene solid) end face) n) × IsField (deep_part l l.key_t) (need_of l)
-  moved n low solid face there = let is = plane solid face there in grind (arith, unit_most, deep, wider)
+  moved n low solid face there = let is = plane solid face there in grind (arith, pow_mono {i = f} {j = 8} lawful.sizes.fraction_limit, deep, wider)
 
   each_lawful : HoldsOf scene l (λ m. IsLawful m (need_of l))
   each_lawful = record {

@@ -28,15 +28,10 @@ fold_agree f g a (suc n) same s =
     ∙ ap (λ t. fold g t (range_with_len (a + 1) n)) (same a (omega arith) (omega arith) s)
 
 -- a value that is rounded up is that of its cell
-rounded_value : (scene : SceneView) (v : ℤ) → let d = depths_of scene in IsDepth v (end_of d)
-    → without_fraction scene (modulo (v +ℤ pos (2 ^ d.fraction_bits - 1)) (scene.depth_bits + scene.fraction_bits))
-    ≡ value_of d (cell_of d v)
-rounded_value scene v is = grind (arith, pow_pos, mod_small, mul-le-mul, pow-add)
-
 pub rounded : (scene : SceneView) (l : KeyedPixel) (form : Linear) (v : ℤ) → let d = depths_of scene in
     value_at form l.x l.y ≡ v → IsDepth v (end_of d)
     → without_fraction scene (residue scene l (plus form (2 ^ d.fraction_bits - 1))) ≡ value_of d (cell_of d v)
-rounded scene l form v same is = grind (arith, value_at-plus, rounded_value)
+rounded scene l form v same is = grind (arith, value_at-plus, pow_pos, mod_small, mul-le-mul, pow-add)
 
 -- keys of which no more than the parity and whether the candidate is alive have changed: it is alive where a test holds
 pub record AreKept (test : Bool) (k new : Keys) : Type 0 where

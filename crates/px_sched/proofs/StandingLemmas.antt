@@ -63,11 +63,8 @@ module _ (scene : SceneView) where
     pub step_found : Some s ≡ slice_get (steps scene) c.given
     step_found = head_found (steps scene) c.given s (behind c.stage) left
 
-    pub few_steps : c.given < 2 ^ 64 - 1
-    few_steps = omega (arith, head_below (steps scene) c.given s (behind c.stage) left, stands.few)
-
     pub few_literals : c.literals < 2 ^ 64 - 1
-    few_literals = grind (arith, few_steps, length-filter, count_by-le-length, length-take)
+    few_literals = grind (arith, head_below, left, stands.few, length-filter, count_by-le-length, length-take)
 
     pub literals_more : c.literals + cond (opens_literal s) 1 0 ≡ literals_in (take (c.given + 1) (steps scene))
     literals_more = grind (arith, left, cond, filtered_more)
@@ -93,12 +90,10 @@ module _ (scene : SceneView) where
     pub inside : c.at < length (ops s)
     inside = grind (arith, stands.place)
 
-    from_here : drop c.given (passes scene) ≡ drop c.at (ops s ++ rest)
-    from_here = stands.left ∙ ap (λ steps. drop c.at (flat_map ops steps))
-        (here_from scene (plan_of scene) c.stage s here)
-
     given_left : drop c.given (passes scene) ≡ get_or (ops s) c.at m.All ∷ drop (c.at + 1) (ops s ++ rest)
-    given_left = from_here ∙ drop_more (ops s ++ rest) c.at m.All (omega (arith, inside, length-append (ops s) rest))
+    given_left = stands.left ∙ ap (λ steps. drop c.at (flat_map ops steps))
+        (here_from scene (plan_of scene) c.stage s here)
+        ∙ drop_more (ops s ++ rest) c.at m.All (omega (arith, inside, length-append (ops s) rest))
         ∙ ap (λ o. o ∷ drop (c.at + 1) (ops s ++ rest)) (get_or_append_left (ops s) rest m.All c.at inside)
 
     below : c.given < length (passes scene)

@@ -1,5 +1,5 @@
 -- What comes after a step, of a literal or of a group, begins with the next one.
-use Rattle.px_num.proofs.Basics.{◌≡◌, ◌+◌, ◌-◌, ◌<◌, ◌==◌, ◌++◌, ◌∙◌, ℕ, not, List, ◌∷◌, All, drop}
+use Rattle.px_num.proofs.Basics.{◌≡◌, ◌+◌, ◌-◌, ◌<◌, ◌==◌, ◌++◌, ◌∙◌, ℕ, not, List, ◌∷◌, All}
 use Rattle.px_num.proofs.Basics.{get_or, length, map, flat_map, ap, sym, subst, arith, common_steps, append_assoc}
 use Rattle.px_num.proofs.Basics.{length-append, length-map, drop_more, get_or-map, get_or-append_right}
 use Rattle.px_num.proofs.Basics.{get_or_append_left, All-filter, All-get_or}
@@ -10,11 +10,6 @@ use Rattle.px_sched.proofs.Words.{no_product, Open, others_of, Product, product_
 use Rattle.px_sched.proofs.Words.{SceneView, solid_of}
 use Rattle.px_sched.specs.declared.group.Group.{Group}
 use Rattle.px_macro.specs.declared.operation.Macro.TheVariants as m
-
--- what f gives for the elements of a list from one on
-pub elements_more : {X Y : Type 0} (f : X → List Y) (xs : List X) (d : X) (i : ℕ) → i < length xs
-    → flat_map f (drop i xs) ≡ f (get_or xs i d) ++ flat_map f (drop (i + 1) xs)
-elements_more f xs d i more = ap (flat_map f) (drop_more xs i d more)
 
 module _ (scene : SceneView) (q : Literal) (rs : List Literal) where
   pub begins : (other : ℕ) → other < length rs → BeginWith scene q rs (judged_from scene rs other) (Begin other)
@@ -63,6 +58,6 @@ module _ (scene : SceneView) (products : List Product) where
       let opened = literal_opens product 0 (All-get_or (HasKnownLiterals scene) products product no_product there
       drawn).some there in
       record {
-        left = elements_more (product_steps scene) products no_product product there ∙ opened.left;
+        left = ap (flat_map (product_steps scene)) (drop_more products product no_product there) ∙ opened.left;
         stage = opened.stage;
       }
