@@ -74,9 +74,6 @@ merge_best : (scene : SceneView) (l : KeyedPixel) (k : Keys) → (after_step sce
 merge_best scene l k =
     pick (k.alive && nat_lt (key l k.deep k.number) k.best) (record k { best = key l k.deep k.number }) k
 
-never : (a b : Bool) → a ≡ false → (a && b) ≡ true → ⊥
-never a b p q = cc
-
 module _ (scene : SceneView) (l : KeyedPixel) where
   abbrev d : Depths
   d = depths_of scene
@@ -158,7 +155,7 @@ module _ (scene : SceneView) (l : KeyedPixel) where
   kept solid plain k start new dead is c = let s = solid_of scene solid in
       elim (cases_Bool (is_covered s plain far l.x l.y)) [
         | inl yea ↦ grind (arith, loaded_deep, plain_test, barred_test, and_left)
-        | inr nay ↦ grind (arith, never)
+        | inr nay ↦ grind arith
       ]
 
   -- what the other literals leave

@@ -50,9 +50,6 @@ module _ (d : Depths) (s : SolidView) (x y : ℕ) where
       let law = has_cells s d x y in
       grind (arith, lt_true)
 
-differs : (i k : ℕ) → (eqb i k ≡ true) ⊎ (not (eqb i k) ≡ true)
-differs i k = elim (cases_Bool (eqb i k)) [ inl a ↦ inl a | inr b ↦ inr (rw b refl) ]
-
 module _ (scene : SceneView) (lawful : All IsLawfulSolid scene.solids)
     (numbered : AreNumberedFrom 1 scene.solids)
     (l : KeyedPixel) (products : List Product)
@@ -90,7 +87,7 @@ module _ (scene : SceneView) (lawful : All IsLawfulSolid scene.solids)
       let here = and_left (is_found s q.plain d l.x l.y) (list_all (suited scene l z) (others q p)) c.0 in
       let found = is_candidate d s l.x l.y q.plain here in
       let each : (r : Literal) → In r (literals p) → suited scene l z r ≡ true =
-      λ r there. elim (differs r.solid q.solid) [
+      λ r there. elim (cases_Bool (eqb r.solid q.solid)) [
         | inl e ↦ ap (suited scene l z) (whole.once q r b.there there (eqb_holds r.solid q.solid e)) ∙ found.suited
         | inr e ↦ grind (arith, one_of, suited, in_filter)
       ] in

@@ -13,9 +13,6 @@ use Rattle.px_sched.specs.declared.step.Step.TheVariants.{Start}
 use Rattle.px_sched.proofs.LawfulLaws.{all_flat}
 use Rattle.px_macro.specs.declared.operation.Macro.TheVariants as m
 
-pub anything : {X : Type 0} (xs : List X) → All (λ _. Unit {0}) xs
-anything xs k d low = tt
-
 fraction_all : {X : Type 0} (P : X → Type 0) (d : Depths) (xs : List X) → ((d.fraction_bits == 0) ≡ false → All P xs)
     → All P (where_fraction d xs)
 fraction_all P d xs holds = grind arith
@@ -67,15 +64,15 @@ module _ (scene : SceneView) where
       (All-append There sure (tests ++ Merge ∷ [])
       (fraction_all There (depths_of scene) (confirm scene q) (λ some. confirm_there q))
       (All-push There tests Merge
-      (all_flat There (λ _. Unit {0}) (judge scene rs) (λ other _. judge_there rs other) places (anything places)) tt)))
+      (all_flat There (λ _. Unit {0}) (judge scene rs) (λ other _. judge_there rs other) places (λ _ _ _. tt)) tt)))
 
   pub steps_there : (products : List Product) → All There (steps_with scene products)
   steps_there products =
       All-cons There Start (flat_map (product_steps scene) products) tt
       (all_flat There (λ _. Unit {0}) (product_steps scene)
       (λ product _. all_flat There (λ _. Unit {0}) (λ q. literal_steps scene q (others q product))
-      (λ q _. literal_there q (others q product)) (literals product) (anything (literals product)))
-      products (anything products))
+      (λ q _. literal_there q (others q product)) (literals product) (λ _ _ _. tt))
+      products (λ _ _ _. tt))
 
 pub is_there : (scene : SceneView) (step : Step) → IsStep scene step → HasFace (IsThere scene) step
 is_there scene x is = grind arith
