@@ -16,6 +16,7 @@ use px_macro::Macro;
 use px_rows::offsets;
 
 /// Makes an operation in every pixel of a grid.
+#[tactic(auto, using(crate::proofs::IdleLemmas::words_below))]
 pub(crate) fn operate_planes<const N: usize>(
     planes: &mut Planes,
     reach: Reach,

@@ -27,6 +27,7 @@ use px_rows::{
 
 /// Where the values are at most the number in a field.
 #[inline(always)]
+#[tactic(auto, using(px_num::proofs::AdderLaws::flipped, px_num::proofs::AdderLaws::flipped_bit, px_asm::proofs::ComparingLemmas::carry_is_at_most))]
 fn at_most(planes: &Planes, field: &Field, w: usize, values: &[u64]) -> u64
     requires words { HasWords (length planes.now.enable) planes.now }
     requires room { field.now.at + field.now.len ≤ length planes.now.memory.items }
