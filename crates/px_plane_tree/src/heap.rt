@@ -132,6 +132,7 @@ fn line_here(first_b: usize, place: usize, a: bool, b: bool) -> bool
 }
 
 /// The lines of the odd nodes in word w.
+#[tactic(auto, using(crate::proofs::SetBitLemmas::set_same, crate::proofs::SetBitLemmas::set_other))]
 pub fn line_word(first_b: usize, w: usize, a: bool, b: bool) -> u64
     requires { w < 4 }
     ensures { (j : ℕ) → j < 64 → nat_bit result j ≡ line_bit a b first_b (64 * w + j) }

@@ -103,6 +103,7 @@ impl PlaneTree {
     ///
     /// Bit `p mod 64` of word `p div 64` is the output of node `p`, and the bits past the last node
     /// are 0.
+    #[tactic(auto, using(crate::proofs::OutputLemmas::small_words, crate::proofs::OutputLemmas::small_bits, crate::proofs::OutputLemmas::large_words, crate::proofs::OutputLemmas::large_bits, crate::proofs::OutputLemmas::large_fits))]
     pub fn outputs(&self, level: u32) -> &[u64]
         requires from_one { 1 ≤ level }
         requires in_tree { level ≤ self.now.nx + self.now.ny }
@@ -119,6 +120,7 @@ impl PlaneTree {
     }
 
     /// The words of the outputs of all nodes, and those of their carries.
+    #[tactic(auto, using(crate::proofs::TreeLemmas::bit_seen, crate::proofs::TreeLemmas::carry_seen))]
     pub fn nodes(&self) -> (&[u64], &[u64])
         ensures outputs { IsLatch self.now (λ n. n.output) result.0.now }
         ensures carries { IsLatch self.now (λ n. n.carry) result.1.now }
@@ -130,6 +132,7 @@ impl PlaneTree {
 impl Tree for PlaneTree {
     ghost state = { λ t. t };
 
+    #[tactic(auto, using(crate::proofs::TreeLemmas::cleared_seen, crate::proofs::TreeLemmas::zero_tree))]
     fn clear(&mut self) {
         self.outputs.fill(0);
         self.carries.fill(0);
