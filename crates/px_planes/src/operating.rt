@@ -11,7 +11,9 @@ use crate::planes::Planes;
 use crate::reach::{Reach, is_crowd, narrowed, whole};
 use crate::row_operations::{enable_every, keep_bit, set_bit, toggle};
 use crate::strips::{STRIP, add_in_strips};
-use crate::word_operations::{add_linear, copy, keep_at_most, keep_less, load_const, load_linear};
+use crate::word_operations::{
+    Values, add_linear, copy, keep_at_most, keep_less, load_const, load_linear,
+};
 use px_macro::Macro;
 use px_rows::offsets;
 
@@ -154,9 +156,13 @@ fn operate_word(planes: &mut Planes, m: &Macro, offsets: &[u64], w: usize, ny: u
         return;
     }
     match m {
-        Macro::LoadLinear(form, field) => load_linear(planes, form, field, offsets, w, ny),
-        Macro::KeepAtMost(form, field) => keep_at_most(planes, form, field, offsets, w, ny),
-        Macro::AddLinear(form, field) => add_linear(planes, form, field, offsets, w, ny),
+        Macro::LoadLinear(form, field) => {
+            load_linear(planes, Values { form, offsets, ny }, field, w)
+        }
+        Macro::KeepAtMost(form, field) => {
+            keep_at_most(planes, Values { form, offsets, ny }, field, w)
+        }
+        Macro::AddLinear(form, field) => add_linear(planes, Values { form, offsets, ny }, field, w),
         Macro::LoadConst(field, number) => load_const(planes, field, *number, w, ny),
         Macro::Copy(from, to) => copy(planes, from, to, w, ny),
         Macro::KeepLess(first, second) => keep_less(planes, first, second, w, ny),
