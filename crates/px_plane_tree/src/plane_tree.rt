@@ -7,7 +7,7 @@ ghost use Rattle.px_plane_tree.specs.Lent.{IsLatch, output_bit};
 ghost use Rattle.px_plane_tree.specs.Trees.{heights as heights_of};
 
 use crate::heads::Heads;
-use crate::heap::feed_heap;
+use crate::heap::{Feed, feed_heap};
 use crate::small::unpack;
 use px_num::{Memory, power};
 use px_rows::{bit_of_row, part, zero_row};
@@ -143,15 +143,13 @@ impl Tree for PlaneTree {
 
     fn feed(&mut self, a: bool, b: bool, c: bool) {
         let now = Lines { a, b, c };
-        feed_heap(
-            &mut self.outputs,
-            &mut self.carries,
-            &mut self.still,
-            self.heads.of(a, b),
-            self.nx,
-            self.last,
+        let feed = Feed {
+            nx: self.nx,
+            last: self.last,
             now,
-        );
+            heads: self.heads.of(a, b),
+        };
+        feed_heap(&mut self.outputs, &mut self.carries, &mut self.still, feed);
         self.last = now;
         unpack(self.outputs[0], &mut self.small);
     }
