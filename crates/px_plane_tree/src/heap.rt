@@ -40,24 +40,34 @@ pub fn feed_heap(outputs: &mut [u64], carries: &mut [u64], still: &mut [bool], f
 {
     // From the leaves upwards, so that each level is written before its parents.
     for u in (1..still.len()).rev() {
-        let may_rest = may_rest(still, feed, u);
         let line = line_of(feed.nx, feed.now, u);
-        still[u] = feed_level(outputs, carries, power(u as u32), line, may_rest, still[u]);
+        let rest = rest_of(still, feed, u);
+        still[u] = feed_level(outputs, carries, power(u as u32), line, rest);
     }
     still[0] = feed_head(outputs, carries, feed.heads, feed.now.c);
 }
 
-/// Whether the parents of level `u + 7` did not move in the last feed, and its line is the same.
+/// Of a level: whether its parents did not move in the last feed and its line is the same, and
+/// whether it did not move itself.
+#[derive(Clone, Copy)]
+struct Rest {
+    may: bool,
+    was: bool,
+}
+
+/// What is known of level `u + 7`.
 #[inline(always)]
-fn may_rest(still: &[bool], feed: Feed, u: usize) -> bool
+fn rest_of(still: &[bool], feed: Feed, u: usize) -> Rest
     requires some { 1 ≤ u }
     requires level { u < length still.now }
     requires few { length still.now ≤ 12 }
-    ensures above { IsTrue result → slice_index_or still.now (u - 1) false ≡ true }
-    ensures line { IsTrue result →
+    ensures above { IsTrue result.may → slice_index_or still.now (u - 1) false ≡ true }
+    ensures was { result.was ≡ slice_index_or still.now u false }
+    ensures line { IsTrue result.may →
         level_line feed.entry.nx feed.entry.now u ≡ level_line feed.entry.nx feed.entry.last u }
 {
-    still[u - 1] && line_of(feed.nx, feed.now, u) == line_of(feed.nx, feed.last, u)
+    let may = still[u - 1] && line_of(feed.nx, feed.now, u) == line_of(feed.nx, feed.last, u);
+    Rest { may, was: still[u] }
 }
 
 /// The line of level `u + 7`.
@@ -76,29 +86,22 @@ fn line_of(nx: u32, lines: Lines, u: usize) -> bool
 /// Feeds the level whose parents are the words from `half` on and below `2 * half`, and answers
 /// whether it stayed as it was.
 ///
-/// Where `may_rest` and `rested` are 1 the level is known to be at rest. Where only `may_rest` is,
-/// it looks whether it is.
+/// Where `may` and `was` are 1 the level is known to be at rest. Where only `may` is, it looks
+/// whether it is.
 #[inline(always)]
-fn feed_level(
-    outputs: &mut [u64],
-    carries: &mut [u64],
-    half: usize,
-    line: bool,
-    may_rest: bool,
-    rested: bool,
-) -> bool
+fn feed_level(outputs: &mut [u64], carries: &mut [u64], half: usize, line: bool, rest: Rest) -> bool
     requires from { 2 ≤ half }
     requires even { half % 2 ≡ 0 }
     requires outputs { 4 * half ≤ length outputs.old }
     requires carries { 4 * half ≤ length carries.old }
     requires odd { HasOdd (2 * half) (4 * half) carries.old }
-    requires rest { IsTrue may_rest → IsTrue rested →
+    requires rest { IsTrue rest.may → IsTrue rest.was →
         IsAtRest line (2 * half) (4 * half) outputs.old carries.old }
     ensures fed { IsFed line (2 * half) (4 * half) (rows outputs.old carries.old) (rows outputs.new carries.new) }
     ensures outputs { IsTrue result → outputs.new ≡ outputs.old }
     ensures carries { IsTrue result → carries.new ≡ carries.old }
 {
-    if may_rest && (rested || is_at_rest(outputs, carries, half, 2 * half, line)) {
+    if rest.may && (rest.was || is_at_rest(outputs, carries, half, 2 * half, line)) {
         return true;
     }
     feed_parents(outputs, carries, half, 2 * half, line);

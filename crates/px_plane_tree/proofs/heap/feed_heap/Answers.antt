@@ -1,4 +1,4 @@
-use Rattle.px_num.proofs.Basics.{◌≡◌, ◌-◌, length, subst, ◌∙◌, arith}
+use Rattle.px_num.proofs.Basics.{◌≡◌, ◌-◌, length, subst, sym, ◌∙◌, arith}
 use Rattle.px_plane_tree.proofs.Words.{power_grows}
 use Rattle.px_plane_tree.proofs.LevelLemmas.{IsFedDown, are_still, fed_heap, fed_more, next_fits, levels, next_rest}
 use Rattle.px_plane_tree.proofs.heap.feed_heap.Goals as goal
@@ -21,7 +21,7 @@ feed_level-requires-clause-rest c = λ may here.
     rw (c.power.ensures, c.line_of-line.ensures)
     (next_rest c.args.feed.nx c.args.feed.last c.args.feed.now (c.loop-u.u - 1) _ _ _ _ _ _ (omega arith) (omega arith)
     (grind arith) c.requires.still
-    (c.may_rest-may_rest.ensures.line may) (c.may_rest-may_rest.ensures.above may) here)
+    (c.rest_of-rest.ensures.line may) (c.rest_of-rest.ensures.above may) (sym c.rest_of-rest.ensures.was ∙ here))
 
 pub loop-u-preserved : goal.loop-u-preserved
 loop-u-preserved c = record {
