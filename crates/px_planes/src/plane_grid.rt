@@ -1,8 +1,7 @@
 //! The grid with 64 pixels in a word.
-ghost use Rattle.std.specs.Prelude.{◌≡◌, ◌+◌, ◌^◌, ◌<◌, ℕ, IfOk, nat_lt, replicate};
+ghost use Rattle.std.specs.Prelude.{◌≡◌, ◌+◌, ◌^◌, ◌<◌, IfOk, replicate};
 ghost use Rattle.std.specs.Bool.{OnTrue};
 ghost use Rattle.px_array.specs.Clocks.{acted};
-ghost use Rattle.px_num.specs.Bits.{nat_bit};
 ghost use Rattle.px_array.specs.Acts.{HasPlace};
 ghost use Rattle.px_array.specs.Pixels.{zero_pixel};
 ghost use Rattle.px_plane_tree.specs.Lent.{IsLatch};
