@@ -7,7 +7,7 @@ use Rattle.px_macro.specs.declared.operation.Macro.TheVariants as m
 use Rattle.px_num.specs.Bits.{nat_bit}
 use Rattle.px_num.specs.declared.linear.Linear.{Linear}
 use Rattle.px_asm.specs.Microprograms.{bits_of}
-use Rattle.px_macro.specs.Macros.{after_macro}
+use Rattle.px_macro.specs.Macros.{IsLawful, after_macro}
 use Rattle.px_macro.specs.declared.operation.Macro.{Macro}
 use Rattle.px_array.specs.Acts.{stored}
 use Rattle.px_array.specs.Pixels.{PixelState}
@@ -74,6 +74,14 @@ IsCrowd planes = max (length planes.enable / 3) FEW < count_by has_some planes.e
 -- an operation that changes only what is enabled
 abbrev pub IsPartial : Macro → Type 0
 IsPartial op = op ≢ m.All
+
+-- an operation that changes only what is enabled can be made in planes of a grid
+pub record CanOperate (op : Macro) (ny : ℕ) (planes : Planes) : Type 0 where
+  pub words : HasWords (length planes.enable) planes
+  pub rows : ny ≤ 9
+  pub grid : 64 * length planes.enable ≤ 2 ^ (9 + ny)
+  pub lawful : IsLawful op (length planes.memory.items)
+  pub part : IsPartial op
 
 -- what is added in each lane to the value at the first pixel of its word
 abbrev pub AreOffsets : Linear → (ny : ℕ) → List ℕ → Type 0

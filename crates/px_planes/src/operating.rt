@@ -2,8 +2,8 @@
 ghost use Rattle.std.specs.Prelude.{◌≡◌, ℕ, ◌<◌, ◌≤◌, ◌+◌, ◌*◌, ◌/◌, ◌%◌, ◌^◌, length};
 ghost use Rattle.px_asm.specs.Microprograms.{bits_of};
 ghost use Rattle.px_macro.specs.Macros.{IsLawful, after_macro};
-ghost use Rattle.px_planes.specs.Operations.{HaveOffsets, IsDone, IsPartial, IsReach, IsWordDone, IsWordwise, bits_needed};
-ghost use Rattle.px_planes.specs.Pixels.{HasPixels, HasWords, pixel_in};
+ghost use Rattle.px_planes.specs.Operations.{CanOperate, HaveOffsets, IsDone, IsReach, IsWordDone, IsWordwise, bits_needed};
+ghost use Rattle.px_planes.specs.Pixels.{HasPixels, pixel_in};
 ghost use Rattle.px_tree.specs.Nodes.{IsGrid};
 
 use crate::edges::keep_sign;
@@ -59,13 +59,9 @@ pub(crate) fn is_without_form(m: &Macro) -> bool {
 
 /// Makes an operation where pixels are enabled.
 fn operate_part(planes: &mut Planes, reach: Reach, m: &Macro, ny: u32)
-    requires words { HasWords (length planes.old.enable) planes.old }
+    requires can { CanOperate m.now ny planes.old }
     requires reach { IsReach reach planes.old }
     requires some { 1 ≤ ny }
-    requires rows { ny ≤ 9 }
-    requires grid { 64 * length planes.old.enable ≤ 2 ^ (9 + ny) }
-    requires lawful { IsLawful m.now (length planes.old.memory.items) }
-    requires part { IsPartial m.now }
     ensures { IsDone m.now ny (length planes.old.enable) planes.old planes.new }
 {
     if reach.from >= reach.to {
@@ -89,12 +85,8 @@ fn operate_part(planes: &mut Planes, reach: Reach, m: &Macro, ny: u32)
 
 /// Makes an operation word by word, where a pixel is enabled.
 fn operate_words(planes: &mut Planes, reach: Reach, m: &Macro, ny: u32)
-    requires words { HasWords (length planes.old.enable) planes.old }
+    requires can { CanOperate m.now ny planes.old }
     requires reach { IsReach reach planes.old }
-    requires rows { ny ≤ 9 }
-    requires grid { 64 * length planes.old.enable ≤ 2 ^ (9 + ny) }
-    requires lawful { IsLawful m.now (length planes.old.memory.items) }
-    requires part { IsPartial m.now }
     requires wordwise { IsWordwise m.now }
     ensures { IsDone m.now ny (length planes.old.enable) planes.old planes.new }
 {
@@ -141,11 +133,7 @@ fn make_offsets(m: &Macro, ny: u32, words: &mut [u64])
 /// Makes an operation in the pixels of a word, if one of them is enabled.
 #[inline(always)]
 fn operate_word(planes: &mut Planes, m: &Macro, offsets: &[u64], w: usize, ny: u32)
-    requires words { HasWords (length planes.old.enable) planes.old }
-    requires rows { ny ≤ 9 }
-    requires grid { 64 * length planes.old.enable ≤ 2 ^ (9 + ny) }
-    requires lawful { IsLawful m.now (length planes.old.memory.items) }
-    requires part { IsPartial m.now }
+    requires can { CanOperate m.now ny planes.old }
     requires wordwise { IsWordwise m.now }
     requires offsets { HaveOffsets m.now ny offsets.now }
     requires long { length offsets.now ≡ bits_needed m.now }
