@@ -15,6 +15,7 @@ use px_array::Array;
 use px_macro::Macro;
 
 /// Makes the clocks of an operation from one up to another, counted from 0.
+#[tactic(auto, using(crate::proofs::MakingLemmas::one_made))]
 pub fn make_micros<A: Array>(array: &mut A, m: &Macro, from: u32, to: u32)
     requires grid { IsGrid (A.view array.old).device.state.tree.nx (A.view array.old).device.state.tree.ny }
     requires lawful { IsLawful m.now 256 }
@@ -34,6 +35,7 @@ pub fn make_micros<A: Array>(array: &mut A, m: &Macro, from: u32, to: u32)
 
 /// Makes all clocks of an operation, which leave its meaning in every pixel (docs/MACHINE.md,
 /// "Microprograms").
+#[tactic(auto, using(crate::proofs::MakingLemmas::all_of_them, crate::proofs::MakingLemmas::count_of_them))]
 pub fn make_operation<A: Array>(array: &mut A, m: &Macro)
     requires grid { IsGrid (A.view array.old).device.state.tree.nx (A.view array.old).device.state.tree.ny }
     requires pixels { HasGrid A.BITS (A.view array.old).device.state.tree.nx

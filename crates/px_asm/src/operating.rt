@@ -82,6 +82,7 @@ fn operate_at_once<G: OperatingGrid>(array: &mut ArrayOf<G>, m: &Macro) -> bool
 
 /// Two arrays that agree in memory and enable of every pixel become the same by operations that
 /// reset all that is not known to be the same.
+#[tactic(auto, using(crate::proofs::OperatedLemmas::become_the_same, crate::proofs::OperatedLemmas::become_the_same_again, crate::proofs::OperatedLemmas::stay_in_agreement, crate::proofs::OperatedLemmas::stay_known))]
 pub fn law_of_renewal()
     ensures same { BecomeTheSame }
     ensures agreement { StayInAgreement }

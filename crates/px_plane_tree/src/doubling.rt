@@ -10,6 +10,7 @@ const TWICE: [u8; 16] = [
 ];
 
 #[inline(always)]
+#[tactic(auto, using(crate::proofs::WeaveLemmas::low_ok, crate::proofs::WeaveLemmas::low_looked_up))]
 fn low_twice(bytes: u8x16) -> u8x16
     ensures { IsTwice 0 bytes result }
 {
@@ -17,6 +18,7 @@ fn low_twice(bytes: u8x16) -> u8x16
 }
 
 #[inline(always)]
+#[tactic(auto, using(crate::proofs::WeaveLemmas::high_ok, crate::proofs::WeaveLemmas::high_looked_up))]
 fn high_twice(bytes: u8x16) -> u8x16
     ensures { IsTwice 4 bytes result }
 {
@@ -24,6 +26,7 @@ fn high_twice(bytes: u8x16) -> u8x16
 }
 
 #[inline(always)]
+#[tactic(auto, using(crate::proofs::WeaveLemmas::bytes_law))]
 fn bytes_of(words: u64x2) -> u8x16
     ensures { HasBytes words result }
 {

@@ -90,6 +90,7 @@ fn feed_two_by(outputs: &mut [u64], carries: &mut [u64], at: usize, both: u64x2,
 
 /// The first word of outputs as parents: bit 1 is the root.
 #[inline(always)]
+#[tactic(auto, using(crate::proofs::HeapLemmas::rooted_on, crate::proofs::HeapLemmas::rooted_off))]
 pub fn rooted(word: u64, c: bool) -> u64
     ensures { (i : ℕ) → i < 64 → nat_bit result i
         ≡ cond (nat_lt i 2) (c && eqb i 1) (nat_bit word i) }

@@ -7,7 +7,7 @@ ghost use Rattle.px_plane_tree.specs.Lent.{IsLatch, output_bit};
 ghost use Rattle.px_plane_tree.specs.Trees.{heights as heights_of};
 
 use crate::heads::Heads;
-use crate::heap::feed_heap;
+use crate::heap::{Feed, feed_heap};
 use crate::small::unpack;
 use px_num::{Memory, power};
 use px_rows::{bit_of_row, part, zero_row};
@@ -103,6 +103,7 @@ impl PlaneTree {
     ///
     /// Bit `p mod 64` of word `p div 64` is the output of node `p`, and the bits past the last node
     /// are 0.
+    #[tactic(auto, using(crate::proofs::OutputLemmas::small_words, crate::proofs::OutputLemmas::small_bits, crate::proofs::OutputLemmas::large_words, crate::proofs::OutputLemmas::large_bits, crate::proofs::OutputLemmas::large_fits))]
     pub fn outputs(&self, level: u32) -> &[u64]
         requires from_one { 1 ≤ level }
         requires in_tree { level ≤ self.now.nx + self.now.ny }
@@ -119,6 +120,7 @@ impl PlaneTree {
     }
 
     /// The words of the outputs of all nodes, and those of their carries.
+    #[tactic(auto, using(crate::proofs::TreeLemmas::bit_seen, crate::proofs::TreeLemmas::carry_seen))]
     pub fn nodes(&self) -> (&[u64], &[u64])
         ensures outputs { IsLatch self.now (λ n. n.output) result.0.now }
         ensures carries { IsLatch self.now (λ n. n.carry) result.1.now }
@@ -130,6 +132,7 @@ impl PlaneTree {
 impl Tree for PlaneTree {
     ghost state = { λ t. t };
 
+    #[tactic(auto, using(crate::proofs::TreeLemmas::cleared_seen, crate::proofs::TreeLemmas::zero_tree))]
     fn clear(&mut self) {
         self.outputs.fill(0);
         self.carries.fill(0);
@@ -140,15 +143,13 @@ impl Tree for PlaneTree {
 
     fn feed(&mut self, a: bool, b: bool, c: bool) {
         let now = Lines { a, b, c };
-        feed_heap(
-            &mut self.outputs,
-            &mut self.carries,
-            &mut self.still,
-            self.heads.of(a, b),
-            self.nx,
-            self.last,
+        let feed = Feed {
+            nx: self.nx,
+            last: self.last,
             now,
-        );
+            heads: self.heads.of(a, b),
+        };
+        feed_heap(&mut self.outputs, &mut self.carries, &mut self.still, feed);
         self.last = now;
         unpack(self.outputs[0], &mut self.small);
     }

@@ -19,6 +19,7 @@ pub fn unpack(word: u64, small: &mut [u64])
 
 /// The outputs of level `k`.
 #[inline(always)]
+#[tactic(auto, using(crate::proofs::TreeLemmas::small_power, crate::proofs::TreeLemmas::level_law))]
 fn level_of(word: u64, k: u32) -> u64
     requires { k < 6 }
     ensures { (j : ℕ) → j < 64 → nat_bit result j

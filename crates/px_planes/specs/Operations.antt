@@ -1,13 +1,13 @@
 -- Operations that are made at once, word by word. Only proofs and private functions stand on it.
 use Rattle.std.specs.Prelude.{◌≡◌, ◌≢◌, ℕ, zero, suc, ◌+◌, ◌*◌, ◌/◌, ◌%◌, ◌^◌, ◌<◌, ◌≤◌, ◌⊎◌, ⊤, ◌≤ℤ◌, Bool}
 use Rattle.std.specs.Prelude.{false, not, ◌==◌, max, count_by, List, length}
-use Rattle.px_num.specs.Forms.{IsWithin}
+use Rattle.px_num.specs.Forms.{IsInTreeRange, IsWithin}
 use Rattle.px_rows.specs.Lanes.{HasValue, offset}
 use Rattle.px_macro.specs.declared.operation.Macro.TheVariants as m
 use Rattle.px_num.specs.Bits.{nat_bit}
 use Rattle.px_num.specs.declared.linear.Linear.{Linear}
 use Rattle.px_asm.specs.Microprograms.{bits_of}
-use Rattle.px_macro.specs.Macros.{after_macro}
+use Rattle.px_macro.specs.Macros.{IsLawful, after_macro}
 use Rattle.px_macro.specs.declared.operation.Macro.{Macro}
 use Rattle.px_array.specs.Acts.{stored}
 use Rattle.px_array.specs.Pixels.{PixelState}
@@ -16,6 +16,7 @@ use Rattle.px_planes.specs.declared.edges.Edge.{Edge}
 use Rattle.px_planes.specs.declared.planes.Planes.{Planes}
 use Rattle.px_planes.specs.declared.reach.Reach.{Reach}
 use Rattle.px_planes.specs.declared.reach.TheConstants.{FEW}
+use Rattle.px_planes.specs.declared.word_operations.Values.{Values}
 use Rattle.px_rows.specs.Rows.{row_bit}
 
 -- the first n bits of v are stored from a place on
@@ -74,9 +75,25 @@ IsCrowd planes = max (length planes.enable / 3) FEW < count_by has_some planes.e
 abbrev pub IsPartial : Macro → Type 0
 IsPartial op = op ≢ m.All
 
+-- an operation that changes only what is enabled can be made in planes of a grid
+pub record CanOperate (op : Macro) (ny : ℕ) (planes : Planes) : Type 0 where
+  pub words : HasWords (length planes.enable) planes
+  pub rows : ny ≤ 9
+  pub grid : 64 * length planes.enable ≤ 2 ^ (9 + ny)
+  pub lawful : IsLawful op (length planes.memory.items)
+  pub part : IsPartial op
+
 -- what is added in each lane to the value at the first pixel of its word
 abbrev pub AreOffsets : Linear → (ny : ℕ) → List ℕ → Type 0
 AreOffsets form ny offsets = (j : ℕ) → j < 64 → HasValue offsets j (offset form ny j)
+
+-- offsets of so many bits that are those of a form, in a grid of rows of n words
+pub record AreValues (values : Values) (bits n : ℕ) : Type 0 where
+  pub range : IsInTreeRange values.form.now
+  pub rows : values.ny ≤ 9
+  pub grid : 64 * n ≤ 2 ^ (9 + values.ny)
+  pub long : length values.offsets.now ≡ bits
+  pub offsets : AreOffsets values.form.now values.ny values.offsets.now
 
 -- no offset is less than the low one or greater than the high one
 pub record IsEdge (form : Linear) (ny : ℕ) (edge : Edge) : Type 0 where

@@ -54,21 +54,9 @@ fn cut_word(planes: &mut Planes, edge: Edge, form: &Linear, w: usize, ny: u32)
     requires word { w < length planes.old.enable }
     ensures { IsWordDone (KeepSign form.now) ny w (length planes.old.enable) planes.old planes.new }
 {
-    if planes.enable.word(w) != 0 {
-        cut_enabled_word(planes, edge, form, w, ny);
+    if planes.enable.word(w) == 0 {
+        return;
     }
-}
-
-#[inline(always)]
-fn cut_enabled_word(planes: &mut Planes, edge: Edge, form: &Linear, w: usize, ny: u32)
-    requires words { HasWords (length planes.old.enable) planes.old }
-    requires edge { IsEdge form.now ny edge }
-    requires range { IsInTreeRange form.now }
-    requires rows { ny ≤ 9 }
-    requires grid { 64 * length planes.old.enable ≤ 2 ^ (9 + ny) }
-    requires word { w < length planes.old.enable }
-    ensures { IsWordDone (KeepSign form.now) ny w (length planes.old.enable) planes.old planes.new }
-{
     let base = base_of(form, ny, w);
     if base + edge.low >= 0 {
         return;

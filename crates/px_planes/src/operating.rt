@@ -2,8 +2,8 @@
 ghost use Rattle.std.specs.Prelude.{◌≡◌, ℕ, ◌<◌, ◌≤◌, ◌+◌, ◌*◌, ◌/◌, ◌%◌, ◌^◌, length};
 ghost use Rattle.px_asm.specs.Microprograms.{bits_of};
 ghost use Rattle.px_macro.specs.Macros.{IsLawful, after_macro};
-ghost use Rattle.px_planes.specs.Operations.{HaveOffsets, IsDone, IsPartial, IsReach, IsWordDone, IsWordwise, bits_needed};
-ghost use Rattle.px_planes.specs.Pixels.{HasPixels, HasWords, pixel_in};
+ghost use Rattle.px_planes.specs.Operations.{CanOperate, HaveOffsets, IsDone, IsReach, IsWordDone, IsWordwise, bits_needed};
+ghost use Rattle.px_planes.specs.Pixels.{HasPixels, pixel_in};
 ghost use Rattle.px_tree.specs.Nodes.{IsGrid};
 
 use crate::edges::keep_sign;
@@ -11,11 +11,14 @@ use crate::planes::Planes;
 use crate::reach::{Reach, is_crowd, narrowed, whole};
 use crate::row_operations::{enable_every, keep_bit, set_bit, toggle};
 use crate::strips::{STRIP, add_in_strips};
-use crate::word_operations::{add_linear, copy, keep_at_most, keep_less, load_const, load_linear};
+use crate::word_operations::{
+    Values, add_linear, copy, keep_at_most, keep_less, load_const, load_linear,
+};
 use px_macro::Macro;
 use px_rows::offsets;
 
 /// Makes an operation in every pixel of a grid.
+#[tactic(auto, using(crate::proofs::IdleLemmas::words_below))]
 pub(crate) fn operate_planes<const N: usize>(
     planes: &mut Planes,
     reach: Reach,
@@ -56,13 +59,9 @@ pub(crate) fn is_without_form(m: &Macro) -> bool {
 
 /// Makes an operation where pixels are enabled.
 fn operate_part(planes: &mut Planes, reach: Reach, m: &Macro, ny: u32)
-    requires words { HasWords (length planes.old.enable) planes.old }
+    requires can { CanOperate m.now ny planes.old }
     requires reach { IsReach reach planes.old }
     requires some { 1 ≤ ny }
-    requires rows { ny ≤ 9 }
-    requires grid { 64 * length planes.old.enable ≤ 2 ^ (9 + ny) }
-    requires lawful { IsLawful m.now (length planes.old.memory.items) }
-    requires part { IsPartial m.now }
     ensures { IsDone m.now ny (length planes.old.enable) planes.old planes.new }
 {
     if reach.from >= reach.to {
@@ -86,12 +85,8 @@ fn operate_part(planes: &mut Planes, reach: Reach, m: &Macro, ny: u32)
 
 /// Makes an operation word by word, where a pixel is enabled.
 fn operate_words(planes: &mut Planes, reach: Reach, m: &Macro, ny: u32)
-    requires words { HasWords (length planes.old.enable) planes.old }
+    requires can { CanOperate m.now ny planes.old }
     requires reach { IsReach reach planes.old }
-    requires rows { ny ≤ 9 }
-    requires grid { 64 * length planes.old.enable ≤ 2 ^ (9 + ny) }
-    requires lawful { IsLawful m.now (length planes.old.memory.items) }
-    requires part { IsPartial m.now }
     requires wordwise { IsWordwise m.now }
     ensures { IsDone m.now ny (length planes.old.enable) planes.old planes.new }
 {
@@ -138,11 +133,7 @@ fn make_offsets(m: &Macro, ny: u32, words: &mut [u64])
 /// Makes an operation in the pixels of a word, if one of them is enabled.
 #[inline(always)]
 fn operate_word(planes: &mut Planes, m: &Macro, offsets: &[u64], w: usize, ny: u32)
-    requires words { HasWords (length planes.old.enable) planes.old }
-    requires rows { ny ≤ 9 }
-    requires grid { 64 * length planes.old.enable ≤ 2 ^ (9 + ny) }
-    requires lawful { IsLawful m.now (length planes.old.memory.items) }
-    requires part { IsPartial m.now }
+    requires can { CanOperate m.now ny planes.old }
     requires wordwise { IsWordwise m.now }
     requires offsets { HaveOffsets m.now ny offsets.now }
     requires long { length offsets.now ≡ bits_needed m.now }
@@ -153,9 +144,13 @@ fn operate_word(planes: &mut Planes, m: &Macro, offsets: &[u64], w: usize, ny: u
         return;
     }
     match m {
-        Macro::LoadLinear(form, field) => load_linear(planes, form, field, offsets, w, ny),
-        Macro::KeepAtMost(form, field) => keep_at_most(planes, form, field, offsets, w, ny),
-        Macro::AddLinear(form, field) => add_linear(planes, form, field, offsets, w, ny),
+        Macro::LoadLinear(form, field) => {
+            load_linear(planes, Values { form, offsets, ny }, field, w)
+        }
+        Macro::KeepAtMost(form, field) => {
+            keep_at_most(planes, Values { form, offsets, ny }, field, w)
+        }
+        Macro::AddLinear(form, field) => add_linear(planes, Values { form, offsets, ny }, field, w),
         Macro::LoadConst(field, number) => load_const(planes, field, *number, w, ny),
         Macro::Copy(from, to) => copy(planes, from, to, w, ny),
         Macro::KeepLess(first, second) => keep_less(planes, first, second, w, ny),

@@ -1,8 +1,7 @@
 //! The grid with 64 pixels in a word.
-ghost use Rattle.std.specs.Prelude.{◌≡◌, ◌+◌, ◌^◌, ◌<◌, ℕ, IfOk, nat_lt, replicate};
+ghost use Rattle.std.specs.Prelude.{◌≡◌, ◌+◌, ◌^◌, ◌<◌, IfOk, replicate};
 ghost use Rattle.std.specs.Bool.{OnTrue};
 ghost use Rattle.px_array.specs.Clocks.{acted};
-ghost use Rattle.px_num.specs.Bits.{nat_bit};
 ghost use Rattle.px_array.specs.Acts.{HasPlace};
 ghost use Rattle.px_array.specs.Pixels.{zero_pixel};
 ghost use Rattle.px_plane_tree.specs.Lent.{IsLatch};
@@ -106,6 +105,7 @@ impl<const N: usize> Grid for PlaneGrid<N> {
         self.clocks += 1;
     }
 
+    #[tactic(auto, using(crate::proofs::ShelfLemmas::filled_by, crate::proofs::ShelfLemmas::pixels_kept))]
     fn save(&self, slot: &mut Slot<N>) {
         keep_planes(&mut slot.shelf, &self.planes);
         slot.tree.copy_from(&self.tree);
@@ -113,6 +113,7 @@ impl<const N: usize> Grid for PlaneGrid<N> {
         slot.is_saved = true;
     }
 
+    #[tactic(auto, using(crate::proofs::ShelfLemmas::saved_flag, crate::proofs::ShelfLemmas::pixels_kept, crate::proofs::ShelfLemmas::pixels_taken))]
     fn restore(&mut self, slot: &Slot<N>) {
         take_planes(&mut self.planes, &slot.shelf);
         self.reach = whole(&self.planes);
@@ -133,6 +134,7 @@ impl<const N: usize> Grid for PlaneGrid<N> {
         self.planes.memory[at as usize].word(w)
     }
 
+    #[tactic(auto, using(crate::proofs::GridLemmas::registers_law))]
     fn registers(&self, x: u32, y: u32) -> Registers {
         let (nx, ny) = self.tree.size();
         let place = leaf_index(nx, ny, x, y);
@@ -206,6 +208,7 @@ fn is_faster_by_clocks(planes: &Planes, reach: Reach, m: &Macro) -> bool
 }
 
 /// Rows of 0 for the pixels of a grid.
+#[tactic(auto, using(crate::proofs::GridLemmas::whole_words, crate::proofs::GridLemmas::zero_law, crate::proofs::GridLemmas::zero_pixels, px_plane_tree::proofs::LevelLemmas::power_some))]
 fn zero_planes<const N: usize>(alloc: Global, nx: u32, ny: u32) -> Result<Planes, Memory>
     requires { IsGrid nx ny }
     ensures zero { IfOk result (λ planes. pixels_in (2 ^ (nx + ny)) planes

@@ -1,6 +1,6 @@
 //! Operations, made at once in the 64 pixels of one word.
 ghost use Rattle.std.specs.Prelude.{◌≡◌, ℕ, ℤ, ◌<◌, ◌≤◌, ◌+◌, ◌*◌, ◌/◌, ◌%◌, ◌^◌, length, nat_le};
-ghost use Rattle.px_rows.specs.Lanes.{HasValue, offset};
+ghost use Rattle.px_rows.specs.Lanes.{HasValue};
 ghost use Rattle.px_macro.specs.Fields.{number_in};
 ghost use Rattle.px_macro.specs.Macros.{AreOfOneLength, IsField};
 ghost use Rattle.px_macro.specs.declared.operation.Macro.TheVariants.{
@@ -12,8 +12,7 @@ ghost use Rattle.px_macro.specs.declared.operation.Macro.TheVariants.{
   LoadLinear,
 };
 ghost use Rattle.px_num.specs.Bits.{modulo, nat_bit};
-ghost use Rattle.px_num.specs.Forms.{IsInTreeRange};
-ghost use Rattle.px_planes.specs.Operations.{IsWordDone};
+ghost use Rattle.px_planes.specs.Operations.{AreValues, IsWordDone};
 ghost use Rattle.px_planes.specs.Pixels.{HasWords, pixel_in};
 
 use crate::planes::Planes;
@@ -25,8 +24,18 @@ use px_rows::{
     word_values,
 };
 
+/// The values of a form in each word of a grid with `2^ny` rows.
+#[derive(Clone, Copy)]
+pub struct Values<'a> {
+    pub form: &'a Linear,
+    /// What is added in each lane to the value at the first pixel of its word.
+    pub offsets: &'a [u64],
+    pub ny: u32,
+}
+
 /// Where the values are at most the number in a field.
 #[inline(always)]
+#[tactic(auto, using(px_num::proofs::AdderLaws::flipped, px_num::proofs::AdderLaws::flipped_bit, px_asm::proofs::ComparingLemmas::carry_is_at_most))]
 fn at_most(planes: &Planes, field: &Field, w: usize, values: &[u64]) -> u64
     requires words { HasWords (length planes.now.enable) planes.now }
     requires room { field.now.at + field.now.len ≤ length planes.now.memory.items }
@@ -91,88 +100,58 @@ pub(crate) fn keep_less(planes: &mut Planes, first: &Field, second: &Field, w: u
 }
 
 /// `f = v mod 2^len`
-pub(crate) fn load_linear(
-    planes: &mut Planes,
-    form: &Linear,
-    field: &Field,
-    offsets: &[u64],
-    w: usize,
-    ny: u32,
-)
+#[inline(always)]
+pub(crate) fn load_linear(planes: &mut Planes, values: Values, field: &Field, w: usize)
     requires words { HasWords (length planes.old.enable) planes.old }
-    requires range { IsInTreeRange form.now }
+    requires values { AreValues values field.now.len (length planes.old.enable) }
     requires field { IsField field.now (length planes.old.memory.items) }
-    requires rows { ny ≤ 9 }
-    requires grid { 64 * length planes.old.enable ≤ 2 ^ (9 + ny) }
-    requires long { length offsets.now ≡ field.now.len }
-    requires offsets { (j : ℕ) → j < 64 → HasValue offsets.now j (offset form.now ny j) }
     requires word { w < length planes.old.enable }
-    ensures { IsWordDone (LoadLinear form.now field.now) ny w (length planes.old.enable) planes.old
-        planes.new }
+    ensures { IsWordDone (LoadLinear values.entry.form.now field.now) values.entry.ny w
+        (length planes.old.enable) planes.old planes.new }
 {
     let mut room = [0; 40];
-    let values = &mut room[..field.len as usize];
-    word_values(form, ny, w, offsets, values);
-    store_words(planes, field.at, w, values);
+    let words = &mut room[..field.len as usize];
+    word_values(values.form, values.ny, w, values.offsets, words);
+    store_words(planes, field.at, w, words);
 }
 
 /// `enable = enable and v mod 2^len <= f`
-pub(crate) fn keep_at_most(
-    planes: &mut Planes,
-    form: &Linear,
-    field: &Field,
-    offsets: &[u64],
-    w: usize,
-    ny: u32,
-)
+#[inline(always)]
+pub(crate) fn keep_at_most(planes: &mut Planes, values: Values, field: &Field, w: usize)
     requires words { HasWords (length planes.old.enable) planes.old }
-    requires range { IsInTreeRange form.now }
+    requires values { AreValues values field.now.len (length planes.old.enable) }
     requires field { IsField field.now (length planes.old.memory.items) }
-    requires rows { ny ≤ 9 }
-    requires grid { 64 * length planes.old.enable ≤ 2 ^ (9 + ny) }
-    requires long { length offsets.now ≡ field.now.len }
-    requires offsets { (j : ℕ) → j < 64 → HasValue offsets.now j (offset form.now ny j) }
     requires word { w < length planes.old.enable }
-    ensures { IsWordDone (KeepAtMost form.now field.now) ny w (length planes.old.enable) planes.old
-        planes.new }
+    ensures { IsWordDone (KeepAtMost values.entry.form.now field.now) values.entry.ny w
+        (length planes.old.enable) planes.old planes.new }
 {
     let mut room = [0; 40];
-    let values = &mut room[..field.len as usize];
-    word_values(form, ny, w, offsets, values);
-    let most = at_most(planes, field, w, values);
+    let words = &mut room[..field.len as usize];
+    word_values(values.form, values.ny, w, values.offsets, words);
+    let most = at_most(planes, field, w, words);
     keep_word(planes, w, most);
 }
 
 /// `f = (f + v) mod 2^len`
-pub(crate) fn add_linear(
-    planes: &mut Planes,
-    form: &Linear,
-    field: &Field,
-    offsets: &[u64],
-    w: usize,
-    ny: u32,
-)
+#[inline(always)]
+pub(crate) fn add_linear(planes: &mut Planes, values: Values, field: &Field, w: usize)
     requires words { HasWords (length planes.old.enable) planes.old }
-    requires range { IsInTreeRange form.now }
+    requires values { AreValues values field.now.len (length planes.old.enable) }
     requires field { IsField field.now (length planes.old.memory.items) }
-    requires rows { ny ≤ 9 }
-    requires grid { 64 * length planes.old.enable ≤ 2 ^ (9 + ny) }
-    requires long { length offsets.now ≡ field.now.len }
-    requires offsets { (j : ℕ) → j < 64 → HasValue offsets.now j (offset form.now ny j) }
     requires word { w < length planes.old.enable }
-    ensures { IsWordDone (AddLinear form.now field.now) ny w (length planes.old.enable) planes.old
-        planes.new }
+    ensures { IsWordDone (AddLinear values.entry.form.now field.now) values.entry.ny w
+        (length planes.old.enable) planes.old planes.new }
 {
     laws_of_fields();
-    let base = base_of(form, ny, w);
+    let base = base_of(values.form, values.ny, w);
     let mut carries = Carries {
         first: 0,
         second: 0,
     };
-    for t in 0..offsets.len() {
+    for t in 0..values.offsets.len() {
         let at = field.at as usize + t;
         let held = memory_word(planes, at, w);
-        let sum = added_bit(&mut carries, offsets[t], bit_of_all(base, t), held);
+        let sum = added_bit(&mut carries, values.offsets[t], bit_of_all(base, t), held);
         put_word(planes, at, w, sum);
     }
 }

@@ -1,6 +1,6 @@
 //! Numbers in 64 lanes: word `t` has bit `t` of each of them.
-ghost use Rattle.std.specs.Prelude.{◌≡◌, ◌<◌, ◌≤◌, ◌^◌, ◌+ℤ◌, pos, ℕ, ℤ, cond, nat_lt, not, if◌then◌else◌, length, slice_index};
-ghost use Rattle.px_num.specs.Bits.{bit_of, majority, nat_bit};
+ghost use Rattle.std.specs.Prelude.{◌≡◌, ◌<◌, ◌≤◌, ◌^◌, ◌+ℤ◌, pos, ℕ, ℤ, nat_lt, if◌then◌else◌, length, slice_index};
+ghost use Rattle.px_num.specs.Bits.{bit_of, nat_bit};
 ghost use Rattle.px_rows.specs.Lanes.{HasValue};
 
 use crate::words::{all_of, majority_word};

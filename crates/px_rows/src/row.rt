@@ -8,7 +8,7 @@ ghost use Rattle.px_rows.specs.Sums.{value_in, value_on};
 
 use crate::bits::{bit_of_row, zero_row};
 use crate::rows::{add_row, choose_row, flip_row, keep_row, majority_row, paint_row};
-use crate::sums::add_steps_part;
+use crate::sums::add_steps_row;
 use px_num::Memory;
 use std::alloc::Global;
 use std::marker::Model;
@@ -119,6 +119,7 @@ impl Row {
 
     /// Adds a value that grows by steps to the words from `at` on, as many as the carries have
     /// (`add_steps_row`).
+    #[tactic(auto, using(crate::proofs::PartLemmas::bit_in_part))]
     pub fn add_steps(
         &mut self,
         at: usize,
@@ -148,7 +149,9 @@ impl Row {
         ensures first_words { length first.new ≡ length first.old }
         ensures second_words { length second.new ≡ length second.old }
     {
-        add_steps_part(&mut self.words, at, first, second, value, step, mask);
+        let to = at + first.len();
+        let words = &mut self.words[at..to];
+        add_steps_row(words, first, second, value, step, &mask[at..to]);
     }
 
     /// The bits where the mask's are 1 become `v`.

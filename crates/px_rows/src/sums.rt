@@ -1,5 +1,5 @@
 //! A value that is added to a row, and grows by a step from each block of eight words to the next.
-ghost use Rattle.std.specs.Prelude.{◌≡◌, ◌<◌, ◌≤◌, ◌+◌, ◌*◌, ◌/◌, ◌%◌, ◌⊎◌, ℕ, cond, length, slice_index};
+ghost use Rattle.std.specs.Prelude.{◌≡◌, ◌<◌, ◌/◌, ◌%◌, ℕ, cond, length, slice_index};
 ghost use Rattle.px_num.specs.Bits.{majority, nat_bit, xor};
 ghost use Rattle.px_rows.specs.Rows.{EachBit, row_bit};
 ghost use Rattle.px_rows.specs.Sums.{value_in, value_on};
@@ -80,38 +80,4 @@ fn add_blocks(
         lanes = step_block(first, lanes, word, LANES * block);
     }
     *value = lanes.to_array();
-}
-
-/// Adds such a value to the words of a row from `at` on, as many as the carries have (`add_steps_row`).
-#[tactic(auto, using(crate::proofs::PartLemmas::bit_in_part))]
-pub fn add_steps_part(
-    row: &mut [u64],
-    at: usize,
-    first: &mut [u64],
-    second: &mut [u64],
-    value: &mut [u64; 8],
-    step: bool,
-    mask: &[u64],
-)
-    requires blocks { length first.old % 8 ≡ 0 }
-    requires second { length second.old ≡ length first.old }
-    requires room { at + length first.old ≤ length row.old }
-    requires mask { length mask.now ≡ length row.old }
-    ensures inside { (p : ℕ) → p < 64 * length first.old → row_bit row.new (64 * at + p)
-        ≡ cond (row_bit mask.now (64 * at + p)) (xor (value_on value.old step first.old p)
-        (xor (row_bit row.old (64 * at + p)) (row_bit second.old p))) (row_bit row.old (64 * at + p)) }
-    ensures outside { (p : ℕ) → (p / 64 < at) ⊎ (at + length first.old ≤ p / 64)
-        → row_bit row.new p ≡ row_bit row.old p }
-    ensures value { (i : ℕ) → i < 512 → nat_bit (slice_index value.new (i / 64)) (i % 64)
-        ≡ value_in value.old step first.old (length first.old / 8) i }
-    ensures first { EachBit first.new (λ p. majority (value_on value.old step first.old p) step
-        (row_bit first.old p)) }
-    ensures second { EachBit second.new (λ p. majority (value_on value.old step first.old p)
-        (row_bit row.old (64 * at + p)) (row_bit second.old p)) }
-    ensures words { length row.new ≡ length row.old }
-    ensures first_words { length first.new ≡ length first.old }
-    ensures second_words { length second.new ≡ length second.old }
-{
-    let to = at + first.len();
-    add_steps_row(&mut row[at..to], first, second, value, step, &mask[at..to]);
 }

@@ -4,6 +4,7 @@ ghost use Rattle.std.specs.Prelude.{◌≡◌, ◌<◌, ◌≤◌, ◌+◌, ◌*
 use px_num::power;
 
 /// The index of leaf `(x, y)` in the last level, and of pixel `(x, y)` in a grid of `2^nx` by `2^ny`.
+#[tactic(auto, using(crate::proofs::PlaceLaws::index_below))]
 pub fn leaf_index(nx: u32, ny: u32, x: u32, y: u32) -> usize
     requires small { (nx ≤ 9) × (ny ≤ 9) }
     requires column { x < 2 ^ nx }

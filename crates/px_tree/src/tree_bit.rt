@@ -46,6 +46,7 @@ pub fn value_bit<T: Tree>(
 }
 
 /// Clears a tree of `2^nx` by `2^ny` leaves and feeds it the lines of a form so many times.
+#[tactic(auto, using(crate::proofs::NodeLemmas::fed_nx, crate::proofs::NodeLemmas::fed_ny, crate::proofs::NodeLemmas::nodes_hold_sums))]
 pub fn feed_form<T: Tree>(tree: &mut T, nx: u32, ny: u32, form: &Linear, feeds: u32)
     requires grid { IsGrid nx ny }
     requires columns { (T.state tree.old).nx ≡ nx }
@@ -63,6 +64,7 @@ pub fn feed_form<T: Tree>(tree: &mut T, nx: u32, ny: u32, form: &Linear, feeds: 
 }
 
 /// The laws of a tree that is cleared and fed one form, in whatever way its latches are kept.
+#[tactic(auto, using(crate::proofs::LeafLemmas::leaf_gives_sign, crate::proofs::LeafLemmas::leaf_gives_tree_bit, crate::proofs::LeafLemmas::leaf_gives_value, crate::proofs::NodeLemmas::is_fed_by_table, crate::proofs::NodeLemmas::nodes_hold_sums, crate::proofs::SumLemmas::leaf_sum_is_value))]
 pub fn laws_of_feeds()
     ensures table { IsFedByTable }
     ensures nodes { NodesHoldSums }

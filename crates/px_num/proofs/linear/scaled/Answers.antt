@@ -3,9 +3,6 @@ use Rattle.px_num.specs.Forms.{IsWithin}
 use Rattle.px_num.proofs.FormLaws.{times_within}
 use Rattle.px_num.proofs.linear.scaled.Goals as goal
 
-pub overflow_mul-result : goal.overflow_mul-result
-overflow_mul-result c = grind (arith, common_steps)
-
 pub returns-clause-value : goal.returns-clause-value
 returns-clause-value c = grind (arith, common_steps)
 

@@ -1,11 +1,7 @@
 use Rattle.px_num.proofs.Basics.{◌+◌, ◌/◌, ◌^◌, ap}
 use Rattle.px_plane_tree.proofs.LevelLemmas.{power_some}
-use Rattle.px_planes.proofs.GridLemmas.{whole_words, zero_law, zero_pixels}
+use Rattle.px_planes.proofs.GridLemmas.{whole_words, zero_pixels}
 use Rattle.px_planes.proofs.plane_grid.zero_planes.Goals as goal
-
-pub returns-clause-zero : goal.returns-clause-zero
-returns-clause-zero g c =
-    zero_law g.row.N _ _ (2 ^ (c.args.nx + c.args.ny)) c.in_ok-planes.planes c.in_ok-planes.ensures
 
 pub returns-clause-pixels : goal.returns-clause-pixels
 returns-clause-pixels g c =

@@ -100,6 +100,3 @@ turned n v = omega (arith, ints)
 
 pub returns-clause-done : goal.returns-clause-done
 returns-clause-done c = grind (arith, stored_law, turned, modulo_bit)
-
-pub returns-clause-values : goal.returns-clause-values
-returns-clause-values c = grind arith

@@ -16,10 +16,10 @@ loop-t-preserved c =
     let f = c.args.field.now in
     let base = to_z w64 (of_z w64 c.base_of-base.result) in
     let next : t + 1 ≡ suc t = omega arith in
-    let o = λ (p : ℕ). offset c.args.form.now c.args.ny (p % 64) in
+    let o = λ (p : ℕ). offset c.args.values.form.now c.args.values.ny (p % 64) in
     let number = λ (p : ℕ). pos (number_in f (pixel_in planes p).memory) in
-    let first : (p : ℕ) → nat_bit (get_or c.args.offsets.now t 0) (p % 64) ≡ bit_of (o p) t =
-    λ p. let small : p % 64 < 64 = omega arith in (c.requires.offsets (p % 64) small).each t c.loop-t-test.true in
+    let first : (p : ℕ) → nat_bit (get_or c.args.values.offsets.now t 0) (p % 64) ≡ bit_of (o p) t =
+    λ p. let small : p % 64 < 64 = omega arith in (c.requires.values.offsets (p % 64) small).each t c.loop-t-test.true in
     let second : (p : ℕ) → nat_bit c.bit_of_all.result (p % 64) ≡ bit_of base t =
     λ p. let small : p % 64 < 64 = omega arith in c.bit_of_all.ensures (p % 64) small in
     let third : (p : ℕ) → p < 64 * n → p / 64 ≡ c.args.w → nat_bit c.memory_word-held.result (p % 64)
@@ -40,13 +40,13 @@ turned o b n v is = omega (arith, ints, is)
 pub returns : goal.returns
 returns c =
     let planes = c.args.planes.now in
-    let form = c.args.form.now in
+    let form = c.args.values.form.now in
     let f = c.args.field.now in
-    let ny = c.args.ny in
+    let ny = c.args.values.ny in
     let fit : SFits w64 c.base_of-base.result = search rules in
     let base = to_z w64 (of_z w64 c.base_of-base.result) in
     let base_is : base ≡ c.base_of-base.result = to_z-of_z w64 c.base_of-base.result fit in
-    let end : c.loop-t.t ≡ f.len = omega (arith, c.requires.long) in
+    let end : c.loop-t.t ≡ f.len = omega (arith, c.requires.values.long) in
     done_by_work (AddLinear form f) ny c.args.w (length planes.enable) _ planes c.loop-t.planes
     c.loop-t.invariant.worked
     (λ p within here.

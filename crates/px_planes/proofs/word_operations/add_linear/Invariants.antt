@@ -8,8 +8,8 @@ invariant-loop-t l =
     in let number = λ (p : ℕ). pos (number_in l.field (pixel_in l.fn.planes p).memory)
     in record {
       worked : IsWorked l.w n
-          (λ p x. stored_bits l.field.at (λ s. bit_of ((offset l.form l.ny (p % 64) +ℤ l.base) +ℤ number p) s) l.t x)
+          (λ p x. stored_bits l.field.at (λ s. bit_of ((offset l.values.form.now l.values.ny (p % 64) +ℤ l.base) +ℤ number p) s) l.t x)
           l.fn.planes l.planes;
       carries : (p : ℕ) → p < 64 * n → p / 64 ≡ l.w
-          → HasCarries l.carries (p % 64) (offset l.form l.ny (p % 64)) l.base (number p) l.t;
+          → HasCarries l.carries (p % 64) (offset l.values.form.now l.values.ny (p % 64)) l.base (number p) l.t;
     }

@@ -1,6 +1,5 @@
 use Rattle.px_num.proofs.Basics.{◌≡◌, ◌∙◌, suc, ◌+◌, ◌<◌, ◌%◌, not, ap, sym, refl, arith}
 use Rattle.px_planes.proofs.Words.{bit_of, flipped, flipped_bit, nat_bit, number_in, pixel_in}
-use Rattle.px_asm.proofs.ComparingLemmas.{carry_is_at_most}
 use Rattle.px_planes.proofs.word_operations.at_most.Goals as goal
 
 pub loop-t-preserved : goal.loop-t-preserved
@@ -15,6 +14,3 @@ loop-t-preserved c p u within here h =
     let bit : nat_bit c.memory_word-bit.result j ≡ nat_bit (number_in f memory) t = grind arith in
     let next : t + 1 ≡ suc t = omega arith in
     c.majority_word-most.ensures j small ∙ rw (next, turned, bit, c.loop-t.invariant p u within here h) refl
-
-pub returns : goal.returns
-returns c p u within here h = grind (arith, flipped, carry_is_at_most)

@@ -1,5 +1,4 @@
-use Rattle.px_num.proofs.Basics.{◌≡◌, ◌+◌, ◌*◌, ◌/◌, ◌^◌, ◌<◌, ◌≤◌, ℕ, arith, ints, to_z-of_z, pow-add, pow_below}
-use Rattle.px_num.proofs.Basics.{one-le-pow, pow-le-pow_right}
+use Rattle.px_num.proofs.Basics.{◌≡◌, ◌+◌, ◌*◌, ◌/◌, ◌^◌, ◌<◌, ◌≤◌, ℕ, arith, ints, to_z-of_z, pow-add, pow-le-pow_right}
 use Rattle.px_rows.proofs.OffsetLemmas.{height, value_in_word}
 use Rattle.px_rows.proofs.values.base_of.Goals as goal
 

@@ -1,6 +1,6 @@
 use Rattle.px_num.proofs.Basics.{pos, ◌+ℤ◌, ◌≤ℤ◌, ◌<ℤ◌, length, arith, ints, to_z-of_z}
 use Rattle.px_planes.proofs.OperationLemmas.{kept_whole, none_kept}
-use Rattle.px_planes.proofs.edges.cut_enabled_word.Goals as goal
+use Rattle.px_planes.proofs.edges.cut_word.Goals as goal
 
 pub returns-then-base-edge-ge0 : goal.returns-then-base-edge-ge0
 returns-then-base-edge-ge0 c =
