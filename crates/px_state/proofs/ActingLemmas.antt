@@ -1,7 +1,7 @@
 -- What an act leaves of a pixel whose bits are in words.
 use Rattle.px_state.proofs.Cited.{Act, acted, acted_at, acted_inside, acted_outside, after_act, ap, arith, bit_at, Bool}
 use Rattle.px_state.proofs.Cited.{cases_lt, false, get_or, get_or-tabulate, HasGrid, HoldsLeaves, HoldsPixels, inl, inr}
-use Rattle.px_state.proofs.Cited.{is_tabulate, IsActed, IsPixel, IsShape, leaf_bit, leaf_output, leaves_at, length}
+use Rattle.px_state.proofs.Cited.{is_tabulate, IsActed, IsPixel, leaf_bit, leaf_output, leaves_at, length}
 use Rattle.px_state.proofs.Cited.{length-replicate, List, lt_false, lt_true, memory_place, nat_bit, no_pixel, Nop}
 use Rattle.px_state.proofs.Cited.{other_bit, pixel_at, pixel_here, pixel_of, PixelState, pow-add, refl, row_words}
 use Rattle.px_state.proofs.Cited.{Shape, State, subst, sym, word_bit, ℕ, ◌*◌, ◌+◌, ◌<◌, ◌^◌, ◌∙◌, ◌≡◌, ◌≢◌}
@@ -23,12 +23,12 @@ same_pixel bits plane k i old new p same is = record {
   latch = ap (λ w. nat_bit w i) (same (bits + 2) (omega arith)) ∙ is.latch;
 }
 
-pub kept_pixels : (shape : Shape) (pixels : List PixelState) (old new : List ℕ) → IsShape shape
+pub kept_pixels : (shape : Shape) (pixels : List PixelState) (old new : List ℕ)
     → ((j : ℕ) → j < leaves_at shape → get_or new j 0 ≡ get_or old j 0) → HoldsPixels shape pixels old
     → HoldsPixels shape pixels new
-kept_pixels shape pixels old new is same held y c i row word bit =
+kept_pixels shape pixels old new same held y c i row word bit =
     let k = y * row_words shape.nx + c in
-    let within : k < shape.plane = omega (arith, is.plane, plane_end y (2 ^ shape.ny) (row_words shape.nx) row) in
+    let within : k < shape.plane = omega (arith, shape.plane_is, plane_end y (2 ^ shape.ny) (row_words shape.nx) row) in
     same_pixel shape.bits shape.plane k i old new _
     (λ b below. same _ (omega (arith, within, plane_end b (shape.bits + 3) shape.plane below))) (held y c i row word bit)
 
@@ -39,13 +39,13 @@ none_acted bits nx ny s grid =
     (λ k within. refl))
 
 -- once each word has done the act, the words hold the pixels that have done it
-module _ (shape : Shape) (s : State) (is : IsShape shape) (grid : HasGrid shape.bits shape.nx shape.ny s) (act : Act)
+module _ (shape : Shape) (s : State) (grid : HasGrid shape.bits shape.nx shape.ny s) (act : Act)
     (old new : List ℕ) (pixels : HoldsPixels shape s.pixels old) (leaves : HoldsLeaves shape s.tree old)
     (done : (k : ℕ) → k < shape.plane → IsActed shape act k old new) where
   pub acted_pixels : HoldsPixels shape (acted act s.tree s.pixels) new
   acted_pixels y c i row word bit =
       let k = y * row_words shape.nx + c in
-      let within : k < shape.plane = omega (arith, is.plane, plane_end y (2 ^ shape.ny) (row_words shape.nx) row) in
+      let within : k < shape.plane = omega (arith, shape.plane_is, plane_end y (2 ^ shape.ny) (row_words shape.nx) row) in
       subst (IsPixel shape.bits shape.plane new k i) here
       (done k within i (pixel_here shape s.pixels x y) bit long (pixels y c i row word bit))
     where
@@ -74,7 +74,7 @@ module _ (shape : Shape) (s : State) (is : IsShape shape) (grid : HasGrid shape.
 
       here : acted_at (nat_bit shape.full i) act leaf (pixel_here shape s.pixels x y)
           ≡ pixel_here shape (acted act s.tree s.pixels) x y
-      here = rw (is.full c i word bit, leaves y c i row word bit, ← grid.columns, ← grid.rows)
+      here = rw (shape.full_is c i word bit, leaves y c i row word bit, ← grid.columns, ← grid.rows)
           (elim (cases_lt x (2 ^ s.tree.nx)) [
             | inl column ↦
                 rw (lt_true x (2 ^ s.tree.nx) column)

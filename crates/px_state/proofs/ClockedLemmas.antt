@@ -2,15 +2,15 @@
 use Rattle.px_state.proofs.Cited.{[], after_clock, after_clocks, after_clocks-append, ap, arith, BeginsWithState, Bool}
 use Rattle.px_state.proofs.Cited.{cond, drop, fails_before_first, false, first_stray, get_or, get_or-drop, HoldsLeaves}
 use Rattle.px_state.proofs.Cited.{HoldsNodes, HoldsPixels, HoldsPixelsAndNodes, HoldsState, HoldsWords, inl, inr}
-use Rattle.px_state.proofs.Cited.{is_tabulate, IsShape, IsShapeOf, leaves_at, length, length-drop, List, lt_fails, map}
+use Rattle.px_state.proofs.Cited.{is_tabulate, IsShapeOf, leaves_at, length, length-drop, List, lt_fails, map}
 use Rattle.px_state.proofs.Cited.{map-append, nat_bit, nat_lt, nodes_at, None, not, not_false, position_or_len, refl}
 use Rattle.px_state.proofs.Cited.{room_of, Shape, Some, State, sym, take, take_more, TreeState, true, ℕ, ◌*◌, ◌+◌, ◌-◌}
 use Rattle.px_state.proofs.Cited.{◌<◌, ◌∙◌, ◌∷◌, ◌≡◌, ◌≤◌, ◌⊎◌}
 use Rattle.px_state.proofs.ActingLemmas.{kept_pixels}
 use Rattle.px_state.specs.Packing.{is_micro, micro_in}
 
-pub room_is : (shape : Shape) → IsShape shape → room_of shape.bits shape.nx shape.ny ≡ nodes_at shape + 2 * shape.nodes
-room_is shape is = rw (is.plane, is.nodes) refl
+pub room_is : (shape : Shape) → room_of shape.bits shape.nx shape.ny ≡ nodes_at shape + 2 * shape.nodes
+room_is shape = rw (shape.plane_is, shape.nodes_are) refl
 
 -- what the words of a state hold
 pub record HoldsParts (shape : Shape) (s : State) (words : List ℕ) : Type 0 where
@@ -18,7 +18,7 @@ pub record HoldsParts (shape : Shape) (s : State) (words : List ℕ) : Type 0 wh
   pub leaves : HoldsLeaves shape s.tree words
   pub nodes : HoldsNodes shape s.tree words
 
-module _ (shape : Shape) (s : State) (is : IsShape shape) (grid : IsShapeOf shape s.tree) (words : List ℕ) where
+module _ (shape : Shape) (s : State) (grid : IsShapeOf shape s.tree) (words : List ℕ) where
   pub parts_of : HoldsWords shape.bits s words → HoldsParts shape s words
   parts_of held = grind arith
 
@@ -34,10 +34,10 @@ kept_nodes shape tree old new same held = record {
   carry = λ k within i bit. ap (λ w. nat_bit w i) (same _ (omega arith)) ∙ held.carry k within i bit;
 }
 
-module _ (shape : Shape) (s : State) (is : IsShape shape) where
+module _ (shape : Shape) (s : State) where
   pub but_leaves : (words : List ℕ) → HoldsState shape.bits shape.nx shape.ny s words → HoldsPixelsAndNodes shape s words
   but_leaves words held =
-      let parts = parts_of shape s is (record { columns = held.grid.columns; rows = held.grid.rows }) words held.holds in
+      let parts = parts_of shape s (record { columns = held.grid.columns; rows = held.grid.rows }) words held.holds in
       record { grid = held.grid; pixels = parts.pixels; nodes = parts.nodes }
 
   -- once the leaves are written, the words hold all of the state
@@ -46,8 +46,8 @@ module _ (shape : Shape) (s : State) (is : IsShape shape) where
       → HoldsLeaves shape s.tree new → HoldsState shape.bits shape.nx shape.ny s new
   with_leaves old new held others leaves = record {
     grid = held.grid;
-    holds = whole_of shape s is (record { columns = held.grid.columns; rows = held.grid.rows }) new (record {
-      pixels = kept_pixels shape s.pixels old new is (λ j low. others j (inl low)) held.pixels;
+    holds = whole_of shape s (record { columns = held.grid.columns; rows = held.grid.rows }) new (record {
+      pixels = kept_pixels shape s.pixels old new (λ j low. others j (inl low)) held.pixels;
       leaves = leaves;
       nodes = kept_nodes shape s.tree old new (λ j high. others j (inr high)) held.nodes;
     });

@@ -1,9 +1,10 @@
 -- The nodes of a tree whose latches are in words.
 use Rattle.px_state.proofs.Cited.{after_feed, ap, arith, at_place, bit_of_zero, Bool, cases_lt, cleared, cond, eqb}
-use Rattle.px_state.proofs.Cited.{false, get_or, get_or-tabulate, HoldsNodes, inl, inr, IsLatch, IsNodeWord, IsShape}
+use Rattle.px_state.proofs.Cited.{false, get_or, get_or-tabulate, HoldsNodes, inl, inr, IsLatch, IsNodeWord}
 use Rattle.px_state.proofs.Cited.{IsShapeOf, Lines, List, lt_false, lt_true, nat_bit, nat_le, nat_lt, next_node, Node}
 use Rattle.px_state.proofs.Cited.{node_bit, nodes_at, padded_leaf, placed, pow-add, power_grows, refl, Shape, sym}
 use Rattle.px_state.proofs.Cited.{TreeState, zero_node, ℕ, ◌%◌, ◌&&◌, ◌*◌, ◌+◌, ◌/◌, ◌<◌, ◌==◌, ◌^◌, ◌∙◌, ◌≡◌, ◌≤◌}
+use Rattle.std.specs.Prelude.{if◌then◌else◌}
 use Rattle.px_num.proofs.Basics.{get_or-replicate}
 use Rattle.px_tree.specs.Nodes.{next_at}
 use Rattle.px_state.proofs.ShapeLemmas.{plane_end}
@@ -12,6 +13,11 @@ use Rattle.px_state.proofs.ShapeLemmas.{plane_end}
 pub parents_root : (word j : ℕ) (c : Bool) → 2 ≤ j → j < 64
     → cond (nat_lt (j / 2) 2) (c && eqb (j / 2) 1) (nat_bit word (j / 2)) ≡ cond (nat_lt j 4) c (nat_bit word (j / 2))
 parents_root word j c some within = grind arith
+
+where_nodes_are : (n p : ℕ) (there word latch zero : Bool) → there ≡ (nat_le 2 p && nat_lt p n)
+    → (2 ≤ p → p < n → word ≡ latch) → zero ≡ false
+    → cond there word zero ≡ (if nat_lt p 2 then false else if nat_lt p n then latch else false)
+where_nodes_are n p there word latch zero is each none = grind arith
 
 module _ (shape : Shape) (tree : TreeState) (size : IsShapeOf shape tree) where
   abbrev total : ℕ
@@ -27,7 +33,9 @@ module _ (shape : Shape) (tree : TreeState) (size : IsShapeOf shape tree) where
       → ((j : ℕ) → j < 64 → 2 ≤ 64 * w + j → 64 * w + j < total
       → nat_bit word j ≡ latch (at_place tree.nodes (64 * w + j)))
       → (j : ℕ) → j < 64 → cond (nat_bit there j) (nat_bit word j) (nat_bit 0 j) ≡ node_bit latch tree (64 * w + j)
-  masked latch there word w is each j within = grind arith
+  masked latch there word w is each j within =
+      rw (size.columns, size.rows)
+      (where_nodes_are total (64 * w + j) _ _ _ _ (is j within) (each j within) (bit_of_zero j))
 
   -- a feed, by the word of the parents' outputs and that of the carries
   module _ (lines : Lines) (w parents carry above line : ℕ) (outputs : IsNodeWord (λ n. n.output) tree (w / 2) parents)
@@ -73,10 +81,10 @@ module _ (shape : Shape) (tree : TreeState) (size : IsShapeOf shape tree) where
   }
 
   -- a leaf is the node behind those of the levels above
-  pub leaf_law : (nodes : List ℕ) → IsShape shape
+  pub leaf_law : (nodes : List ℕ)
       → ((k : ℕ) → k < shape.nodes → IsNodeWord (λ n. n.output) tree k (get_or nodes k 0)) → (x y : ℕ) → y < 2 ^ shape.ny
       → placed shape nodes (2 ^ shape.nx) x y ≡ padded_leaf tree x y
-  leaf_law nodes is held x y row = rw size.columns (elim (cases_lt x (2 ^ shape.nx)) [
+  leaf_law nodes held x y row = rw size.columns (elim (cases_lt x (2 ^ shape.nx)) [
     | inr past ↦ rw (lt_false x (2 ^ shape.nx) past) refl
     | inl column ↦
         let p = (2 ^ shape.nx + x) * 2 ^ shape.ny + y in
@@ -85,11 +93,11 @@ module _ (shape : Shape) (tree : TreeState) (size : IsShapeOf shape tree) where
         let place : p ≡ 2 ^ (shape.nx + shape.ny) + (x * 2 ^ shape.ny + y) = omega (arith, leaves) in
         let within : x * 2 ^ shape.ny + y < 2 ^ (shape.nx + shape.ny) =
         omega (arith, leaves, plane_end x (2 ^ shape.nx) (2 ^ shape.ny) column) in
-        let some : 2 ≤ 2 ^ (shape.nx + shape.ny) = power_grows 1 (shape.nx + shape.ny) (omega (arith, is.grid)) in
+        let some : 2 ≤ 2 ^ (shape.nx + shape.ny) = power_grows 1 (shape.nx + shape.ny) (omega (arith, shape.grid)) in
         let inside : p < total = omega (arith, place, within, twice) in
         let whole : 64 * (p / 64) + p % 64 ≡ p = omega arith in
         rw (lt_true x (2 ^ shape.nx) column, size.rows)
-        (held (p / 64) (omega (arith, inside, is.nodes)) (p % 64) (omega arith)
+        (held (p / 64) (omega (arith, inside, shape.nodes_are)) (p % 64) (omega arith)
         ∙ (ap (node_bit (λ n. n.output) tree) whole ∙ (node_inside (λ n. n.output) p (omega (arith, place, some)) inside
         ∙ ap (λ p. (at_place tree.nodes p).output) place)))
   ])

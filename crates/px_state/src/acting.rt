@@ -4,7 +4,7 @@ ghost use Rattle.std.specs.Bool.{beq};
 ghost use Rattle.px_num.specs.Bits.{nat_bit};
 ghost use Rattle.px_array.specs.Pixels.{PixelState};
 ghost use Rattle.px_planes.specs.Pixels.{acted_at};
-ghost use Rattle.px_state.specs.Cells.{IsActed, IsCell, IsShape, leaves_at, nodes_at};
+ghost use Rattle.px_state.specs.Cells.{IsActed, IsCell, leaves_at, nodes_at};
 ghost use Rattle.px_state.specs.Packing.{memory_place};
 
 use crate::packing::place_of;
@@ -24,7 +24,6 @@ pub(crate) struct Cells {
 
 /// Makes every pixel do an act, by its leaf.
 pub(crate) fn act_all(words: &mut [u64], shape: &Shape, act: &Act)
-    requires shape { IsShape shape.now }
     requires place { memory_place act.now < shape.now.bits }
     requires room { nodes_at shape.now ≤ length words.old }
     ensures acted { (k : ℕ) → k < shape.now.plane → IsActed shape.now act.now k words.old words.new }
@@ -38,7 +37,6 @@ pub(crate) fn act_all(words: &mut [u64], shape: &Shape, act: &Act)
 
 /// Makes the pixels of word `k` of each plane do an act, by their leaves.
 fn act_word(words: &mut [u64], shape: &Shape, k: usize, act: &Act)
-    requires shape { IsShape shape.now }
     requires place { memory_place act.now < shape.now.bits }
     requires room { nodes_at shape.now ≤ length words.old }
     requires within { k < shape.now.plane }
@@ -61,7 +59,6 @@ fn act_word(words: &mut [u64], shape: &Shape, k: usize, act: &Act)
 
 /// Writes word `k` of the planes that an act may change.
 fn put_cells(words: &mut [u64], shape: &Shape, at: usize, k: usize, cells: Cells)
-    requires shape { IsShape shape.now }
     requires place { at < shape.now.bits }
     requires room { nodes_at shape.now ≤ length words.old }
     requires within { k < shape.now.plane }

@@ -3,7 +3,7 @@ ghost use Rattle.std.specs.Prelude.{◌≡◌, ◌≤◌, ◌<◌, None, Some, I
 ghost use Rattle.px_array.specs.Clocks.{acted, after_clock};
 ghost use Rattle.px_array.specs.Arrays.{HasGrid, State};
 ghost use Rattle.px_tree.specs.Nodes.{IsGrid};
-ghost use Rattle.px_state.specs.Cells.{HoldsNodes, HoldsPixels, HoldsPixelsAndNodes, IsShape, nodes_at};
+ghost use Rattle.px_state.specs.Cells.{HoldsNodes, HoldsPixels, HoldsPixelsAndNodes, nodes_at};
 ghost use Rattle.px_state.specs.Clocking.{AreClocked, first_stray};
 ghost use Rattle.px_state.specs.Packing.{memory_place};
 ghost use Rattle.px_state.specs.Words.{room_of};
@@ -48,7 +48,6 @@ pub fn make_clocks(
 /// Makes a clock of each micro, of which each word is one. The plane of leaves is written once after them.
 #[tactic(auto, using(crate::proofs::ClockedLemmas::one_more))]
 fn clock_all(words: &mut [u64], shape: &Shape, micros: &[u64])
-    requires shape { IsShape shape.now }
     requires some { 1 ≤ shape.now.bits }
     requires room { room_of shape.now.bits shape.now.nx shape.now.ny ≤ length words.old }
     requires all { first_stray shape.now.bits micros.now ≡ None }
@@ -70,7 +69,6 @@ fn first_stray(micros: &[u64], bits: usize) -> Option<usize>
 
 /// One clock, of which the plane of leaves is not written.
 fn clock(words: &mut [u64], shape: &Shape, m: &Micro)
-    requires shape { IsShape shape.now }
     requires place { memory_place m.now.act < shape.now.bits }
     requires room { room_of shape.now.bits shape.now.nx shape.now.ny ≤ length words.old }
     ensures clocked { (s : State) → HoldsPixelsAndNodes shape.now s words.old
@@ -85,7 +83,6 @@ fn clock(words: &mut [u64], shape: &Shape, m: &Micro)
 
 /// Makes every pixel do an act, by the nodes. Most acts of an operation are `nop`, for which no leaf is written.
 fn act_by_nodes(words: &mut [u64], shape: &Shape, act: &Act)
-    requires shape { IsShape shape.now }
     requires place { memory_place act.now < shape.now.bits }
     requires room { room_of shape.now.bits shape.now.nx shape.now.ny ≤ length words.old }
     ensures pixels { (s : State) → HasGrid shape.now.bits shape.now.nx shape.now.ny s
@@ -102,7 +99,6 @@ fn act_by_nodes(words: &mut [u64], shape: &Shape, act: &Act)
 
 /// Writes the plane of leaves, and makes every pixel do an act by them.
 fn act_by_leaves(words: &mut [u64], shape: &Shape, act: &Act)
-    requires shape { IsShape shape.now }
     requires place { memory_place act.now < shape.now.bits }
     requires room { room_of shape.now.bits shape.now.nx shape.now.ny ≤ length words.old }
     ensures pixels { (s : State) → HasGrid shape.now.bits shape.now.nx shape.now.ny s

@@ -4,7 +4,7 @@ ghost use Rattle.px_num.specs.Bits.{nat_bit};
 ghost use Rattle.px_array.specs.Clocks.{after_tree_op};
 ghost use Rattle.px_plane_tree.specs.Lent.{IsLatch};
 ghost use Rattle.px_tree.specs.Nodes.{TreeState, after_feed, cleared};
-ghost use Rattle.px_state.specs.Cells.{HoldsLeaves, HoldsNodes, IsShape, IsShapeOf, leaves_at, nodes_at};
+ghost use Rattle.px_state.specs.Cells.{HoldsLeaves, HoldsNodes, IsShapeOf, leaves_at, nodes_at};
 
 use crate::feeding::fed_word;
 use crate::plane::write_plane;
@@ -17,7 +17,6 @@ use px_tree::Lines;
 
 /// Makes the tree do its operation.
 pub(crate) fn move_nodes(words: &mut [u64], shape: &Shape, op: TreeOp)
-    requires shape { IsShape shape.now }
     requires room { nodes_at shape.now + 2 * shape.now.nodes ≤ length words.old }
     ensures nodes { (tree : TreeState) → IsShapeOf shape.now tree → HoldsNodes shape.now tree words.old
         → HoldsNodes shape.now (after_tree_op op tree) words.new }
@@ -35,7 +34,6 @@ pub(crate) fn move_nodes(words: &mut [u64], shape: &Shape, op: TreeOp)
 /// Writes the plane of leaves, by the nodes.
 #[tactic(auto, using(px_num::proofs::TruthLaws::power_grows))]
 pub(crate) fn write_leaves(words: &mut [u64], shape: &Shape)
-    requires shape { IsShape shape.now }
     requires room { nodes_at shape.now + 2 * shape.now.nodes ≤ length words.old }
     ensures leaves { (tree : TreeState) → IsShapeOf shape.now tree → HoldsNodes shape.now tree words.old
         → HoldsLeaves shape.now tree words.new }
@@ -50,7 +48,6 @@ pub(crate) fn write_leaves(words: &mut [u64], shape: &Shape)
 
 /// Makes every latch 0.
 fn clear_nodes(words: &mut [u64], shape: &Shape)
-    requires shape { IsShape shape.now }
     requires room { nodes_at shape.now + 2 * shape.now.nodes ≤ length words.old }
     ensures nodes { (tree : TreeState) → IsShapeOf shape.now tree
         → HoldsNodes shape.now (cleared tree.nx tree.ny) words.new }
@@ -66,7 +63,6 @@ fn clear_nodes(words: &mut [u64], shape: &Shape)
 
 /// Writes the latches of a tree, whose rows are these.
 pub(crate) fn write_nodes(words: &mut [u64], shape: &Shape, outputs: &[u64], carries: &[u64])
-    requires shape { IsShape shape.now }
     requires room { nodes_at shape.now + 2 * shape.now.nodes ≤ length words.old }
     requires outputs { 2 ^ (shape.now.nx + shape.now.ny + 1) ≤ 64 * length outputs.now }
     requires carries { 2 ^ (shape.now.nx + shape.now.ny + 1) ≤ 64 * length carries.now }
@@ -86,7 +82,6 @@ pub(crate) fn write_nodes(words: &mut [u64], shape: &Shape, outputs: &[u64], car
 
 /// Feeds every node.
 fn feed_nodes(words: &mut [u64], shape: &Shape, lines: Lines)
-    requires shape { IsShape shape.now }
     requires room { nodes_at shape.now + 2 * shape.now.nodes ≤ length words.old }
     ensures nodes { (tree : TreeState) → IsShapeOf shape.now tree → HoldsNodes shape.now tree words.old
         → HoldsNodes shape.now (after_feed lines.a lines.b lines.c tree) words.new }
@@ -105,7 +100,6 @@ fn feed_nodes(words: &mut [u64], shape: &Shape, lines: Lines)
 
 /// Writes the outputs and the carries of the nodes of a word.
 fn put_nodes(words: &mut [u64], shape: &Shape, w: usize, output: u64, carry: u64)
-    requires shape { IsShape shape.now }
     requires room { nodes_at shape.now + 2 * shape.now.nodes ≤ length words.old }
     requires within { w < shape.now.nodes }
     ensures output { get_or words.new (nodes_at shape.now + w) 0 ≡ output }
@@ -121,7 +115,6 @@ fn put_nodes(words: &mut [u64], shape: &Shape, w: usize, output: u64, carry: u64
 
 /// A word with 1 where word `w` has a node.
 pub(crate) fn places(shape: &Shape, w: usize) -> u64
-    requires shape { IsShape shape.now }
     requires within { w < shape.now.nodes }
     ensures { (j : ℕ) → j < 64 → nat_bit result j ≡ (nat_le 2 (64 * w + j)
         && nat_lt (64 * w + j) (2 ^ (shape.now.nx + shape.now.ny + 1))) }

@@ -3,7 +3,7 @@ ghost use Rattle.std.specs.Prelude.{◌≡◌, ℕ, ◌+◌, ◌*◌, ◌^◌, �
 ghost use Rattle.px_num.specs.Bits.{bit_at};
 ghost use Rattle.px_array.specs.Arrays.{IsOpen};
 ghost use Rattle.px_tree.specs.Nodes.{IsGrid};
-ghost use Rattle.px_state.specs.Cells.{HasPlane, IsShape, IsShapeOf, pixel_here};
+ghost use Rattle.px_state.specs.Cells.{HasPlane, IsShapeOf, pixel_here};
 ghost use Rattle.px_state.specs.Words.{BeginsWithState, node_words, plane_words, room_of, row_words};
 
 use crate::nodes::{write_leaves, write_nodes};
@@ -85,7 +85,6 @@ fn write_grid<const N: usize>(words: &mut [u64], grid: &PlaneGrid<N>)
 
 /// Writes the planes of memory.
 fn write_memory<const N: usize>(words: &mut [u64], shape: &Shape, grid: &PlaneGrid<N>)
-    requires shape { IsShape shape.now }
     requires bits { shape.now.bits ≡ N }
     requires size { IsShapeOf shape.now grid.now.state.tree }
     requires room { shape.now.bits * shape.now.plane ≤ length words.old }

@@ -13,7 +13,7 @@ returns-clause-clocked c = λ s held.
     let size : IsShapeOf shape s.tree = record { columns = held.grid.columns; rows = held.grid.rows } in
     record {
       grid = grid_after_clock shape.bits shape.nx shape.ny m s held.grid;
-      pixels = kept_pixels shape _ done c.move_nodes.new.words c.requires.shape
+      pixels = kept_pixels shape _ done c.move_nodes.new.words
           (λ j low. moved.others j (inl (omega (arith, low)))) (act.pixels s held.grid held.pixels held.nodes);
       nodes = moved.nodes s.tree size (kept_nodes shape s.tree c.args.words.now done act.behind held.nodes);
     }

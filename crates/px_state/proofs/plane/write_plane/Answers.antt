@@ -37,7 +37,7 @@ loop-b-preserved c =
           let end = plane_end v (2 ^ shape.ny) each in_plane in
           elim out [
             | inl low ↦ omega (arith, low, same)
-            | inr high ↦ omega (arith, high, same, end, column, c.requires.shape.plane)
+            | inr high ↦ omega (arith, high, same, end, column, shape.plane_is)
           ]) ∙ before.others k out;
       same = put.length ∙ before.same;
     }

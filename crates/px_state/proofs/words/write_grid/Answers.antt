@@ -30,7 +30,6 @@ pub returns-clause-words : goal.returns-clause-words
 returns-clause-words g c =
     let s = c.args.grid.now.state in
     let shape = c.of-shape.result in
-    let is = c.of-shape.ensures.shape in
     let size : IsShapeOf shape s.tree = record {
       columns = sym (rw c.size-nx.ensures.size at c.of-shape.ensures.columns);
       rows = sym (rw c.size-nx.ensures.size at c.of-shape.ensures.rows);
@@ -53,12 +52,12 @@ returns-clause-words g c =
           ∙ written.carry k within i bit;
     } in
     let room : room_of g.row.N s.tree.nx s.tree.ny ≡ nodes_at shape + 2 * shape.nodes =
-    rw (size.columns, size.rows, ← c.of-shape.ensures.bits) (room_is shape is) in
+    rw (size.columns, size.rows, ← c.of-shape.ensures.bits) (room_is shape) in
     record {
-      holds = subst (λ b. HoldsWords b s new) c.of-shape.ensures.bits (whole_of shape s is size new (record {
+      holds = subst (λ b. HoldsWords b s new) c.of-shape.ensures.bits (whole_of shape s size new (record {
         pixels = λ y k i row word bit.
             let q = y * each + k in
-            let within : q < shape.plane = omega (arith, is.plane, word, plane_end y (2 ^ shape.ny) each row) in
+            let within : q < shape.plane = omega (arith, shape.plane_is, word, plane_end y (2 ^ shape.ny) each row) in
             record {
               memory = λ b below.
                   let end = plane_end b shape.bits shape.plane below in

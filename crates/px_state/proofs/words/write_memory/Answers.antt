@@ -31,7 +31,7 @@ loop-at-preserved g c =
         | inr other ↦
             let early : b < at = omega (arith, low, other) in
             let within : y * each + k < plane =
-            omega (arith, c.requires.shape.plane, word, plane_end y (2 ^ shape.ny) each row) in
+            omega (arith, shape.plane_is, word, plane_end y (2 ^ shape.ny) each row) in
             ap (λ w. nat_bit w i)
             (put.others (b * plane + (y * each + k)) (inl (omega (arith, within, plane_end b at plane early))))
             ∙ before.done b early y k i row word bit
