@@ -1,10 +1,11 @@
 -- What an act leaves of a pixel whose bits are in words.
-use Rattle.px_state.proofs.Cited.{Act, acted, acted_at, acted_inside, acted_outside, after_act, ap, arith, bit_at, Bool}
-use Rattle.px_state.proofs.Cited.{cases_lt, false, get_or, get_or-tabulate, HasGrid, HoldsLeaves, HoldsPixels, inl, inr}
-use Rattle.px_state.proofs.Cited.{is_tabulate, IsActed, IsPixel, leaf_bit, leaf_output, leaves_at, length}
-use Rattle.px_state.proofs.Cited.{length-replicate, List, lt_false, lt_true, memory_place, nat_bit, no_pixel, Nop}
-use Rattle.px_state.proofs.Cited.{other_bit, pixel_at, pixel_here, pixel_of, PixelState, pow-add, refl, row_words}
-use Rattle.px_state.proofs.Cited.{Shape, State, subst, sym, word_bit, ℕ, ◌*◌, ◌+◌, ◌<◌, ◌^◌, ◌∙◌, ◌≡◌, ◌≢◌}
+use Rattle.px_state.proofs.Cited.{Act, acted, acted_at, acted_inside, acted_outside, after_act, ap, arith, bit_at}
+use Rattle.px_state.proofs.Cited.{Bool, cases_lt, false, get_or, get_or-tabulate, HasGrid, HoldsLeaves, HoldsPixels}
+use Rattle.px_state.proofs.Cited.{inl, inr, is_tabulate, IsActed, IsPixel, KeepsOutside, leaf_bit, leaf_output}
+use Rattle.px_state.proofs.Cited.{leaves_at, length, length-replicate, List, lt_false, lt_true, memory_place, nat_bit}
+use Rattle.px_state.proofs.Cited.{no_pixel, Nop, other_bit, pixel_at, pixel_here, pixel_of, PixelState, pow-add, refl}
+use Rattle.px_state.proofs.Cited.{row_words, Shape, State, subst, sym, word_bit, ℕ, ◌*◌, ◌+◌, ◌<◌, ◌^◌, ◌∙◌, ◌≡◌, ◌≢◌}
+use Rattle.px_state.proofs.Cited.{◌≤◌}
 use Rattle.px_state.proofs.ShapeLemmas.{plane_end}
 
 -- an act leaves all other bits, and their number
@@ -23,14 +24,15 @@ same_pixel bits plane k i old new p same is = record {
   latch = ap (λ w. nat_bit w i) (same (bits + 2) (omega arith)) ∙ is.latch;
 }
 
-pub kept_pixels : (shape : Shape) (pixels : List PixelState) (old new : List ℕ)
-    → ((j : ℕ) → j < leaves_at shape → get_or new j 0 ≡ get_or old j 0) → HoldsPixels shape pixels old
-    → HoldsPixels shape pixels new
-kept_pixels shape pixels old new same held y c i row word bit =
+pub kept_pixels : (shape : Shape) (pixels : List PixelState) (from past : ℕ) (old new : List ℕ)
+    → KeepsOutside from past old new → leaves_at shape ≤ from
+    → HoldsPixels shape pixels old → HoldsPixels shape pixels new
+kept_pixels shape pixels from past old new kept front held y c i row word bit =
     let k = y * row_words shape.nx + c in
     let within : k < shape.plane = omega (arith, shape.plane_is, plane_end y (2 ^ shape.ny) (row_words shape.nx) row) in
     same_pixel shape.bits shape.plane k i old new _
-    (λ b below. same _ (omega (arith, within, plane_end b (shape.bits + 3) shape.plane below))) (held y c i row word bit)
+    (λ b below. kept.others _ (inl (omega (arith, front, within, plane_end b (shape.bits + 3) shape.plane below))))
+    (held y c i row word bit)
 
 -- `nop` leaves each pixel
 pub none_acted : (bits nx ny : ℕ) (s : State) → HasGrid bits nx ny s → acted Nop s.tree s.pixels ≡ s.pixels

@@ -55,7 +55,7 @@ pub use Rattle.px_sched.specs.Passes.{operations, steps}
 pub use Rattle.px_sched.specs.StepCursors.{literals_in, StandsAtStep}
 pub use Rattle.px_sched.specs.declared.step.Step.{Step}
 pub use Rattle.px_state.specs.Cells.{HasPlane, HoldsLeaves, HoldsNodes, HoldsPixels, HoldsPixelsAndNodes, IsActed}
-pub use Rattle.px_state.specs.Cells.{IsShapeOf, leaves_at, nodes_at, pixel_here, placed}
+pub use Rattle.px_state.specs.Cells.{IsShapeOf, KeepsOutside, leaves_at, nodes_at, nodes_end, pixel_here, placed}
 pub use Rattle.px_state.specs.Clocking.{first_stray, HoldsState}
 pub use Rattle.px_state.specs.Courses.{broadcasts, device_after, IsNextBroadcast, start_in_listing, total_of_listing}
 pub use Rattle.px_state.specs.Inputs.{given_by, IsGoodCourse, IsOperationIn, listing_in, StandsIn}

@@ -1,15 +1,15 @@
 -- A state by the parts that are in its words, and its clocks one after another.
-use Rattle.px_state.proofs.Cited.{[], after_clock, after_clocks, after_clocks-append, ap, arith, BeginsWithState, Bool}
-use Rattle.px_state.proofs.Cited.{cond, drop, fails_before_first, false, first_stray, get_or, get_or-drop, HoldsLeaves}
-use Rattle.px_state.proofs.Cited.{HoldsNodes, HoldsPixels, HoldsPixelsAndNodes, HoldsState, HoldsWords, inl, inr}
-use Rattle.px_state.proofs.Cited.{is_tabulate, IsShapeOf, leaves_at, length, length-drop, List, lt_fails, map}
-use Rattle.px_state.proofs.Cited.{map-append, nat_bit, nat_lt, nodes_at, None, not, not_false, position_or_len, refl}
-use Rattle.px_state.proofs.Cited.{room_of, Shape, Some, State, sym, take, take_more, TreeState, true, ℕ, ◌*◌, ◌+◌, ◌-◌}
-use Rattle.px_state.proofs.Cited.{◌<◌, ◌∙◌, ◌∷◌, ◌≡◌, ◌≤◌, ◌⊎◌}
+use Rattle.px_state.proofs.Cited.{[], after_clock, after_clocks, after_clocks-append, ap, arith, BeginsWithState}
+use Rattle.px_state.proofs.Cited.{Bool, cond, drop, fails_before_first, false, first_stray, get_or, get_or-drop}
+use Rattle.px_state.proofs.Cited.{HoldsLeaves, HoldsNodes, HoldsPixels, HoldsPixelsAndNodes, HoldsState, HoldsWords}
+use Rattle.px_state.proofs.Cited.{inr, is_tabulate, IsShapeOf, KeepsOutside, leaves_at, length, length-drop, List}
+use Rattle.px_state.proofs.Cited.{lt_fails, map, map-append, nat_bit, nat_lt, nodes_at, nodes_end, None, not}
+use Rattle.px_state.proofs.Cited.{not_false, position_or_len, refl, room_of, Shape, Some, State, sym, take, take_more}
+use Rattle.px_state.proofs.Cited.{TreeState, true, ℕ, ◌+◌, ◌-◌, ◌<◌, ◌∙◌, ◌∷◌, ◌≡◌}
 use Rattle.px_state.proofs.ActingLemmas.{kept_pixels}
 use Rattle.px_state.specs.Packing.{is_micro, micro_in}
 
-pub room_is : (shape : Shape) → room_of shape.bits shape.nx shape.ny ≡ nodes_at shape + 2 * shape.nodes
+pub room_is : (shape : Shape) → room_of shape.bits shape.nx shape.ny ≡ nodes_end shape
 room_is shape = rw (shape.plane_is, shape.nodes_are) refl
 
 -- what the words of a state hold
@@ -26,12 +26,11 @@ module _ (shape : Shape) (s : State) (grid : IsShapeOf shape s.tree) (words : Li
   whole_of parts = grind arith
 
 -- nodes stay where their words do
-pub kept_nodes : (shape : Shape) (tree : TreeState) (old new : List ℕ)
-    → ((j : ℕ) → nodes_at shape ≤ j → get_or new j 0 ≡ get_or old j 0) → HoldsNodes shape tree old
-    → HoldsNodes shape tree new
-kept_nodes shape tree old new same held = record {
-  output = λ k within i bit. ap (λ w. nat_bit w i) (same _ (omega arith)) ∙ held.output k within i bit;
-  carry = λ k within i bit. ap (λ w. nat_bit w i) (same _ (omega arith)) ∙ held.carry k within i bit;
+pub kept_nodes : (shape : Shape) (tree : TreeState) (from : ℕ) (old new : List ℕ)
+    → KeepsOutside from (nodes_at shape) old new → HoldsNodes shape tree old → HoldsNodes shape tree new
+kept_nodes shape tree from old new kept held = record {
+  output = λ k within i bit. ap (λ w. nat_bit w i) (kept.others _ (inr (omega arith))) ∙ held.output k within i bit;
+  carry = λ k within i bit. ap (λ w. nat_bit w i) (kept.others _ (inr (omega arith))) ∙ held.carry k within i bit;
 }
 
 module _ (shape : Shape) (s : State) where
@@ -42,30 +41,32 @@ module _ (shape : Shape) (s : State) where
 
   -- once the leaves are written, the words hold all of the state
   pub with_leaves : (old new : List ℕ) → HoldsPixelsAndNodes shape s old
-      → ((k : ℕ) → (k < leaves_at shape) ⊎ (nodes_at shape ≤ k) → get_or new k 0 ≡ get_or old k 0)
-      → HoldsLeaves shape s.tree new → HoldsState shape.bits shape.nx shape.ny s new
-  with_leaves old new held others leaves = record {
+      → KeepsOutside (leaves_at shape) (nodes_at shape) old new → HoldsLeaves shape s.tree new
+      → HoldsState shape.bits shape.nx shape.ny s new
+  with_leaves old new held kept leaves = record {
     grid = held.grid;
     holds = whole_of shape s (record { columns = held.grid.columns; rows = held.grid.rows }) new (record {
-      pixels = kept_pixels shape s.pixels old new (λ j low. others j (inl low)) held.pixels;
+      pixels = kept_pixels shape s.pixels (leaves_at shape) (nodes_at shape) old new kept (omega arith) held.pixels;
       leaves = leaves;
-      nodes = kept_nodes shape s.tree old new (λ j high. others j (inr high)) held.nodes;
+      nodes = kept_nodes shape s.tree (leaves_at shape) old new kept held.nodes;
     });
   }
 
 -- lists that are the same from a place on
-pub same_behind : (n : ℕ) (xs ys : List ℕ) → length xs ≡ length ys → ((j : ℕ) → n ≤ j → get_or xs j 0 ≡ get_or ys j 0)
-    → drop n xs ≡ drop n ys
-same_behind n xs ys long same =
-    let count : length (drop n xs) ≡ length ys - n = length-drop n xs ∙ ap (λ l. l - n) long in
+pub same_behind : (from n : ℕ) (ys xs : List ℕ) → KeepsOutside from n ys xs → drop n xs ≡ drop n ys
+same_behind from n ys xs kept =
+    let count : length (drop n xs) ≡ length ys - n = length-drop n xs ∙ ap (λ l. l - n) kept.length in
     is_tabulate (drop n xs) (length ys - n) (λ i. get_or ys (n + i) 0) 0 count
-    (λ i below. get_or-drop n xs i 0 ∙ same (n + i) (omega arith))
+    (λ i below. get_or-drop n xs i 0 ∙ kept.others (n + i) (inr (omega arith)))
     ∙ sym (is_tabulate (drop n ys) (length ys - n) (λ i. get_or ys (n + i) 0) 0 (length-drop n ys)
     (λ i below. get_or-drop n ys i 0))
 
-pub has_words : (bits nx ny : ℕ) (s : State) (old new : List ℕ) → HoldsState bits nx ny s new → length new ≡ length old
-    → ((j : ℕ) → room_of bits nx ny ≤ j → get_or new j 0 ≡ get_or old j 0) → BeginsWithState bits s old new
-has_words bits nx ny s old new held long behind = grind (arith, same_behind)
+pub has_words : (bits nx ny : ℕ) (s : State) (old new : List ℕ) → HoldsState bits nx ny s new
+    → KeepsOutside 0 (room_of bits nx ny) old new → BeginsWithState bits s old new
+has_words bits nx ny s old new held kept = record {
+  holds = held.holds;
+  behind = rw (held.grid.columns, held.grid.rows) (same_behind 0 (room_of bits nx ny) old new kept);
+}
 
 pub one_more : (micros : List ℕ) (i : ℕ) (s : State) → i < length micros
     → after_clocks (map micro_in (take (i + 1) micros)) s

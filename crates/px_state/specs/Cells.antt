@@ -1,6 +1,6 @@
 -- The parts of a state whose bits are in words. Only proofs and private functions stand on it.
-use Rattle.std.specs.Prelude.{◌≡◌, ℕ, ◌+◌, ◌*◌, ◌^◌, ◌<◌, ◌&&◌, Bool, List, get_or, length, nat_lt, slice_index_or}
-use Rattle.std.specs.Prelude.{if◌then◌else◌}
+use Rattle.std.specs.Prelude.{◌≡◌, ℕ, ◌+◌, ◌*◌, ◌^◌, ◌<◌, ◌≤◌, ◌⊎◌, ◌&&◌, Bool, List, get_or, length, nat_lt}
+use Rattle.std.specs.Prelude.{if◌then◌else◌, slice_index_or}
 use Rattle.px_num.specs.Bits.{bit_at, nat_bit}
 use Rattle.px_array.specs.Arrays.{HasGrid, State, no_pixel}
 use Rattle.px_array.specs.Pixels.{PixelState, zero_pixel}
@@ -23,6 +23,15 @@ leaves_at shape = (shape.bits + 3) * shape.plane
 
 abbrev pub nodes_at : Shape → ℕ
 nodes_at shape = (shape.bits + 4) * shape.plane
+
+-- how many words a state has: those of the nodes are the last
+abbrev pub nodes_end : Shape → ℕ
+nodes_end shape = nodes_at shape + 2 * shape.nodes
+
+-- only words from one place to before another may have changed, and there are as many as before
+pub record KeepsOutside (from past : ℕ) (old new : List ℕ) : Type 0 where
+  pub others : (k : ℕ) → (k < from) ⊎ (past ≤ k) → get_or new k 0 ≡ get_or old k 0
+  pub length : length new ≡ length old
 
 -- a memory bit and the registers of a pixel, at bit i of the cells
 pub record IsCell (at i : ℕ) (cells : Cells) (p : PixelState) : Type 0 where

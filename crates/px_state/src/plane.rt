@@ -1,7 +1,7 @@
 //! A plane of a state by the columns of an array, 64 by 64 bits at once.
-ghost use Rattle.std.specs.Prelude.{◌≡◌, ◌≢◌, ◌≤◌, ◌<◌, ◌+◌, ◌*◌, ◌/◌, ◌%◌, ◌^◌, ◌⊎◌, ℕ, get_or, length};
+ghost use Rattle.std.specs.Prelude.{◌≡◌, ◌≢◌, ◌≤◌, ◌<◌, ◌+◌, ◌*◌, ◌/◌, ◌%◌, ◌^◌, ℕ, get_or, length};
 ghost use Rattle.px_num.specs.Bits.{nat_bit};
-ghost use Rattle.px_state.specs.Cells.{HasPlane, placed};
+ghost use Rattle.px_state.specs.Cells.{HasPlane, KeepsOutside, placed};
 ghost use Rattle.px_state.specs.Words.{row_words};
 
 use crate::shape::Shape;
@@ -15,8 +15,7 @@ pub(crate) fn write_plane(words: &mut [u64], first: usize, shape: &Shape, row: &
     requires from { from ≤ 2 ^ 9 }
     requires row { (from + 2 ^ shape.now.nx) * 2 ^ shape.now.ny ≤ 64 * length row.now }
     ensures plane { HasPlane shape.now first (placed shape.now row.now from) words.new }
-    ensures others { (k : ℕ) → (k < first) ⊎ (first + shape.now.plane ≤ k) → get_or words.new k 0 ≡ get_or words.old k 0 }
-    ensures length { length words.new ≡ length words.old }
+    ensures kept { KeepsOutside first (first + shape.now.plane) words.old words.new }
 {
     let each = row_words(shape.nx);
     for b in 0..row_words(shape.ny) * each {

@@ -1,5 +1,5 @@
-use Rattle.px_state.proofs.Cited.{ap, arith, common_steps, get_or, get_or-append_right, get_or_append_left, IsNodeWord}
-use Rattle.px_state.proofs.Cited.{leaves_at, length, nat_bit, nodes_at, pow-add, row_words, sym, ℕ, ◌*◌}
+use Rattle.px_state.proofs.Cited.{ap, arith, common_steps, get_or, get_or-append_right, get_or_append_left}
+use Rattle.px_state.proofs.Cited.{IsNodeWord, leaves_at, length, nat_bit, nodes_at, pow-add, row_words, sym, ℕ, ◌*◌}
 use Rattle.px_state.proofs.Cited.{◌+◌, ◌-◌, ◌<◌, ◌^◌, ◌∙◌, ◌≡◌}
 use Rattle.px_state.proofs.NodeLemmas.{leaf_law}
 use Rattle.px_state.proofs.ShapeLemmas.{plane_end}
@@ -18,7 +18,7 @@ returns-clause-leaves c = λ tree size held y k i row low bit.
     let place = leaves_at shape + (y * each + k) in
     let long : length cut.result.0.now ≡ nodes_at shape = cut.ensures.front_len ∙ c.start.ensures.start in
     let inside : place < length new =
-    omega (arith, long, c.write_plane.ensures.length, shape.plane_is, low, plane_end y (2 ^ shape.ny) each row) in
+    omega (arith, long, c.write_plane.ensures.kept.length, shape.plane_is, low, plane_end y (2 ^ shape.ny) each row) in
     let outputs : (k : ℕ) → k < shape.nodes → IsNodeWord (λ n. n.output) tree k (get_or nodes k 0) =
     λ k within i bit.
     let back : nodes_at shape + k - nodes_at shape ≡ k = omega arith in
