@@ -1,9 +1,9 @@
 -- What an act leaves of a pixel whose bits are in words.
-use Rattle.px_state.proofs.Cited.{Act, acted, acted_at, acted_inside, acted_outside, after_act, ap, arith, bit_at}
-use Rattle.px_state.proofs.Cited.{Bool, cases_lt, false, get_or, get_or-tabulate, HasGrid, HoldsLeaves, HoldsPixels}
-use Rattle.px_state.proofs.Cited.{inl, inr, is_tabulate, IsActed, IsPixel, KeepsOutside, leaf_bit, leaf_output}
-use Rattle.px_state.proofs.Cited.{leaves_at, length, length-replicate, List, lt_false, lt_true, memory_place, nat_bit}
-use Rattle.px_state.proofs.Cited.{no_pixel, Nop, other_bit, pixel_at, pixel_here, pixel_of, PixelState, pow-add, refl}
+use Rattle.px_state.proofs.Cited.{Act, acted, acted_at, acted_inside, acted_outside, after_act, arith, bit_at, Bool}
+use Rattle.px_state.proofs.Cited.{cases_lt, false, get_or, get_or-tabulate, HasGrid, HoldsLeaves, HoldsPixels, inl}
+use Rattle.px_state.proofs.Cited.{inr, is_tabulate, IsActed, IsPixel, KeepsOutside, leaf_bit, leaf_output, leaves_at}
+use Rattle.px_state.proofs.Cited.{length, length-replicate, List, lt_false, lt_true, memory_place, nat_bit, no_pixel}
+use Rattle.px_state.proofs.Cited.{Nop, other_bit, pixel_at, pixel_here, pixel_of, PixelState, pow-add, refl}
 use Rattle.px_state.proofs.Cited.{row_words, Shape, State, subst, sym, word_bit, ℕ, ◌*◌, ◌+◌, ◌<◌, ◌^◌, ◌∙◌, ◌≡◌, ◌≢◌}
 use Rattle.px_state.proofs.Cited.{◌≤◌}
 use Rattle.px_state.proofs.ShapeLemmas.{plane_end}
@@ -17,12 +17,7 @@ other_bits inside a t p b h = grind (arith, other_bit)
 pub same_pixel : (bits plane k i : ℕ) (old new : List ℕ) (p : PixelState)
     → ((b : ℕ) → b < bits + 3 → get_or new (b * plane + k) 0 ≡ get_or old (b * plane + k) 0)
     → IsPixel bits plane old k i p → IsPixel bits plane new k i p
-same_pixel bits plane k i old new p same is = record {
-  memory = λ b below. ap (λ w. nat_bit w i) (same b (omega arith)) ∙ is.memory b below;
-  enable = ap (λ w. nat_bit w i) (same bits (omega arith)) ∙ is.enable;
-  carry = ap (λ w. nat_bit w i) (same (bits + 1) (omega arith)) ∙ is.carry;
-  latch = ap (λ w. nat_bit w i) (same (bits + 2) (omega arith)) ∙ is.latch;
-}
+same_pixel bits plane k i old new p same is = grind arith
 
 pub kept_pixels : (shape : Shape) (pixels : List PixelState) (from past : ℕ) (old new : List ℕ)
     → KeepsOutside from past old new → leaves_at shape ≤ from

@@ -1,11 +1,10 @@
 -- A state by the parts that are in its words, and its clocks one after another.
 use Rattle.px_state.proofs.Cited.{[], after_clock, after_clocks, after_clocks-append, ap, arith, BeginsWithState}
-use Rattle.px_state.proofs.Cited.{Bool, cond, drop, fails_before_first, false, first_stray, get_or, get_or-drop}
-use Rattle.px_state.proofs.Cited.{HoldsLeaves, HoldsNodes, HoldsPixels, HoldsPixelsAndNodes, HoldsState, HoldsWords}
-use Rattle.px_state.proofs.Cited.{inr, is_tabulate, IsShapeOf, KeepsOutside, leaves_at, length, length-drop, List}
-use Rattle.px_state.proofs.Cited.{lt_fails, map, map-append, nat_bit, nat_lt, nodes_at, nodes_end, None, not}
-use Rattle.px_state.proofs.Cited.{not_false, position_or_len, refl, room_of, Shape, Some, State, sym, take, take_more}
-use Rattle.px_state.proofs.Cited.{TreeState, true, ℕ, ◌+◌, ◌-◌, ◌<◌, ◌∙◌, ◌∷◌, ◌≡◌}
+use Rattle.px_state.proofs.Cited.{drop, fails_before_first, first_stray, get_or, get_or-drop, HoldsLeaves, HoldsNodes}
+use Rattle.px_state.proofs.Cited.{HoldsPixels, HoldsPixelsAndNodes, HoldsState, HoldsWords, inr, is_tabulate}
+use Rattle.px_state.proofs.Cited.{IsShapeOf, KeepsOutside, leaves_at, length, length-drop, List, lt_fails, map}
+use Rattle.px_state.proofs.Cited.{map-append, nodes_at, nodes_end, None, not_false, refl, room_of, Shape, State, sym}
+use Rattle.px_state.proofs.Cited.{take, take_more, TreeState, true, ℕ, ◌+◌, ◌-◌, ◌<◌, ◌∙◌, ◌∷◌, ◌≡◌}
 use Rattle.px_state.proofs.ActingLemmas.{kept_pixels}
 use Rattle.px_state.specs.Packing.{is_micro, micro_in}
 
@@ -28,16 +27,11 @@ module _ (shape : Shape) (s : State) (grid : IsShapeOf shape s.tree) (words : Li
 -- nodes stay where their words do
 pub kept_nodes : (shape : Shape) (tree : TreeState) (from : ℕ) (old new : List ℕ)
     → KeepsOutside from (nodes_at shape) old new → HoldsNodes shape tree old → HoldsNodes shape tree new
-kept_nodes shape tree from old new kept held = record {
-  output = λ k within i bit. ap (λ w. nat_bit w i) (kept.others _ (inr (omega arith))) ∙ held.output k within i bit;
-  carry = λ k within i bit. ap (λ w. nat_bit w i) (kept.others _ (inr (omega arith))) ∙ held.carry k within i bit;
-}
+kept_nodes shape tree from old new kept held = grind arith
 
 module _ (shape : Shape) (s : State) where
   pub but_leaves : (words : List ℕ) → HoldsState shape.bits shape.nx shape.ny s words → HoldsPixelsAndNodes shape s words
-  but_leaves words held =
-      let parts = parts_of shape s (record { columns = held.grid.columns; rows = held.grid.rows }) words held.holds in
-      record { grid = held.grid; pixels = parts.pixels; nodes = parts.nodes }
+  but_leaves words held = grind (arith, parts_of)
 
   -- once the leaves are written, the words hold all of the state
   pub with_leaves : (old new : List ℕ) → HoldsPixelsAndNodes shape s old
@@ -79,14 +73,4 @@ one_more micros i s within =
 -- where no word is a stray, each is that of a micro
 pub none_stray : (bits : ℕ) (micros : List ℕ) (i : ℕ) → first_stray bits micros ≡ None → i < length micros
     → is_micro bits (get_or micros i 0) ≡ true
-none_stray bits micros i none within =
-    by_test (nat_lt (position_or_len stray micros) (length micros)) refl none
-  where
-    stray : ℕ → Bool
-    stray word = not (is_micro bits word)
-
-    by_test : (b : Bool) → nat_lt (position_or_len stray micros) (length micros) ≡ b
-        → cond b (Some (position_or_len stray micros)) None ≡ None → is_micro bits (get_or micros i 0) ≡ true
-    by_test true low h = absurd (cc)
-    by_test false past h =
-        not_false _ (fails_before_first stray micros i 0 (omega (arith, lt_fails _ _ past)))
+none_stray bits micros i none within = grind (arith, fails_before_first, not_false, lt_fails)

@@ -21,11 +21,7 @@ few_words nx ny small few = omega (arith, few, mul-le-mul_right (row_words nx) (
 pub kept_both : {from past first end start last : ℕ} {old now new : List ℕ} → KeepsOutside first end old now
     → KeepsOutside start last now new → (from ≤ first) × (end ≤ past) × (from ≤ start) × (last ≤ past)
     → KeepsOutside from past old new
-kept_both one two within = record {
-  others = λ k out. two.others k (elim out [ inl l ↦ inl (omega arith) | inr h ↦ inr (omega arith) ])
-      ∙ one.others k (elim out [ inl l ↦ inl (omega arith) | inr h ↦ inr (omega arith) ]);
-  length = two.length ∙ one.length;
-}
+kept_both one two within = grind arith
 
 -- what is in one of n rows, each of so many words, is before the next row, and apart from what is elsewhere
 pub plane_end : (b n plane : ℕ) → b < n → b * plane + plane ≤ n * plane
