@@ -1,10 +1,11 @@
 -- A state by the parts that are in its words, and its clocks one after another.
 use Rattle.px_state.proofs.Cited.{[], after_clock, after_clocks, after_clocks-append, ap, arith, BeginsWithState}
 use Rattle.px_state.proofs.Cited.{drop, fails_before_first, first_stray, get_or, get_or-drop, HoldsLeaves, HoldsNodes}
-use Rattle.px_state.proofs.Cited.{HoldsPixels, HoldsPixelsAndNodes, HoldsState, HoldsWords, inr, is_tabulate}
-use Rattle.px_state.proofs.Cited.{IsShapeOf, KeepsOutside, leaves_at, length, length-drop, List, lt_fails, map}
-use Rattle.px_state.proofs.Cited.{map-append, nodes_at, nodes_end, None, not_false, refl, room_of, Shape, State, sym}
-use Rattle.px_state.proofs.Cited.{take, take_more, TreeState, true, ℕ, ◌+◌, ◌-◌, ◌<◌, ◌∙◌, ◌∷◌, ◌≡◌}
+use Rattle.px_state.proofs.Cited.{HoldsPixels, HoldsPixelsAndNodes, HoldsState, HoldsWords, IsShapeOf, KeepsOutside}
+use Rattle.px_state.proofs.Cited.{leaves_at, length, length-drop, List, lt_fails, map, map-append, nodes_at}
+use Rattle.px_state.proofs.Cited.{nodes_end, None, not_false, refl, room_of, Shape, State, take, take_more, TreeState}
+use Rattle.px_state.proofs.Cited.{true, ℕ, ◌+◌, ◌-◌, ◌<◌, ◌∙◌, ◌∷◌, ◌≡◌}
+use Rattle.std.proofs.lemmas.Grind.{same_number_lists}
 use Rattle.px_state.proofs.ActingLemmas.{kept_pixels}
 use Rattle.px_state.specs.Packing.{is_micro, micro_in}
 
@@ -48,12 +49,7 @@ module _ (shape : Shape) (s : State) where
 
 -- lists that are the same from a place on
 pub same_behind : (from n : ℕ) (ys xs : List ℕ) → KeepsOutside from n ys xs → drop n xs ≡ drop n ys
-same_behind from n ys xs kept =
-    let count : length (drop n xs) ≡ length ys - n = length-drop n xs ∙ ap (λ l. l - n) kept.length in
-    is_tabulate (drop n xs) (length ys - n) (λ i. get_or ys (n + i) 0) 0 count
-    (λ i below. get_or-drop n xs i 0 ∙ kept.others (n + i) (inr (omega arith)))
-    ∙ sym (is_tabulate (drop n ys) (length ys - n) (λ i. get_or ys (n + i) 0) 0 (length-drop n ys)
-    (λ i below. get_or-drop n ys i 0))
+same_behind from n ys xs kept = grind (arith, same_number_lists, length-drop, get_or-drop)
 
 pub has_words : (bits nx ny : ℕ) (s : State) (old new : List ℕ) → HoldsState bits nx ny s new
     → KeepsOutside 0 (room_of bits nx ny) old new → BeginsWithState bits s old new

@@ -19,6 +19,17 @@ where_nodes_are : (n p : ℕ) (there word latch zero : Bool) → there ≡ (nat_
     → cond there word zero ≡ (if nat_lt p 2 then false else if nat_lt p n then latch else false)
 where_nodes_are n p there word latch zero is each none = grind arith
 
+-- a word with the bits f of the nodes that there are has the latches of a tree whose nodes have these bits
+pub masked : (shape : Shape) (tree : TreeState) → IsShapeOf shape tree → (latch : Node → Bool) (there word w : ℕ)
+    → ((j : ℕ) → j < 64
+    → nat_bit there j ≡ (nat_le 2 (64 * w + j) && nat_lt (64 * w + j) (2 ^ (shape.nx + shape.ny + 1))))
+    → ((j : ℕ) → j < 64 → 2 ≤ 64 * w + j → 64 * w + j < 2 ^ (shape.nx + shape.ny + 1)
+    → nat_bit word j ≡ latch (at_place tree.nodes (64 * w + j)))
+    → (j : ℕ) → j < 64 → cond (nat_bit there j) (nat_bit word j) (nat_bit 0 j) ≡ node_bit latch tree (64 * w + j)
+masked shape tree size latch there word w is each j within =
+    rw (size.columns, size.rows)
+    (where_nodes_are _ (64 * w + j) _ _ _ _ (is j within) (each j within) (bit_of_zero j))
+
 module _ (shape : Shape) (tree : TreeState) (size : IsShapeOf shape tree) where
   abbrev total : ℕ
   total = 2 ^ (shape.nx + shape.ny + 1)
@@ -27,16 +38,6 @@ module _ (shape : Shape) (tree : TreeState) (size : IsShapeOf shape tree) where
       → node_bit latch tree p ≡ latch (at_place tree.nodes p)
   node_inside latch p some inside = rw (size.columns, size.rows, lt_false p 2 some, lt_true p total inside) refl
 
-  -- a word with the bits f of the nodes that there are has the latches of a tree whose nodes have these bits
-  pub masked : (latch : Node → Bool) (there word w : ℕ)
-      → ((j : ℕ) → j < 64 → nat_bit there j ≡ (nat_le 2 (64 * w + j) && nat_lt (64 * w + j) total))
-      → ((j : ℕ) → j < 64 → 2 ≤ 64 * w + j → 64 * w + j < total
-      → nat_bit word j ≡ latch (at_place tree.nodes (64 * w + j)))
-      → (j : ℕ) → j < 64 → cond (nat_bit there j) (nat_bit word j) (nat_bit 0 j) ≡ node_bit latch tree (64 * w + j)
-  masked latch there word w is each j within =
-      rw (size.columns, size.rows)
-      (where_nodes_are total (64 * w + j) _ _ _ _ (is j within) (each j within) (bit_of_zero j))
-
   -- a feed, by the word of the parents' outputs and that of the carries
   module _ (lines : Lines) (w parents carry above line : ℕ) (outputs : IsNodeWord (λ n. n.output) tree (w / 2) parents)
       (carries : IsNodeWord (λ n. n.carry) tree w carry)
@@ -44,7 +45,7 @@ module _ (shape : Shape) (tree : TreeState) (size : IsShapeOf shape tree) where
       ≡ cond (nat_lt (64 * w + j) 4) lines.c (nat_bit parents (32 * (w % 2) + j / 2)))
       (line_is : (j : ℕ) → j < 64 → nat_bit line j
       ≡ cond (nat_lt (64 * w + j) (2 ^ (shape.nx + 1))) lines.a lines.b) where
-    pub fed_node : (j : ℕ) → j < 64 → 2 ≤ 64 * w + j → 64 * w + j < total
+    fed_node : (j : ℕ) → j < 64 → 2 ≤ 64 * w + j → 64 * w + j < total
         → next_node (j % 2 == 1) (nat_bit above j) (nat_bit line j) (nat_bit carry j)
         ≡ at_place (after_feed lines.a lines.b lines.c tree).nodes (64 * w + j)
     fed_node j within some inside =
@@ -65,6 +66,16 @@ module _ (shape : Shape) (tree : TreeState) (size : IsShapeOf shape tree) where
         (sym (get_or-tabulate total (next_at lines.a lines.b lines.c (2 ^ (shape.nx + 1)) tree.nodes) p zero_node inside
         ∙ rw (lt_false p 2 some) refl))
 
+    pub fed_latch : (latch : Node → Bool) (there word : ℕ)
+        → ((j : ℕ) → j < 64 → nat_bit there j ≡ (nat_le 2 (64 * w + j) && nat_lt (64 * w + j) total))
+        → ((j : ℕ) → j < 64
+        → nat_bit word j ≡ latch (next_node (j % 2 == 1) (nat_bit above j) (nat_bit line j) (nat_bit carry j)))
+        → (j : ℕ) → j < 64 → cond (nat_bit there j) (nat_bit word j) (nat_bit 0 j)
+        ≡ node_bit latch (after_feed lines.a lines.b lines.c tree) (64 * w + j)
+    fed_latch latch there word is made =
+        masked shape (after_feed lines.a lines.b lines.c tree) (record { columns = size.columns; rows = size.rows })
+        latch there word w is (λ j within some inside. made j within ∙ ap latch (fed_node j within some inside))
+
   -- the latches of a tree that is cleared
   pub none : (latch : Node → Bool) (p : ℕ) → latch zero_node ≡ false → node_bit latch (cleared tree.nx tree.ny) p ≡ false
   none latch p zero = grind (arith, lt_true, get_or-replicate)
@@ -72,12 +83,10 @@ module _ (shape : Shape) (tree : TreeState) (size : IsShapeOf shape tree) where
   pub cleared_nodes : (words : List ℕ) → ((k : ℕ) → k < 2 * shape.nodes → get_or words (nodes_at shape + k) 0 ≡ 0)
       → HoldsNodes shape (cleared tree.nx tree.ny) words
   cleared_nodes words zero = record {
-    output = λ k within i bit.
-        ap (λ w. nat_bit w i) (zero k (omega arith)) ∙ (bit_of_zero i ∙ sym (none (λ n. n.output) (64 * k + i) refl));
+    output = λ k within i bit. rw (zero k (omega arith), none (λ n. n.output) (64 * k + i) refl) (bit_of_zero i);
     carry = λ k within i bit.
         let place : nodes_at shape + shape.nodes + k ≡ nodes_at shape + (shape.nodes + k) = omega arith in
-        ap (λ k. nat_bit (get_or words k 0) i) place ∙ (ap (λ w. nat_bit w i) (zero (shape.nodes + k) (omega arith))
-        ∙ (bit_of_zero i ∙ sym (none (λ n. n.carry) (64 * k + i) refl)));
+        rw (place, zero (shape.nodes + k) (omega arith), none (λ n. n.carry) (64 * k + i) refl) (bit_of_zero i);
   }
 
   -- a leaf is the node behind those of the levels above
