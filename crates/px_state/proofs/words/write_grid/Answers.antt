@@ -1,31 +1,19 @@
-use Rattle.px_state.proofs.Cited.{ap, arith, HoldsWords, inl, IsShapeOf, KeepsOutside, leaves_at, length, nat_bit}
-use Rattle.px_state.proofs.Cited.{nodes_end, PixelState, refl, room_of, row_words, subst, sym, ◌*◌, ◌+◌, ◌<◌, ◌^◌}
-use Rattle.px_state.proofs.Cited.{◌∙◌, ◌≡◌}
+use Rattle.px_state.proofs.Cited.{ap, arith, common_steps, HoldsWords, inl, IsShapeOf, KeepsOutside, leaves_at}
+use Rattle.px_state.proofs.Cited.{nat_bit, nodes_end, PixelState, pow-add, refl, room_of, row_words, subst, sym, ◌*◌}
+use Rattle.px_state.proofs.Cited.{◌+◌, ◌<◌, ◌^◌, ◌∙◌, ◌≡◌}
 use Rattle.px_state.proofs.ClockedLemmas.{kept_nodes, room_is, same_behind, whole_of}
-use Rattle.px_state.proofs.RegisterLemmas.{placed_register, row_room}
+use Rattle.px_state.proofs.RegisterLemmas.{placed_register}
 use Rattle.px_state.proofs.ShapeLemmas.{kept_both, plane_end}
 use Rattle.px_state.proofs.words.write_grid.Goals as goal
 
 pub write_plane-requires-clause-row : goal.write_plane-requires-clause-row
-write_plane-requires-clause-row g c =
-    row_room c.of-shape.result c.args.grid.now.state.tree (length c.register_rows.result.0.now) (record {
-      columns = sym (rw c.size-nx.ensures.size at c.of-shape.ensures.columns);
-      rows = sym (rw c.size-nx.ensures.size at c.of-shape.ensures.rows);
-    }) c.register_rows.ensures.enable.words
+write_plane-requires-clause-row g c = grind (arith, common_steps, pow-add)
 
 pub write_plane-requires-2-clause-row : goal.write_plane-requires-2-clause-row
-write_plane-requires-2-clause-row g c =
-    row_room c.of-shape.result c.args.grid.now.state.tree (length c.register_rows.result.1.now) (record {
-      columns = sym (rw c.size-nx.ensures.size at c.of-shape.ensures.columns);
-      rows = sym (rw c.size-nx.ensures.size at c.of-shape.ensures.rows);
-    }) c.register_rows.ensures.carry.words
+write_plane-requires-2-clause-row g c = grind (arith, common_steps, pow-add)
 
 pub write_plane-requires-3-clause-row : goal.write_plane-requires-3-clause-row
-write_plane-requires-3-clause-row g c =
-    row_room c.of-shape.result c.args.grid.now.state.tree (length c.register_rows.result.2.now) (record {
-      columns = sym (rw c.size-nx.ensures.size at c.of-shape.ensures.columns);
-      rows = sym (rw c.size-nx.ensures.size at c.of-shape.ensures.rows);
-    }) c.register_rows.ensures.latch.words
+write_plane-requires-3-clause-row g c = grind (arith, common_steps, pow-add)
 
 pub returns-clause-words : goal.returns-clause-words
 returns-clause-words g c =

@@ -1,14 +1,12 @@
-use Rattle.px_state.proofs.Cited.{ap, arith, bit_at, cases_eq, false, inl, inr, length, nat_bit, PixelState}
-use Rattle.px_state.proofs.Cited.{row_words, zero_pixel, ◌*◌, ◌+◌, ◌<◌, ◌^◌, ◌∙◌, ◌≡◌}
+use Rattle.px_state.proofs.Cited.{ap, arith, bit_at, cases_eq, common_steps, false, inl, inr, nat_bit, PixelState}
+use Rattle.px_state.proofs.Cited.{pow-add, row_words, zero_pixel, ◌*◌, ◌+◌, ◌<◌, ◌^◌, ◌∙◌, ◌≡◌}
 use Rattle.std.proofs.lemmas.List.{get_or-replicate}
-use Rattle.px_state.proofs.RegisterLemmas.{memory_register, placed_register, row_room}
+use Rattle.px_state.proofs.RegisterLemmas.{memory_register, placed_register}
 use Rattle.px_state.proofs.ShapeLemmas.{kept_both, plane_end}
 use Rattle.px_state.proofs.words.write_memory.Goals as goal
 
 pub write_plane-requires-clause-row : goal.write_plane-requires-clause-row
-write_plane-requires-clause-row g c =
-    row_room c.args.shape.now c.args.grid.now.state.tree (length c.row.result.now) c.requires.size
-    (omega (arith, c.row.ensures.words))
+write_plane-requires-clause-row g c = grind (arith, common_steps, pow-add)
 
 pub loop-at-preserved : goal.loop-at-preserved
 loop-at-preserved g c =
