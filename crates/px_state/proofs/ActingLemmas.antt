@@ -1,7 +1,7 @@
 -- What an act leaves of a pixel whose bits are in words.
 use Rattle.px_state.proofs.Cited.{Act, acted, acted_at, acted_inside, acted_outside, after_act, arith, bit_at, Bool}
-use Rattle.px_state.proofs.Cited.{cases_lt, false, get_or, get_or-tabulate, HasGrid, HoldsLeaves, HoldsPixels, inl}
-use Rattle.px_state.proofs.Cited.{inr, is_tabulate, IsActed, IsPixel, KeepsOutside, leaf_bit, leaf_output, leaves_at}
+use Rattle.px_state.proofs.Cited.{cases_lt, get_or, get_or-tabulate, HasGrid, HoldsLeaves, HoldsPixels, inl, inr}
+use Rattle.px_state.proofs.Cited.{is_tabulate, IsActed, IsPixel, KeepsOutside, leaf_bit, leaf_output, leaves_at}
 use Rattle.px_state.proofs.Cited.{length, length-replicate, List, lt_false, lt_true, memory_place, nat_bit, no_pixel}
 use Rattle.px_state.proofs.Cited.{Nop, other_bit, pixel_at, pixel_here, pixel_of, PixelState, pow-add, refl}
 use Rattle.px_state.proofs.Cited.{row_words, Shape, State, subst, sym, word_bit, ℕ, ◌*◌, ◌+◌, ◌<◌, ◌^◌, ◌∙◌, ◌≡◌, ◌≢◌}
@@ -59,15 +59,10 @@ module _ (shape : Shape) (s : State) (grid : HasGrid shape.bits shape.nx shape.n
       below column = omega (arith, pow-add 2 shape.nx shape.ny, plane_end x (2 ^ shape.nx) (2 ^ shape.ny) column)
 
       long : length (pixel_here shape s.pixels x y).memory ≡ shape.bits
-      long = elim (cases_lt x (2 ^ shape.nx)) [
-        | inl column ↦ rw (lt_true x (2 ^ shape.nx) column) (grid.memory place (below column))
-        | inr past ↦ rw (lt_false x (2 ^ shape.nx) past) (length-replicate shape.bits false)
-      ]
+      long = grind (arith, length-replicate, below)
 
       inside : x < 2 ^ s.tree.nx → x * 2 ^ s.tree.ny + y < 2 ^ (s.tree.nx + s.tree.ny)
-      inside column =
-          let low : y < 2 ^ s.tree.ny = rw grid.rows row in
-          omega (arith, pow-add 2 s.tree.nx s.tree.ny, plane_end x (2 ^ s.tree.nx) (2 ^ s.tree.ny) column, low)
+      inside column = grind (arith, pow-add, plane_end)
 
       here : acted_at (nat_bit shape.full i) act leaf (pixel_here shape s.pixels x y)
           ≡ pixel_here shape (acted act s.tree s.pixels) x y

@@ -30,7 +30,7 @@ pub use Rattle.px_num.proofs.Basics.{flat_map, flat_map-cons, get_or, get_or-app
 pub use Rattle.px_num.proofs.Basics.{get_or-set_other, get_or-set_same, get_or_append_left, get_or_default}
 pub use Rattle.px_num.proofs.Basics.{get_or_from_slice_get, inl, inr, length, length-append, length-flat_map-take}
 pub use Rattle.px_num.proofs.Basics.{length-replicate, length-set, List, lt-ltb, map, map-append, mod-lt, mod-mul-add}
-pub use Rattle.px_num.proofs.Basics.{mul-le-mul_right, nat_le, nat_lt, None, not, Option, option_map, option_or}
+pub use Rattle.px_num.proofs.Basics.{mul-le-mul_right, nat_le, nat_lt, None, Option, option_map, option_or}
 pub use Rattle.px_num.proofs.Basics.{pow-add, pow_mono, refl, rules, set, slice_get, slice_get-get_or, slice_get_within}
 pub use Rattle.px_num.proofs.Basics.{Some, subst, suc, sym, take, take-append-add, take-append-drop, take-append-le}
 pub use Rattle.px_num.proofs.Basics.{take-append_seam, take_all, take_more, true, unwrap_or, YieldsList-at}
@@ -82,4 +82,3 @@ pub use Rattle.std.proofs.lemmas.Grind.{common_steps}
 pub use Rattle.std.proofs.lemmas.List.{get_or-drop, length-drop, length-take-le}
 pub use Rattle.std.proofs.lemmas.List.Concat.{flat_map-append}
 pub use Rattle.std.proofs.lemmas.List.Sums.{fails_before_first}
-pub use Rattle.std.specs.List.{position_or_len}
