@@ -25,7 +25,7 @@ pub use Rattle.px_macro.specs.Macros.{IsLawful, IsLawfulInMore}
 pub use Rattle.px_macro.specs.declared.operation.Macro.{Macro}
 pub use Rattle.px_model.specs.Scenes.{SceneView}
 pub use Rattle.px_num.proofs.Basics.{[], ap, arith, before_first, between, between_from_start, Bool, bytes_eq, cases_eq}
-pub use Rattle.px_num.proofs.Basics.{cases_lt, codes, cond, div-lt_iff_lt-mul, div-mul-add, drop, drop-cons, eqb, false}
+pub use Rattle.px_num.proofs.Basics.{cases_lt, codes, cond, div-mul-add, drop, drop-cons, eqb, false}
 pub use Rattle.px_num.proofs.Basics.{flat_map, flat_map-cons, get_or, get_or-append_right, get_or-flat_map}
 pub use Rattle.px_num.proofs.Basics.{get_or-set_other, get_or-set_same, get_or_append_left, get_or_default}
 pub use Rattle.px_num.proofs.Basics.{get_or_from_slice_get, inl, inr, length, length-append, length-flat_map-take}
