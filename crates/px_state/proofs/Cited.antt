@@ -25,12 +25,12 @@ pub use Rattle.px_macro.specs.Macros.{IsLawful, IsLawfulInMore}
 pub use Rattle.px_macro.specs.declared.operation.Macro.{Macro}
 pub use Rattle.px_model.specs.Scenes.{SceneView}
 pub use Rattle.px_num.proofs.Basics.{[], ap, arith, before_first, between, between_from_start, Bool, bytes_eq, cases_eq}
-pub use Rattle.px_num.proofs.Basics.{cases_lt, codes, cond, div-lt_iff_lt-mul, div-mul-add, drop, drop-cons, eqb, false}
+pub use Rattle.px_num.proofs.Basics.{cases_lt, codes, cond, div-mul-add, drop, drop-cons, eqb, false}
 pub use Rattle.px_num.proofs.Basics.{flat_map, flat_map-cons, get_or, get_or-append_right, get_or-flat_map}
 pub use Rattle.px_num.proofs.Basics.{get_or-set_other, get_or-set_same, get_or_append_left, get_or_default}
 pub use Rattle.px_num.proofs.Basics.{get_or_from_slice_get, inl, inr, length, length-append, length-flat_map-take}
 pub use Rattle.px_num.proofs.Basics.{length-replicate, length-set, List, lt-ltb, map, map-append, mod-lt, mod-mul-add}
-pub use Rattle.px_num.proofs.Basics.{mul-le-mul_right, nat_le, nat_lt, None, not, Option, option_map, option_or}
+pub use Rattle.px_num.proofs.Basics.{mul-le-mul_right, nat_le, nat_lt, None, Option, option_map, option_or}
 pub use Rattle.px_num.proofs.Basics.{pow-add, pow_mono, refl, rules, set, slice_get, slice_get-get_or, slice_get_within}
 pub use Rattle.px_num.proofs.Basics.{Some, subst, suc, sym, take, take-append-add, take-append-drop, take-append-le}
 pub use Rattle.px_num.proofs.Basics.{take-append_seam, take_all, take_more, true, unwrap_or, YieldsList-at}
@@ -55,7 +55,7 @@ pub use Rattle.px_sched.specs.Passes.{operations, steps}
 pub use Rattle.px_sched.specs.StepCursors.{literals_in, StandsAtStep}
 pub use Rattle.px_sched.specs.declared.step.Step.{Step}
 pub use Rattle.px_state.specs.Cells.{HasPlane, HoldsLeaves, HoldsNodes, HoldsPixels, HoldsPixelsAndNodes, IsActed}
-pub use Rattle.px_state.specs.Cells.{IsShape, IsShapeOf, leaves_at, nodes_at, pixel_here, placed}
+pub use Rattle.px_state.specs.Cells.{IsShapeOf, KeepsOutside, leaves_at, nodes_at, nodes_end, pixel_here, placed}
 pub use Rattle.px_state.specs.Clocking.{first_stray, HoldsState}
 pub use Rattle.px_state.specs.Courses.{broadcasts, device_after, IsNextBroadcast, start_in_listing, total_of_listing}
 pub use Rattle.px_state.specs.Inputs.{given_by, IsGoodCourse, IsOperationIn, listing_in, StandsIn}
@@ -82,4 +82,3 @@ pub use Rattle.std.proofs.lemmas.Grind.{common_steps}
 pub use Rattle.std.proofs.lemmas.List.{get_or-drop, length-drop, length-take-le}
 pub use Rattle.std.proofs.lemmas.List.Concat.{flat_map-append}
 pub use Rattle.std.proofs.lemmas.List.Sums.{fails_before_first}
-pub use Rattle.std.specs.List.{position_or_len}

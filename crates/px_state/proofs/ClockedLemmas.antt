@@ -1,16 +1,16 @@
 -- A state by the parts that are in its words, and its clocks one after another.
-use Rattle.px_state.proofs.Cited.{[], after_clock, after_clocks, after_clocks-append, ap, arith, BeginsWithState, Bool}
-use Rattle.px_state.proofs.Cited.{cond, drop, fails_before_first, false, first_stray, get_or, get_or-drop, HoldsLeaves}
-use Rattle.px_state.proofs.Cited.{HoldsNodes, HoldsPixels, HoldsPixelsAndNodes, HoldsState, HoldsWords, inl, inr}
-use Rattle.px_state.proofs.Cited.{is_tabulate, IsShape, IsShapeOf, leaves_at, length, length-drop, List, lt_fails, map}
-use Rattle.px_state.proofs.Cited.{map-append, nat_bit, nat_lt, nodes_at, None, not, not_false, position_or_len, refl}
-use Rattle.px_state.proofs.Cited.{room_of, Shape, Some, State, sym, take, take_more, TreeState, true, ℕ, ◌*◌, ◌+◌, ◌-◌}
-use Rattle.px_state.proofs.Cited.{◌<◌, ◌∙◌, ◌∷◌, ◌≡◌, ◌≤◌, ◌⊎◌}
+use Rattle.px_state.proofs.Cited.{[], after_clock, after_clocks, after_clocks-append, ap, arith, BeginsWithState}
+use Rattle.px_state.proofs.Cited.{drop, fails_before_first, first_stray, get_or, get_or-drop, HoldsLeaves, HoldsNodes}
+use Rattle.px_state.proofs.Cited.{HoldsPixels, HoldsPixelsAndNodes, HoldsState, HoldsWords, IsShapeOf, KeepsOutside}
+use Rattle.px_state.proofs.Cited.{leaves_at, length, length-drop, List, lt_fails, map, map-append, nodes_at}
+use Rattle.px_state.proofs.Cited.{nodes_end, None, not_false, refl, room_of, Shape, State, take, take_more, TreeState}
+use Rattle.px_state.proofs.Cited.{true, ℕ, ◌+◌, ◌-◌, ◌<◌, ◌∙◌, ◌∷◌, ◌≡◌}
+use Rattle.std.proofs.lemmas.Grind.{same_number_lists}
 use Rattle.px_state.proofs.ActingLemmas.{kept_pixels}
 use Rattle.px_state.specs.Packing.{is_micro, micro_in}
 
-pub room_is : (shape : Shape) → IsShape shape → room_of shape.bits shape.nx shape.ny ≡ nodes_at shape + 2 * shape.nodes
-room_is shape is = rw (is.plane, is.nodes) refl
+pub room_is : (shape : Shape) → room_of shape.bits shape.nx shape.ny ≡ nodes_end shape
+room_is shape = rw (shape.plane_is, shape.nodes_are) refl
 
 -- what the words of a state hold
 pub record HoldsParts (shape : Shape) (s : State) (words : List ℕ) : Type 0 where
@@ -18,7 +18,7 @@ pub record HoldsParts (shape : Shape) (s : State) (words : List ℕ) : Type 0 wh
   pub leaves : HoldsLeaves shape s.tree words
   pub nodes : HoldsNodes shape s.tree words
 
-module _ (shape : Shape) (s : State) (is : IsShape shape) (grid : IsShapeOf shape s.tree) (words : List ℕ) where
+module _ (shape : Shape) (s : State) (grid : IsShapeOf shape s.tree) (words : List ℕ) where
   pub parts_of : HoldsWords shape.bits s words → HoldsParts shape s words
   parts_of held = grind arith
 
@@ -26,46 +26,37 @@ module _ (shape : Shape) (s : State) (is : IsShape shape) (grid : IsShapeOf shap
   whole_of parts = grind arith
 
 -- nodes stay where their words do
-pub kept_nodes : (shape : Shape) (tree : TreeState) (old new : List ℕ)
-    → ((j : ℕ) → nodes_at shape ≤ j → get_or new j 0 ≡ get_or old j 0) → HoldsNodes shape tree old
-    → HoldsNodes shape tree new
-kept_nodes shape tree old new same held = record {
-  output = λ k within i bit. ap (λ w. nat_bit w i) (same _ (omega arith)) ∙ held.output k within i bit;
-  carry = λ k within i bit. ap (λ w. nat_bit w i) (same _ (omega arith)) ∙ held.carry k within i bit;
-}
+pub kept_nodes : (shape : Shape) (tree : TreeState) (from : ℕ) (old new : List ℕ)
+    → KeepsOutside from (nodes_at shape) old new → HoldsNodes shape tree old → HoldsNodes shape tree new
+kept_nodes shape tree from old new kept held = grind arith
 
-module _ (shape : Shape) (s : State) (is : IsShape shape) where
+module _ (shape : Shape) (s : State) where
   pub but_leaves : (words : List ℕ) → HoldsState shape.bits shape.nx shape.ny s words → HoldsPixelsAndNodes shape s words
-  but_leaves words held =
-      let parts = parts_of shape s is (record { columns = held.grid.columns; rows = held.grid.rows }) words held.holds in
-      record { grid = held.grid; pixels = parts.pixels; nodes = parts.nodes }
+  but_leaves words held = grind (arith, parts_of)
 
   -- once the leaves are written, the words hold all of the state
   pub with_leaves : (old new : List ℕ) → HoldsPixelsAndNodes shape s old
-      → ((k : ℕ) → (k < leaves_at shape) ⊎ (nodes_at shape ≤ k) → get_or new k 0 ≡ get_or old k 0)
-      → HoldsLeaves shape s.tree new → HoldsState shape.bits shape.nx shape.ny s new
-  with_leaves old new held others leaves = record {
+      → KeepsOutside (leaves_at shape) (nodes_at shape) old new → HoldsLeaves shape s.tree new
+      → HoldsState shape.bits shape.nx shape.ny s new
+  with_leaves old new held kept leaves = record {
     grid = held.grid;
-    holds = whole_of shape s is (record { columns = held.grid.columns; rows = held.grid.rows }) new (record {
-      pixels = kept_pixels shape s.pixels old new is (λ j low. others j (inl low)) held.pixels;
+    holds = whole_of shape s (record { columns = held.grid.columns; rows = held.grid.rows }) new (record {
+      pixels = kept_pixels shape s.pixels (leaves_at shape) (nodes_at shape) old new kept (omega arith) held.pixels;
       leaves = leaves;
-      nodes = kept_nodes shape s.tree old new (λ j high. others j (inr high)) held.nodes;
+      nodes = kept_nodes shape s.tree (leaves_at shape) old new kept held.nodes;
     });
   }
 
 -- lists that are the same from a place on
-pub same_behind : (n : ℕ) (xs ys : List ℕ) → length xs ≡ length ys → ((j : ℕ) → n ≤ j → get_or xs j 0 ≡ get_or ys j 0)
-    → drop n xs ≡ drop n ys
-same_behind n xs ys long same =
-    let count : length (drop n xs) ≡ length ys - n = length-drop n xs ∙ ap (λ l. l - n) long in
-    is_tabulate (drop n xs) (length ys - n) (λ i. get_or ys (n + i) 0) 0 count
-    (λ i below. get_or-drop n xs i 0 ∙ same (n + i) (omega arith))
-    ∙ sym (is_tabulate (drop n ys) (length ys - n) (λ i. get_or ys (n + i) 0) 0 (length-drop n ys)
-    (λ i below. get_or-drop n ys i 0))
+pub same_behind : (from n : ℕ) (ys xs : List ℕ) → KeepsOutside from n ys xs → drop n xs ≡ drop n ys
+same_behind from n ys xs kept = grind (arith, same_number_lists, length-drop, get_or-drop)
 
-pub has_words : (bits nx ny : ℕ) (s : State) (old new : List ℕ) → HoldsState bits nx ny s new → length new ≡ length old
-    → ((j : ℕ) → room_of bits nx ny ≤ j → get_or new j 0 ≡ get_or old j 0) → BeginsWithState bits s old new
-has_words bits nx ny s old new held long behind = grind (arith, same_behind)
+pub has_words : (bits nx ny : ℕ) (s : State) (old new : List ℕ) → HoldsState bits nx ny s new
+    → KeepsOutside 0 (room_of bits nx ny) old new → BeginsWithState bits s old new
+has_words bits nx ny s old new held kept = record {
+  holds = held.holds;
+  behind = rw (held.grid.columns, held.grid.rows) (same_behind 0 (room_of bits nx ny) old new kept);
+}
 
 pub one_more : (micros : List ℕ) (i : ℕ) (s : State) → i < length micros
     → after_clocks (map micro_in (take (i + 1) micros)) s
@@ -78,14 +69,4 @@ one_more micros i s within =
 -- where no word is a stray, each is that of a micro
 pub none_stray : (bits : ℕ) (micros : List ℕ) (i : ℕ) → first_stray bits micros ≡ None → i < length micros
     → is_micro bits (get_or micros i 0) ≡ true
-none_stray bits micros i none within =
-    by_test (nat_lt (position_or_len stray micros) (length micros)) refl none
-  where
-    stray : ℕ → Bool
-    stray word = not (is_micro bits word)
-
-    by_test : (b : Bool) → nat_lt (position_or_len stray micros) (length micros) ≡ b
-        → cond b (Some (position_or_len stray micros)) None ≡ None → is_micro bits (get_or micros i 0) ≡ true
-    by_test true low h = absurd (cc)
-    by_test false past h =
-        not_false _ (fails_before_first stray micros i 0 (omega (arith, lt_fails _ _ past)))
+none_stray bits micros i none within = grind (arith, fails_before_first, not_false, lt_fails)

@@ -5,8 +5,8 @@ use Rattle.px_state.proofs.Cited.{drop-cons, flat_map, flat_map-append, flat_map
 use Rattle.px_state.proofs.Cited.{IsNextBroadcast, length, length-tabulate, length-take-le, List, ListingView, Macro}
 use Rattle.px_state.proofs.Cited.{Micro, micro_at, micro_here, micros, nx-after_clocks, ny-after_clocks, slice_get}
 use Rattle.px_state.proofs.Cited.{slice_get-get_or, slice_get_within, Some, start_in_listing, start_more, suc, sym}
-use Rattle.px_state.proofs.Cited.{take, take-append-add, take-append-drop, take-append-le, take-append_seam, zero_state}
-use Rattle.px_state.proofs.Cited.{ℕ, ◌++◌, ◌+◌, ◌<◌, ◌∙◌, ◌∷◌, ◌≡◌, ◌≤◌}
+use Rattle.px_state.proofs.Cited.{take, take-append-add, take-append-drop, take-append-le, take-append_seam}
+use Rattle.px_state.proofs.Cited.{zero_state, ℕ, ◌++◌, ◌+◌, ◌<◌, ◌∙◌, ◌∷◌, ◌≡◌, ◌≤◌}
 use Rattle.px_macro.specs.declared.operation.Macro.TheVariants as op
 
 -- the micro of a cycle is the broadcast at its clock
@@ -81,13 +81,11 @@ here_in ms i within = slice_get-get_or ms i op.All within
 -- the grid is that of the listing
 pub columns_are : (bits : ℕ) (l : ListingView) (n : ℕ) (device : Device) → device ≡ device_after bits l n
     → device.state.tree.nx ≡ l.nx
-columns_are bits l n device is =
-    ap (λ (d : Device). d.state.tree.nx) is ∙ nx-after_clocks (take n (broadcasts l)) (zero_state bits l.nx l.ny)
+columns_are bits l n device is = grind (arith, nx-after_clocks)
 
 pub rows_are : (bits : ℕ) (l : ListingView) (n : ℕ) (device : Device) → device ≡ device_after bits l n
     → device.state.tree.ny ≡ l.ny
-rows_are bits l n device is =
-    ap (λ (d : Device). d.state.tree.ny) is ∙ ny-after_clocks (take n (broadcasts l)) (zero_state bits l.nx l.ny)
+rows_are bits l n device is = grind (arith, ny-after_clocks)
 
 -- an array goes on by the first cycles of an operation
 pub goes_on : (bits : ℕ) (l : ListingView) (i made start : ℕ) (m : Macro) (d new : Device)

@@ -1,9 +1,10 @@
 -- The nodes of a tree whose latches are in words.
 use Rattle.px_state.proofs.Cited.{after_feed, ap, arith, at_place, bit_of_zero, Bool, cases_lt, cleared, cond, eqb}
-use Rattle.px_state.proofs.Cited.{false, get_or, get_or-tabulate, HoldsNodes, inl, inr, IsLatch, IsNodeWord, IsShape}
+use Rattle.px_state.proofs.Cited.{false, get_or, get_or-tabulate, HoldsNodes, inl, inr, IsLatch, IsNodeWord}
 use Rattle.px_state.proofs.Cited.{IsShapeOf, Lines, List, lt_false, lt_true, nat_bit, nat_le, nat_lt, next_node, Node}
 use Rattle.px_state.proofs.Cited.{node_bit, nodes_at, padded_leaf, placed, pow-add, power_grows, refl, Shape, sym}
 use Rattle.px_state.proofs.Cited.{TreeState, zero_node, ℕ, ◌%◌, ◌&&◌, ◌*◌, ◌+◌, ◌/◌, ◌<◌, ◌==◌, ◌^◌, ◌∙◌, ◌≡◌, ◌≤◌}
+use Rattle.std.specs.Prelude.{if◌then◌else◌}
 use Rattle.px_num.proofs.Basics.{get_or-replicate}
 use Rattle.px_tree.specs.Nodes.{next_at}
 use Rattle.px_state.proofs.ShapeLemmas.{plane_end}
@@ -13,6 +14,22 @@ pub parents_root : (word j : ℕ) (c : Bool) → 2 ≤ j → j < 64
     → cond (nat_lt (j / 2) 2) (c && eqb (j / 2) 1) (nat_bit word (j / 2)) ≡ cond (nat_lt j 4) c (nat_bit word (j / 2))
 parents_root word j c some within = grind arith
 
+where_nodes_are : (n p : ℕ) (there word latch zero : Bool) → there ≡ (nat_le 2 p && nat_lt p n)
+    → (2 ≤ p → p < n → word ≡ latch) → zero ≡ false
+    → cond there word zero ≡ (if nat_lt p 2 then false else if nat_lt p n then latch else false)
+where_nodes_are n p there word latch zero is each none = grind arith
+
+-- a word with the bits f of the nodes that there are has the latches of a tree whose nodes have these bits
+pub masked : (shape : Shape) (tree : TreeState) → IsShapeOf shape tree → (latch : Node → Bool) (there word w : ℕ)
+    → ((j : ℕ) → j < 64
+    → nat_bit there j ≡ (nat_le 2 (64 * w + j) && nat_lt (64 * w + j) (2 ^ (shape.nx + shape.ny + 1))))
+    → ((j : ℕ) → j < 64 → 2 ≤ 64 * w + j → 64 * w + j < 2 ^ (shape.nx + shape.ny + 1)
+    → nat_bit word j ≡ latch (at_place tree.nodes (64 * w + j)))
+    → (j : ℕ) → j < 64 → cond (nat_bit there j) (nat_bit word j) (nat_bit 0 j) ≡ node_bit latch tree (64 * w + j)
+masked shape tree size latch there word w is each j within =
+    rw (size.columns, size.rows)
+    (where_nodes_are _ (64 * w + j) _ _ _ _ (is j within) (each j within) (bit_of_zero j))
+
 module _ (shape : Shape) (tree : TreeState) (size : IsShapeOf shape tree) where
   abbrev total : ℕ
   total = 2 ^ (shape.nx + shape.ny + 1)
@@ -21,14 +38,6 @@ module _ (shape : Shape) (tree : TreeState) (size : IsShapeOf shape tree) where
       → node_bit latch tree p ≡ latch (at_place tree.nodes p)
   node_inside latch p some inside = rw (size.columns, size.rows, lt_false p 2 some, lt_true p total inside) refl
 
-  -- a word with the bits f of the nodes that there are has the latches of a tree whose nodes have these bits
-  pub masked : (latch : Node → Bool) (there word w : ℕ)
-      → ((j : ℕ) → j < 64 → nat_bit there j ≡ (nat_le 2 (64 * w + j) && nat_lt (64 * w + j) total))
-      → ((j : ℕ) → j < 64 → 2 ≤ 64 * w + j → 64 * w + j < total
-      → nat_bit word j ≡ latch (at_place tree.nodes (64 * w + j)))
-      → (j : ℕ) → j < 64 → cond (nat_bit there j) (nat_bit word j) (nat_bit 0 j) ≡ node_bit latch tree (64 * w + j)
-  masked latch there word w is each j within = grind arith
-
   -- a feed, by the word of the parents' outputs and that of the carries
   module _ (lines : Lines) (w parents carry above line : ℕ) (outputs : IsNodeWord (λ n. n.output) tree (w / 2) parents)
       (carries : IsNodeWord (λ n. n.carry) tree w carry)
@@ -36,7 +45,7 @@ module _ (shape : Shape) (tree : TreeState) (size : IsShapeOf shape tree) where
       ≡ cond (nat_lt (64 * w + j) 4) lines.c (nat_bit parents (32 * (w % 2) + j / 2)))
       (line_is : (j : ℕ) → j < 64 → nat_bit line j
       ≡ cond (nat_lt (64 * w + j) (2 ^ (shape.nx + 1))) lines.a lines.b) where
-    pub fed_node : (j : ℕ) → j < 64 → 2 ≤ 64 * w + j → 64 * w + j < total
+    fed_node : (j : ℕ) → j < 64 → 2 ≤ 64 * w + j → 64 * w + j < total
         → next_node (j % 2 == 1) (nat_bit above j) (nat_bit line j) (nat_bit carry j)
         ≡ at_place (after_feed lines.a lines.b lines.c tree).nodes (64 * w + j)
     fed_node j within some inside =
@@ -57,6 +66,16 @@ module _ (shape : Shape) (tree : TreeState) (size : IsShapeOf shape tree) where
         (sym (get_or-tabulate total (next_at lines.a lines.b lines.c (2 ^ (shape.nx + 1)) tree.nodes) p zero_node inside
         ∙ rw (lt_false p 2 some) refl))
 
+    pub fed_latch : (latch : Node → Bool) (there word : ℕ)
+        → ((j : ℕ) → j < 64 → nat_bit there j ≡ (nat_le 2 (64 * w + j) && nat_lt (64 * w + j) total))
+        → ((j : ℕ) → j < 64
+        → nat_bit word j ≡ latch (next_node (j % 2 == 1) (nat_bit above j) (nat_bit line j) (nat_bit carry j)))
+        → (j : ℕ) → j < 64 → cond (nat_bit there j) (nat_bit word j) (nat_bit 0 j)
+        ≡ node_bit latch (after_feed lines.a lines.b lines.c tree) (64 * w + j)
+    fed_latch latch there word is made =
+        masked shape (after_feed lines.a lines.b lines.c tree) (record { columns = size.columns; rows = size.rows })
+        latch there word w is (λ j within some inside. made j within ∙ ap latch (fed_node j within some inside))
+
   -- the latches of a tree that is cleared
   pub none : (latch : Node → Bool) (p : ℕ) → latch zero_node ≡ false → node_bit latch (cleared tree.nx tree.ny) p ≡ false
   none latch p zero = grind (arith, lt_true, get_or-replicate)
@@ -64,19 +83,17 @@ module _ (shape : Shape) (tree : TreeState) (size : IsShapeOf shape tree) where
   pub cleared_nodes : (words : List ℕ) → ((k : ℕ) → k < 2 * shape.nodes → get_or words (nodes_at shape + k) 0 ≡ 0)
       → HoldsNodes shape (cleared tree.nx tree.ny) words
   cleared_nodes words zero = record {
-    output = λ k within i bit.
-        ap (λ w. nat_bit w i) (zero k (omega arith)) ∙ (bit_of_zero i ∙ sym (none (λ n. n.output) (64 * k + i) refl));
+    output = λ k within i bit. rw (zero k (omega arith), none (λ n. n.output) (64 * k + i) refl) (bit_of_zero i);
     carry = λ k within i bit.
         let place : nodes_at shape + shape.nodes + k ≡ nodes_at shape + (shape.nodes + k) = omega arith in
-        ap (λ k. nat_bit (get_or words k 0) i) place ∙ (ap (λ w. nat_bit w i) (zero (shape.nodes + k) (omega arith))
-        ∙ (bit_of_zero i ∙ sym (none (λ n. n.carry) (64 * k + i) refl)));
+        rw (place, zero (shape.nodes + k) (omega arith), none (λ n. n.carry) (64 * k + i) refl) (bit_of_zero i);
   }
 
   -- a leaf is the node behind those of the levels above
-  pub leaf_law : (nodes : List ℕ) → IsShape shape
+  pub leaf_law : (nodes : List ℕ)
       → ((k : ℕ) → k < shape.nodes → IsNodeWord (λ n. n.output) tree k (get_or nodes k 0)) → (x y : ℕ) → y < 2 ^ shape.ny
       → placed shape nodes (2 ^ shape.nx) x y ≡ padded_leaf tree x y
-  leaf_law nodes is held x y row = rw size.columns (elim (cases_lt x (2 ^ shape.nx)) [
+  leaf_law nodes held x y row = rw size.columns (elim (cases_lt x (2 ^ shape.nx)) [
     | inr past ↦ rw (lt_false x (2 ^ shape.nx) past) refl
     | inl column ↦
         let p = (2 ^ shape.nx + x) * 2 ^ shape.ny + y in
@@ -85,11 +102,11 @@ module _ (shape : Shape) (tree : TreeState) (size : IsShapeOf shape tree) where
         let place : p ≡ 2 ^ (shape.nx + shape.ny) + (x * 2 ^ shape.ny + y) = omega (arith, leaves) in
         let within : x * 2 ^ shape.ny + y < 2 ^ (shape.nx + shape.ny) =
         omega (arith, leaves, plane_end x (2 ^ shape.nx) (2 ^ shape.ny) column) in
-        let some : 2 ≤ 2 ^ (shape.nx + shape.ny) = power_grows 1 (shape.nx + shape.ny) (omega (arith, is.grid)) in
+        let some : 2 ≤ 2 ^ (shape.nx + shape.ny) = power_grows 1 (shape.nx + shape.ny) (omega (arith, shape.grid)) in
         let inside : p < total = omega (arith, place, within, twice) in
         let whole : 64 * (p / 64) + p % 64 ≡ p = omega arith in
         rw (lt_true x (2 ^ shape.nx) column, size.rows)
-        (held (p / 64) (omega (arith, inside, is.nodes)) (p % 64) (omega arith)
+        (held (p / 64) (omega (arith, inside, shape.nodes_are)) (p % 64) (omega arith)
         ∙ (ap (node_bit (λ n. n.output) tree) whole ∙ (node_inside (λ n. n.output) p (omega (arith, place, some)) inside
         ∙ ap (λ p. (at_place tree.nodes p).output) place)))
   ])

@@ -1,13 +1,14 @@
 -- The operations of a text, one after another.
-use Rattle.px_state.proofs.Cited.{[], ap, arith, cases_lt, drop, flat_map, flat_map-append, flat_map-cons, get_or}
-use Rattle.px_state.proofs.Cited.{get_or-flat_map, get_or_from_slice_get, inl, inr, IsGoodProgram, IsLawful}
-use Rattle.px_state.proofs.Cited.{IsLawfulInMore, IsPassed, lawful_here, layout_of, LayoutView, length, length-append}
+use Rattle.px_state.proofs.Cited.{[], ap, arith, drop, flat_map, flat_map-append, flat_map-cons, get_or}
+use Rattle.px_state.proofs.Cited.{get_or-flat_map, get_or_from_slice_get, IsGoodProgram, IsLawful, IsLawfulInMore}
+use Rattle.px_state.proofs.Cited.{IsPassed, lawful_here, layout_of, LayoutView, length, length-append}
 use Rattle.px_state.proofs.Cited.{length-flat_map-take, List, literals_in, Macro, need_of, no_operation, None}
 use Rattle.px_state.proofs.Cited.{Operation, operations, operations_before, passes_listing, purpose_of, SceneView}
 use Rattle.px_state.proofs.Cited.{slice_get, slice_get-get_or, slice_get_within, Some, start_in_listing, Step, steps}
 use Rattle.px_state.proofs.Cited.{sym, take, take-append-drop, take_all, take_more, told, ℕ, ◌++◌, ◌+◌, ◌<◌, ◌∙◌, ◌∷◌}
 use Rattle.px_state.proofs.Cited.{◌≡◌, ◌≤◌}
 use Rattle.px_macro.specs.declared.operation.Macro.TheVariants as m
+use Rattle.std.proofs.lemmas.Option.{slice_get_cases}
 use Rattle.px_sched.specs.Passes.{passes}
 use Rattle.px_state.specs.Putting.{IsPutTo}
 
@@ -21,10 +22,7 @@ put_next Is first k operation old new h p q r zz5 = grind arith
 
 -- where no element stands, the list has ended
 pub no_more : {X : Type 0} (xs : List X) (k : ℕ) (d : X) → None ≡ slice_get xs k → length xs ≤ k
-no_more xs k d none = elim (cases_lt k (length xs)) [
-  | inl below ↦ absurd (let some : None ≡ Some (get_or xs k d) = none ∙ slice_get-get_or xs k d below in cc)
-  | inr past ↦ past
-]
+no_more xs k d none = grind (arith, slice_get_cases)
 
 -- a step of a scene, and its operations among all
 module _ (scene : SceneView) (pass : ℕ) (step : Step) (here : slice_get (steps scene) pass ≡ Some step) where

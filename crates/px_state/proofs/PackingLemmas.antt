@@ -28,9 +28,6 @@ bit_below false = omega arith
 tree_below : (op : TreeOp) → tree_number op < 3
 tree_below op = grind arith
 
-pub has_place : (bits : ℕ) (a : Act) → memory_place a < bits → HasPlace bits a
-has_place bits a h = grind arith
-
 -- each field in its bits
 pub fields_in : (at number value op lines : ℕ) → at < 2 ^ 32 → number < 256 → value < 2 → op < 3
     → (word : ℕ) → word ≡ at + 2 ^ 32 * (number + 256 * (value + 256 * (op + 256 * lines)))

@@ -1,8 +1,7 @@
 -- Planes by columns, and by 64 words at once.
-use Rattle.px_state.proofs.Cited.{ap, arith, bit_down, cases_eq, div-add-mod, div-lt_iff_lt-mul, get_or}
-use Rattle.px_state.proofs.Cited.{get_or-set_other, get_or-set_same, inl, inr, length, List, nat_bit, pow-add}
-use Rattle.px_state.proofs.Cited.{pow_above, row_bit, row_words, set, suc, zero, ℕ, ◌%◌, ◌*◌, ◌+◌, ◌/◌, ◌<◌, ◌^◌, ◌∙◌}
-use Rattle.px_state.proofs.Cited.{◌≡◌}
+use Rattle.px_state.proofs.Cited.{ap, arith, bit_down, cases_eq, div-add-mod, get_or, get_or-set_other}
+use Rattle.px_state.proofs.Cited.{get_or-set_same, inl, inr, length, List, nat_bit, pow-add, pow_above, row_bit}
+use Rattle.px_state.proofs.Cited.{row_words, set, suc, zero, ℕ, ◌%◌, ◌*◌, ◌+◌, ◌/◌, ◌<◌, ◌^◌, ◌∙◌, ◌≡◌}
 use Rattle.px_state.proofs.ShapeLemmas.{apart}
 
 -- the bits of a column from a row on that is a multiple of 64 are in one word
@@ -37,10 +36,6 @@ block_is each y c b row column = rw (row, column) (omega (arith, div-add-mod b e
 
 pub some_words : (nx : ℕ) → 0 < row_words nx
 some_words nx = omega (arith, pow_above nx)
-
-pub block_row : (nx ny b : ℕ) → b < row_words ny * row_words nx → 64 * (b / row_words nx) < 2 ^ ny
-block_row nx ny b below =
-    let row : b / row_words nx < row_words ny = (div-lt_iff_lt-mul (some_words nx)).1 below in omega arith
 
 -- a word more of a list of words
 pub more_words : (Is : (k word : ℕ) → Type 0) (words : List ℕ) (k word : ℕ) → k < length words

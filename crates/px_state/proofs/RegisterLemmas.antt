@@ -1,7 +1,7 @@
 -- The planes of an array, by the rows that it lends.
 use Rattle.px_state.proofs.Cited.{arith, bit_at, Bool, EachBit, false, IsRegister, IsShapeOf, length, levels_of, List}
-use Rattle.px_state.proofs.Cited.{memory_bit, pixel_here, PixelState, placed, pow-add, Shape, State, TreeState}
-use Rattle.px_state.proofs.Cited.{words_for, zero_pixel, ℕ, ◌*◌, ◌+◌, ◌<◌, ◌^◌, ◌≡◌, ◌≤◌}
+use Rattle.px_state.proofs.Cited.{memory_bit, pixel_here, PixelState, placed, pow-add, Shape, State, words_for}
+use Rattle.px_state.proofs.Cited.{zero_pixel, ℕ, ◌<◌, ◌^◌, ◌≡◌}
 use Rattle.px_state.proofs.ShapeLemmas.{plane_end}
 
 pub placed_register : (shape : Shape) (s : State) (register : PixelState → Bool) (row : List ℕ) → IsShapeOf shape s.tree
@@ -12,8 +12,3 @@ placed_register shape s register row size none is x y in_grid = grind (arith, po
 pub memory_register : (s : State) (b : ℕ) (row : List ℕ) → length row ≡ words_for (2 ^ levels_of s.tree)
     → EachBit row (memory_bit s b) → IsRegister s (λ p. bit_at p.memory b) row
 memory_register s b row long bits = grind arith
-
--- a row of all pixels has room for them
-pub row_room : (shape : Shape) (tree : TreeState) (n : ℕ) → IsShapeOf shape tree → 2 ^ levels_of tree ≤ 64 * n
-    → (0 + 2 ^ shape.nx) * 2 ^ shape.ny ≤ 64 * n
-row_room shape tree n size room = grind (arith, pow-add)

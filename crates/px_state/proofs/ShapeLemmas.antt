@@ -1,7 +1,7 @@
 -- The words of a grid.
-use Rattle.px_state.proofs.Cited.{arith, cases_eq, cases_lt, inl, inr, lt_true, mul-le-mul_right, nat_lt, plane_words}
-use Rattle.px_state.proofs.Cited.{pow_above, power_grows, refl, row_words, sym, whole_words, ℕ, ◌*◌, ◌+◌, ◌<◌, ◌^◌, ◌∙◌}
-use Rattle.px_state.proofs.Cited.{◌≡◌, ◌≢◌, ◌≤◌}
+use Rattle.px_state.proofs.Cited.{arith, cases_eq, cases_lt, inl, inr, KeepsOutside, List, lt_true, mul-le-mul_right}
+use Rattle.px_state.proofs.Cited.{nat_lt, plane_words, pow_above, power_grows, refl, row_words, sym, whole_words, ℕ}
+use Rattle.px_state.proofs.Cited.{◌*◌, ◌+◌, ◌<◌, ◌^◌, ◌∙◌, ◌≡◌, ◌≢◌, ◌≤◌}
 
 -- each word of a row has the same pixels: 64, or all of the row
 pub full_law : (nx c i : ℕ) → c < row_words nx → i < 64 → nat_lt i (2 ^ nx) ≡ nat_lt (64 * c + i) (2 ^ nx)
@@ -16,6 +16,12 @@ full_law nx c i low within = elim (cases_lt 64 (2 ^ nx)) [
 
 pub few_words : (nx ny : ℕ) → ny ≤ 9 → row_words nx ≤ 8 → plane_words nx ny ≤ 2 ^ 12
 few_words nx ny small few = omega (arith, few, mul-le-mul_right (row_words nx) (power_grows ny 9 small))
+
+-- what two steps keep, one after another
+pub kept_both : {from past first end start last : ℕ} {old now new : List ℕ} → KeepsOutside first end old now
+    → KeepsOutside start last now new → (from ≤ first) × (end ≤ past) × (from ≤ start) × (last ≤ past)
+    → KeepsOutside from past old new
+kept_both one two within = grind arith
 
 -- what is in one of n rows, each of so many words, is before the next row, and apart from what is elsewhere
 pub plane_end : (b n plane : ℕ) → b < n → b * plane + plane ≤ n * plane

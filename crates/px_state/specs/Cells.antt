@@ -1,26 +1,16 @@
 -- The parts of a state whose bits are in words. Only proofs and private functions stand on it.
-use Rattle.std.specs.Prelude.{◌≡◌, ℕ, ◌+◌, ◌*◌, ◌^◌, ◌<◌, ◌≤◌, ◌&&◌, Bool, List, get_or, length, nat_lt, slice_index_or}
-use Rattle.std.specs.Prelude.{if◌then◌else◌}
+use Rattle.std.specs.Prelude.{◌≡◌, ℕ, ◌+◌, ◌*◌, ◌^◌, ◌<◌, ◌≤◌, ◌⊎◌, ◌&&◌, Bool, List, get_or, length, nat_lt}
+use Rattle.std.specs.Prelude.{if◌then◌else◌, slice_index_or}
 use Rattle.px_num.specs.Bits.{bit_at, nat_bit}
 use Rattle.px_array.specs.Arrays.{HasGrid, State, no_pixel}
 use Rattle.px_array.specs.Pixels.{PixelState, zero_pixel}
 use Rattle.px_array.specs.declared.act.Act.{Act}
 use Rattle.px_planes.specs.Pixels.{acted_at}
 use Rattle.px_rows.specs.Rows.{row_bit}
-use Rattle.px_tree.specs.Nodes.{IsGrid, TreeState}
-use Rattle.px_state.specs.Words.{IsNodeWord, IsPixel, node_words, padded_leaf, plane_words, row_words, word_bit}
+use Rattle.px_tree.specs.Nodes.{TreeState}
+use Rattle.px_state.specs.Words.{IsNodeWord, IsPixel, padded_leaf, row_words, word_bit}
 use Rattle.px_state.specs.declared.shape.Shape.{Shape}
 use Rattle.px_state.specs.declared.acting.Cells.{Cells}
-
--- a shape is that of a grid, and `full` has 1 in each word of a plane where a pixel stands
-pub record IsShape (shape : Shape) : Type 0 where
-  pub bits : shape.bits ≤ 256
-  pub grid : IsGrid shape.nx shape.ny
-  pub plane : shape.plane ≡ plane_words shape.nx shape.ny
-  pub few_words : shape.plane ≤ 2 ^ 12
-  pub nodes : shape.nodes ≡ node_words shape.nx shape.ny
-  pub few_nodes : shape.nodes ≤ 2 ^ 13
-  pub full : (c i : ℕ) → c < row_words shape.nx → i < 64 → nat_bit shape.full i ≡ nat_lt (64 * c + i) (2 ^ shape.nx)
 
 -- a shape has the columns and rows of a tree
 pub record IsShapeOf (shape : Shape) (tree : TreeState) : Type 0 where
@@ -33,6 +23,15 @@ leaves_at shape = (shape.bits + 3) * shape.plane
 
 abbrev pub nodes_at : Shape → ℕ
 nodes_at shape = (shape.bits + 4) * shape.plane
+
+-- how many words a state has: those of the nodes are the last
+abbrev pub nodes_end : Shape → ℕ
+nodes_end shape = nodes_at shape + 2 * shape.nodes
+
+-- only words from one place to before another may have changed, and there are as many as before
+pub record KeepsOutside (from past : ℕ) (old new : List ℕ) : Type 0 where
+  pub others : (k : ℕ) → (k < from) ⊎ (past ≤ k) → get_or new k 0 ≡ get_or old k 0
+  pub length : length new ≡ length old
 
 -- a memory bit and the registers of a pixel, at bit i of the cells
 pub record IsCell (at i : ℕ) (cells : Cells) (p : PixelState) : Type 0 where

@@ -4,7 +4,7 @@ ghost use Rattle.std.specs.Bool.{beq};
 ghost use Rattle.px_num.specs.Bits.{nat_bit};
 ghost use Rattle.px_array.specs.Pixels.{PixelState};
 ghost use Rattle.px_planes.specs.Pixels.{acted_at};
-ghost use Rattle.px_state.specs.Cells.{IsActed, IsCell, IsShape, leaves_at, nodes_at};
+ghost use Rattle.px_state.specs.Cells.{IsActed, IsCell, KeepsOutside, leaves_at, nodes_at};
 ghost use Rattle.px_state.specs.Packing.{memory_place};
 
 use crate::packing::place_of;
@@ -24,12 +24,10 @@ pub(crate) struct Cells {
 
 /// Makes every pixel do an act, by its leaf.
 pub(crate) fn act_all(words: &mut [u64], shape: &Shape, act: &Act)
-    requires shape { IsShape shape.now }
     requires place { memory_place act.now < shape.now.bits }
     requires room { nodes_at shape.now ≤ length words.old }
     ensures acted { (k : ℕ) → k < shape.now.plane → IsActed shape.now act.now k words.old words.new }
-    ensures behind { (j : ℕ) → leaves_at shape.now ≤ j → get_or words.new j 0 ≡ get_or words.old j 0 }
-    ensures length { length words.new ≡ length words.old }
+    ensures kept { KeepsOutside 0 (leaves_at shape.now) words.old words.new }
 {
     for k in 0..shape.plane {
         act_word(words, shape, k, act);
@@ -38,15 +36,13 @@ pub(crate) fn act_all(words: &mut [u64], shape: &Shape, act: &Act)
 
 /// Makes the pixels of word `k` of each plane do an act, by their leaves.
 fn act_word(words: &mut [u64], shape: &Shape, k: usize, act: &Act)
-    requires shape { IsShape shape.now }
     requires place { memory_place act.now < shape.now.bits }
     requires room { nodes_at shape.now ≤ length words.old }
     requires within { k < shape.now.plane }
     ensures acted { IsActed shape.now act.now k words.old words.new }
     ensures others { (b j : ℕ) → j < shape.now.plane → j ≢ k
         → get_or words.new (b * shape.now.plane + j) 0 ≡ get_or words.old (b * shape.now.plane + j) 0 }
-    ensures behind { (j : ℕ) → leaves_at shape.now ≤ j → get_or words.new j 0 ≡ get_or words.old j 0 }
-    ensures length { length words.new ≡ length words.old }
+    ensures kept { KeepsOutside 0 (leaves_at shape.now) words.old words.new }
 {
     let at = place_of(act) as usize;
     let old = Cells {
@@ -61,7 +57,6 @@ fn act_word(words: &mut [u64], shape: &Shape, k: usize, act: &Act)
 
 /// Writes word `k` of the planes that an act may change.
 fn put_cells(words: &mut [u64], shape: &Shape, at: usize, k: usize, cells: Cells)
-    requires shape { IsShape shape.now }
     requires place { at < shape.now.bits }
     requires room { nodes_at shape.now ≤ length words.old }
     requires within { k < shape.now.plane }

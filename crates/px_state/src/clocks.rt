@@ -1,9 +1,9 @@
 //! Clocks of a state where its words stand.
-ghost use Rattle.std.specs.Prelude.{◌≡◌, ◌≤◌, ◌<◌, None, Some, IfErr, OnErr, OnOk, get_or, length, ℕ};
+ghost use Rattle.std.specs.Prelude.{◌≡◌, ◌≤◌, ◌<◌, None, Some, IfErr, OnErr, OnOk, length};
 ghost use Rattle.px_array.specs.Clocks.{acted, after_clock};
 ghost use Rattle.px_array.specs.Arrays.{HasGrid, State};
 ghost use Rattle.px_tree.specs.Nodes.{IsGrid};
-ghost use Rattle.px_state.specs.Cells.{HoldsNodes, HoldsPixels, HoldsPixelsAndNodes, IsShape, nodes_at};
+ghost use Rattle.px_state.specs.Cells.{HoldsNodes, HoldsPixels, HoldsPixelsAndNodes, KeepsOutside, nodes_at, nodes_end};
 ghost use Rattle.px_state.specs.Clocking.{AreClocked, first_stray};
 ghost use Rattle.px_state.specs.Packing.{memory_place};
 ghost use Rattle.px_state.specs.Words.{room_of};
@@ -48,9 +48,8 @@ pub fn make_clocks(
 /// Makes a clock of each micro, of which each word is one. The plane of leaves is written once after them.
 #[tactic(auto, using(crate::proofs::ClockedLemmas::one_more))]
 fn clock_all(words: &mut [u64], shape: &Shape, micros: &[u64])
-    requires shape { IsShape shape.now }
     requires some { 1 ≤ shape.now.bits }
-    requires room { room_of shape.now.bits shape.now.nx shape.now.ny ≤ length words.old }
+    requires room { nodes_end shape.now ≤ length words.old }
     requires all { first_stray shape.now.bits micros.now ≡ None }
     ensures clocked { AreClocked shape.now.bits shape.now.nx shape.now.ny micros.now words.old words.new }
     ensures length { length words.new ≡ length words.old }
@@ -70,14 +69,11 @@ fn first_stray(micros: &[u64], bits: usize) -> Option<usize>
 
 /// One clock, of which the plane of leaves is not written.
 fn clock(words: &mut [u64], shape: &Shape, m: &Micro)
-    requires shape { IsShape shape.now }
     requires place { memory_place m.now.act < shape.now.bits }
-    requires room { room_of shape.now.bits shape.now.nx shape.now.ny ≤ length words.old }
+    requires room { nodes_end shape.now ≤ length words.old }
     ensures clocked { (s : State) → HoldsPixelsAndNodes shape.now s words.old
         → HoldsPixelsAndNodes shape.now (after_clock m.now s) words.new }
-    ensures behind { (j : ℕ) → room_of shape.now.bits shape.now.nx shape.now.ny ≤ j
-        → get_or words.new j 0 ≡ get_or words.old j 0 }
-    ensures length { length words.new ≡ length words.old }
+    ensures kept { KeepsOutside 0 (nodes_end shape.now) words.old words.new }
 {
     act_by_nodes(words, shape, &m.act);
     move_nodes(words, shape, m.tree);
@@ -85,14 +81,12 @@ fn clock(words: &mut [u64], shape: &Shape, m: &Micro)
 
 /// Makes every pixel do an act, by the nodes. Most acts of an operation are `nop`, for which no leaf is written.
 fn act_by_nodes(words: &mut [u64], shape: &Shape, act: &Act)
-    requires shape { IsShape shape.now }
     requires place { memory_place act.now < shape.now.bits }
-    requires room { room_of shape.now.bits shape.now.nx shape.now.ny ≤ length words.old }
+    requires room { nodes_end shape.now ≤ length words.old }
     ensures pixels { (s : State) → HasGrid shape.now.bits shape.now.nx shape.now.ny s
         → HoldsPixels shape.now s.pixels words.old → HoldsNodes shape.now s.tree words.old
         → HoldsPixels shape.now (acted act.now s.tree s.pixels) words.new }
-    ensures behind { (j : ℕ) → nodes_at shape.now ≤ j → get_or words.new j 0 ≡ get_or words.old j 0 }
-    ensures length { length words.new ≡ length words.old }
+    ensures kept { KeepsOutside 0 (nodes_at shape.now) words.old words.new }
 {
     match act {
         Act::Nop => {}
@@ -102,14 +96,12 @@ fn act_by_nodes(words: &mut [u64], shape: &Shape, act: &Act)
 
 /// Writes the plane of leaves, and makes every pixel do an act by them.
 fn act_by_leaves(words: &mut [u64], shape: &Shape, act: &Act)
-    requires shape { IsShape shape.now }
     requires place { memory_place act.now < shape.now.bits }
-    requires room { room_of shape.now.bits shape.now.nx shape.now.ny ≤ length words.old }
+    requires room { nodes_end shape.now ≤ length words.old }
     ensures pixels { (s : State) → HasGrid shape.now.bits shape.now.nx shape.now.ny s
         → HoldsPixels shape.now s.pixels words.old → HoldsNodes shape.now s.tree words.old
         → HoldsPixels shape.now (acted act.now s.tree s.pixels) words.new }
-    ensures behind { (j : ℕ) → nodes_at shape.now ≤ j → get_or words.new j 0 ≡ get_or words.old j 0 }
-    ensures length { length words.new ≡ length words.old }
+    ensures kept { KeepsOutside 0 (nodes_at shape.now) words.old words.new }
 {
     write_leaves(words, shape);
     act_all(words, shape, act);

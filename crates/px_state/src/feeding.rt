@@ -2,7 +2,7 @@
 ghost use Rattle.std.specs.Prelude.{◌≡◌, ◌≤◌, ◌<◌, ◌+◌, ◌*◌, ◌/◌, ◌%◌, ◌^◌, ◌==◌, ℕ, cond, nat_lt};
 ghost use Rattle.px_num.specs.Bits.{nat_bit};
 ghost use Rattle.px_tree.specs.Nodes.{TreeState, after_feed, next_node};
-ghost use Rattle.px_state.specs.Cells.{IsShape, IsShapeOf};
+ghost use Rattle.px_state.specs.Cells.{IsShapeOf};
 ghost use Rattle.px_state.specs.Words.{IsNodeWord};
 
 use crate::nodes::{ones_below, places};
@@ -23,7 +23,6 @@ pub(crate) fn fed_word(
     parents: u64,
     carry: u64,
 ) -> (u64, u64)
-    requires shape { IsShape shape.now }
     requires within { w < shape.now.nodes }
     ensures output { (tree : TreeState) → IsShapeOf shape.now tree → IsNodeWord (λ n. n.output) tree (w / 2) parents
         → IsNodeWord (λ n. n.carry) tree w carry
@@ -65,7 +64,6 @@ fn parents_of(word: u64, w: usize, c: bool) -> u64
 
 /// The lines of the nodes in word `w`.
 fn line_word(shape: &Shape, w: usize, lines: Lines) -> u64
-    requires shape { IsShape shape.now }
     requires within { w < shape.now.nodes }
     ensures { (j : ℕ) → j < 64 → nat_bit result j
         ≡ cond (nat_lt (64 * w + j) (2 ^ (shape.now.nx + 1))) lines.a lines.b }

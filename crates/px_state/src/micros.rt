@@ -20,12 +20,12 @@ pub(crate) fn put_course(course: &Broadcast<'_>, first: u64, micros: &mut [u64])
     ensures micros { HasMicros (listing_in course.now) first micros.new }
     ensures length { length micros.new ≡ length micros.old }
 {
-    let (nx, ny) = course.grid();
+    let grid = course.grid();
     let end = first + micros.len() as u64;
     let mut mark = course.start();
     let mut start = 0;
     while let Some(m) = course.next_macro(&mut mark) {
-        start = put_micros(&m, nx, ny, start, first, micros);
+        start = put_micros(&m, grid, start, first, micros);
         if end <= start {
             return;
         }
@@ -34,18 +34,19 @@ pub(crate) fn put_course(course: &Broadcast<'_>, first: u64, micros: &mut [u64])
 
 /// Writes those micros of an operation that begins at the clock `start` which lie in a list of micros
 /// from the clock `first` on, and answers the clock at which it ends.
-fn put_micros(m: &Macro, nx: u32, ny: u32, start: u64, first: u64, micros: &mut [u64]) -> u64
+fn put_micros(m: &Macro, grid: (u32, u32), start: u64, first: u64, micros: &mut [u64]) -> u64
     requires lawful { IsLawful m.now 256 }
-    requires grid { IsGrid nx ny }
+    requires grid { IsGrid grid.0 grid.1 }
     requires first { first + length micros.old < 2 ^ 63 }
     requires start { start < 2 ^ 63 }
-    ensures end { result ≡ start + cycles_of m.now nx ny }
+    ensures end { result ≡ start + cycles_of m.now grid.0 grid.1 }
     ensures put { (j : ℕ) → j < length micros.old → start ≤ first + j
-        → first + j < start + cycles_of m.now nx ny
-        → get_or micros.new j 0 ≡ packed (micro_of m.now nx ny (first + j - start)) }
+        → first + j < start + cycles_of m.now grid.0 grid.1
+        → get_or micros.new j 0 ≡ packed (micro_of m.now grid.0 grid.1 (first + j - start)) }
     ensures kept { (j : ℕ) → first + j < start → get_or micros.new j 0 ≡ get_or micros.old j 0 }
     ensures length { length micros.new ≡ length micros.old }
 {
+    let (nx, ny) = grid;
     let end = start + u64::from(cycles(m, nx, ny));
     let low = first.max(start);
     let high = end.min(first + micros.len() as u64);

@@ -27,6 +27,15 @@ use px_model::Scene;
 use px_prune::Plan;
 use px_sched::{Layout, Step, StepCursor};
 
+/// A step of a scene's passes, what it is for, its first operation and the clock at which that begins.
+#[derive(Clone, Copy)]
+struct Begun<'a> {
+    step: Step,
+    purpose: &'a Operation,
+    operation: u64,
+    clock: u64,
+}
+
 /// Writes the operations of what is broadcast from one on, where there are as many.
 pub(crate) fn put_course(course: &Broadcast<'_>, first: u64, list: &mut [Operation])
     requires within { first + length list.old ≤ length (listing_in course.now).macros }
@@ -80,56 +89,57 @@ fn put_passes(scene: &Scene, plan: &Plan, layout: &Layout, first: u64, list: &mu
     let mut begin = (0, 0);
     while let Some(step) = cursor.next_step(scene, plan) {
         let purpose = purpose_of(scene, step, cursor.given - 1, cursor.literals);
-        begin = put_step(scene, layout, step, &purpose, begin, first, list);
+        let begun = Begun {
+            step,
+            purpose: &purpose,
+            operation: begin.0,
+            clock: begin.1,
+        };
+        begin = put_step(scene, layout, &begun, first, list);
         if end <= begin.0 {
             return;
         }
     }
 }
 
-/// Writes those operations of a step which lie in a list of them from one on.
-///
-/// The first of the step stands at a place among all operations and begins at a clock, and what is
-/// answered is where those after the step begin.
+/// Writes those operations of a step which lie in a list of them from one on, and answers where those
+/// after the step begin, among all operations and at which clock.
 #[tactic(auto, using(px_control::proofs::StepLemmas::start_within, crate::proofs::SceneLemmas::same_total))]
 fn put_step(
     scene: &Scene,
     layout: &Layout,
-    step: Step,
-    purpose: &Operation,
-    begin: (u64, u64),
+    begun: &Begun<'_>,
     first: u64,
     list: &mut [Operation],
 ) -> (u64, u64)
     requires layout { layout.now ≡ layout_of scene.now }
     requires good { IsGoodProgram scene.now }
-    requires faces { IsStep scene.now step }
-    requires here { slice_get (steps scene.now) purpose.now.pass ≡ Some step }
-    requires purpose { purpose.now ≡ purpose_of scene.now step purpose.now.pass
-        (literals_in (take (purpose.now.pass + 1) (steps scene.now))) }
-    requires operation { begin.0 ≡ operations_before scene.now purpose.now.pass }
-    requires clock { begin.1 ≡ start_in_listing (passes_listing scene.now) begin.0 }
-    requires put { IsPutTo (IsPassed scene.now) first begin.0 list.old }
-    ensures operation { result.0 ≡ operations_before scene.now (purpose.now.pass + 1) }
+    requires faces { IsStep scene.now begun.now.step }
+    requires here { slice_get (steps scene.now) begun.now.purpose.now.pass ≡ Some begun.now.step }
+    requires purpose { begun.now.purpose.now ≡ purpose_of scene.now begun.now.step begun.now.purpose.now.pass
+        (literals_in (take (begun.now.purpose.now.pass + 1) (steps scene.now))) }
+    requires operation { begun.now.operation ≡ operations_before scene.now begun.now.purpose.now.pass }
+    requires clock { begun.now.clock ≡ start_in_listing (passes_listing scene.now) begun.now.operation }
+    requires put { IsPutTo (IsPassed scene.now) first begun.now.operation list.old }
+    ensures operation { result.0 ≡ operations_before scene.now (begun.now.purpose.now.pass + 1) }
     ensures clock { result.1 ≡ start_in_listing (passes_listing scene.now) result.0 }
     ensures put { IsPutTo (IsPassed scene.now) first result.0 list.new }
     ensures length { length list.new ≡ length list.old }
 {
     let (nx, ny) = scene.grid();
-    let (operation, start) = begin;
-    let count = step.count(scene);
-    let mut clock = start;
+    let count = begun.step.count(scene);
+    let mut clock = begun.clock;
     for at in 0..count {
-        let m = step.operation(scene, layout, at);
+        let m = begun.step.operation(scene, layout, at);
         put(
-            &told(&m, clock, purpose),
-            operation + at as u64,
+            &told(&m, clock, begun.purpose),
+            begun.operation + at as u64,
             first,
             list,
         );
         clock += u64::from(cycles(&m, nx, ny));
     }
-    (operation + count as u64, clock)
+    (begun.operation + count as u64, clock)
 }
 
 /// Puts operation `k` where it belongs in a list of those from one on.

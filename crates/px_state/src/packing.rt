@@ -1,5 +1,5 @@
 //! A micro in one word.
-ghost use Rattle.std.specs.Prelude.{◌≡◌, ◌<◌, ◌≤◌};
+ghost use Rattle.std.specs.Prelude.{◌≡◌, ◌<◌};
 ghost use Rattle.px_state.specs.Packing.{
   AreUnpacked,
   FieldsTellTheMicro,

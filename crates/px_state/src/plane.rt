@@ -1,7 +1,7 @@
 //! A plane of a state by the columns of an array, 64 by 64 bits at once.
-ghost use Rattle.std.specs.Prelude.{◌≡◌, ◌≢◌, ◌≤◌, ◌<◌, ◌+◌, ◌*◌, ◌/◌, ◌%◌, ◌^◌, ◌⊎◌, ℕ, get_or, length};
+ghost use Rattle.std.specs.Prelude.{◌≡◌, ◌≢◌, ◌≤◌, ◌<◌, ◌+◌, ◌*◌, ◌/◌, ◌%◌, ◌^◌, ℕ, get_or, length};
 ghost use Rattle.px_num.specs.Bits.{nat_bit};
-ghost use Rattle.px_state.specs.Cells.{HasPlane, IsShape, placed};
+ghost use Rattle.px_state.specs.Cells.{HasPlane, KeepsOutside, placed};
 ghost use Rattle.px_state.specs.Words.{row_words};
 
 use crate::shape::Shape;
@@ -11,13 +11,11 @@ use px_num::power;
 
 /// Writes the plane that begins at word `first`, by a row of columns from its column `from` on.
 pub(crate) fn write_plane(words: &mut [u64], first: usize, shape: &Shape, row: &[u64], from: usize)
-    requires shape { IsShape shape.now }
     requires room { first + shape.now.plane ≤ length words.old }
     requires from { from ≤ 2 ^ 9 }
     requires row { (from + 2 ^ shape.now.nx) * 2 ^ shape.now.ny ≤ 64 * length row.now }
     ensures plane { HasPlane shape.now first (placed shape.now row.now from) words.new }
-    ensures others { (k : ℕ) → (k < first) ⊎ (first + shape.now.plane ≤ k) → get_or words.new k 0 ≡ get_or words.old k 0 }
-    ensures length { length words.new ≡ length words.old }
+    ensures kept { KeepsOutside first (first + shape.now.plane) words.old words.new }
 {
     let each = row_words(shape.nx);
     for b in 0..row_words(shape.ny) * each {
@@ -29,7 +27,6 @@ pub(crate) fn write_plane(words: &mut [u64], first: usize, shape: &Shape, row: &
 /// The bits of 64 columns from column `64 * c` on, in the rows from row `64 * w` on, a column in each word.
 #[tactic(auto, using(px_num::proofs::TruthLaws::power_grows))]
 fn block_of(row: &[u64], shape: &Shape, from: usize, w: usize, c: usize) -> [u64; 64]
-    requires shape { IsShape shape.now }
     requires from { from ≤ 2 ^ 9 }
     requires row { (from + 2 ^ shape.now.nx) * 2 ^ shape.now.ny ≤ 64 * length row.now }
     requires rows { 64 * w < 2 ^ shape.now.ny }
@@ -47,7 +44,6 @@ fn block_of(row: &[u64], shape: &Shape, from: usize, w: usize, c: usize) -> [u64
 /// The bits of column `x` from row `64 * w` on; past the last column 0.
 #[inline(always)]
 fn column_word(row: &[u64], shape: &Shape, from: usize, w: usize, x: usize) -> u64
-    requires shape { IsShape shape.now }
     requires from { from ≤ 2 ^ 9 }
     requires row { (from + 2 ^ shape.now.nx) * 2 ^ shape.now.ny ≤ 64 * length row.now }
     requires rows { 64 * w < 2 ^ shape.now.ny }
@@ -65,7 +61,6 @@ fn column_word(row: &[u64], shape: &Shape, from: usize, w: usize, x: usize) -> u
 
 /// Puts block `b` of a plane at its place: of the blocks from left to right, and these from row 0 on.
 fn put_block(words: &mut [u64], first: usize, shape: &Shape, b: usize, block: &[u64; 64])
-    requires shape { IsShape shape.now }
     requires room { first + shape.now.plane ≤ length words.old }
     requires block { 64 * (b / row_words shape.now.nx) < 2 ^ shape.now.ny }
     ensures put { (y : ℕ) → y < 2 ^ shape.now.ny → y / 64 ≡ b / row_words shape.now.nx

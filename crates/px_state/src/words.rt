@@ -1,9 +1,9 @@
 //! The state of an array as words.
-ghost use Rattle.std.specs.Prelude.{◌≡◌, ℕ, ◌+◌, ◌*◌, ◌^◌, ◌<◌, ◌≤◌, get_or, length};
+ghost use Rattle.std.specs.Prelude.{◌≡◌, ℕ, ◌+◌, ◌*◌, ◌^◌, ◌<◌, ◌≤◌, length};
 ghost use Rattle.px_num.specs.Bits.{bit_at};
 ghost use Rattle.px_array.specs.Arrays.{IsOpen};
 ghost use Rattle.px_tree.specs.Nodes.{IsGrid};
-ghost use Rattle.px_state.specs.Cells.{HasPlane, IsShape, IsShapeOf, pixel_here};
+ghost use Rattle.px_state.specs.Cells.{HasPlane, IsShapeOf, KeepsOutside, pixel_here};
 ghost use Rattle.px_state.specs.Words.{BeginsWithState, node_words, plane_words, room_of, row_words};
 
 use crate::nodes::{write_leaves, write_nodes};
@@ -85,14 +85,12 @@ fn write_grid<const N: usize>(words: &mut [u64], grid: &PlaneGrid<N>)
 
 /// Writes the planes of memory.
 fn write_memory<const N: usize>(words: &mut [u64], shape: &Shape, grid: &PlaneGrid<N>)
-    requires shape { IsShape shape.now }
     requires bits { shape.now.bits ≡ N }
     requires size { IsShapeOf shape.now grid.now.state.tree }
     requires room { shape.now.bits * shape.now.plane ≤ length words.old }
     ensures memory { (b : ℕ) → b < shape.now.bits → HasPlane shape.now (b * shape.now.plane)
         (λ x y. bit_at (pixel_here shape.now grid.now.state.pixels x y).memory b) words.new }
-    ensures behind { (k : ℕ) → shape.now.bits * shape.now.plane ≤ k → get_or words.new k 0 ≡ get_or words.old k 0 }
-    ensures length { length words.new ≡ length words.old }
+    ensures kept { KeepsOutside 0 (shape.now.bits * shape.now.plane) words.old words.new }
 {
     for at in 0..shape.bits {
         write_plane(words, at * shape.plane, shape, grid.row(at as u32), 0);

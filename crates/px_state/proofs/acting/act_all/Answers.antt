@@ -1,5 +1,6 @@
 use Rattle.px_state.proofs.Cited.{ap, arith, cases_eq, inl, inr, leaves_at, nat_bit, sym, ◌+◌, ◌<◌, ◌∙◌}
 use Rattle.px_state.proofs.ActingLemmas.{same_pixel}
+use Rattle.px_state.proofs.ShapeLemmas.{kept_both}
 use Rattle.px_state.proofs.acting.act_all.Goals as goal
 
 pub loop-k-preserved : goal.loop-k-preserved
@@ -13,7 +14,7 @@ loop-k-preserved c =
     record {
       done = λ j low i p bit long is. elim (cases_eq j k) [
         | inl same ↦
-            let leaf = ap (λ w. nat_bit w i) (before.behind (leaves_at shape + k) (omega arith)) in
+            let leaf = ap (λ w. nat_bit w i) (before.kept.others (leaves_at shape + k) (inr (omega arith))) in
             rw (same, sym leaf) (act.acted i p bit long (same_pixel shape.bits plane k i c.args.words.now c.loop-k.words p
             (λ b below. before.rest b k (omega arith) in_plane) (rw same at is)))
         | inr other ↦
@@ -22,6 +23,5 @@ loop-k-preserved c =
             (λ b below. act.others b j within other) (before.done j (omega (arith, low, other)) i p bit long is)
       ];
       rest = λ b j high within. act.others b j within (omega (arith, high)) ∙ before.rest b j (omega (arith, high)) within;
-      behind = λ j past. act.behind j past ∙ before.behind j past;
-      same = act.length ∙ before.same;
+      kept = kept_both before.kept act.kept (omega arith);
     }

@@ -1,4 +1,4 @@
-use Rattle.px_state.proofs.Cited.{get_or, IsActed, leaves_at, length, ℕ, ◌*◌, ◌+◌, ◌<◌, ◌≡◌, ◌≤◌}
+use Rattle.px_state.proofs.Cited.{get_or, IsActed, KeepsOutside, leaves_at, ℕ, ◌*◌, ◌+◌, ◌<◌, ◌≡◌, ◌≤◌}
 use Rattle.px_state.proofs.acting.act_all.Given as goal
 
 abbrev pub invariant-loop-k : goal.invariant-loop-k
@@ -6,6 +6,5 @@ invariant-loop-k l = record {
   done : (k : ℕ) → k < l.k → IsActed l.shape l.act k l.fn.words l.words;
   rest : (b k : ℕ) → l.k ≤ k → k < l.shape.plane
       → get_or l.words (b * l.shape.plane + k) 0 ≡ get_or l.fn.words (b * l.shape.plane + k) 0;
-  behind : (j : ℕ) → leaves_at l.shape ≤ j → get_or l.words j 0 ≡ get_or l.fn.words j 0;
-  same : length l.words ≡ length l.fn.words;
+  kept : KeepsOutside 0 (leaves_at l.shape) l.fn.words l.words;
 }

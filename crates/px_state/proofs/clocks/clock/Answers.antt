@@ -1,4 +1,4 @@
-use Rattle.px_state.proofs.Cited.{arith, grid_after_clock, inl, IsShapeOf}
+use Rattle.px_state.proofs.Cited.{arith, grid_after_clock, IsShapeOf}
 use Rattle.px_state.proofs.ActingLemmas.{kept_pixels}
 use Rattle.px_state.proofs.ClockedLemmas.{kept_nodes}
 use Rattle.px_state.proofs.clocks.clock.Goals as goal
@@ -13,7 +13,7 @@ returns-clause-clocked c = λ s held.
     let size : IsShapeOf shape s.tree = record { columns = held.grid.columns; rows = held.grid.rows } in
     record {
       grid = grid_after_clock shape.bits shape.nx shape.ny m s held.grid;
-      pixels = kept_pixels shape _ done c.move_nodes.new.words c.requires.shape
-          (λ j low. moved.others j (inl (omega (arith, low)))) (act.pixels s held.grid held.pixels held.nodes);
-      nodes = moved.nodes s.tree size (kept_nodes shape s.tree c.args.words.now done act.behind held.nodes);
+      pixels = kept_pixels shape _ _ _ done c.move_nodes.new.words moved.kept (omega arith)
+          (act.pixels s held.grid held.pixels held.nodes);
+      nodes = moved.nodes s.tree size (kept_nodes shape s.tree _ c.args.words.now done act.kept held.nodes);
     }

@@ -1,6 +1,6 @@
-use Rattle.px_state.proofs.Cited.{after_clocks, arith, common_steps, HoldsPixelsAndNodes, inr, map, State, subst}
-use Rattle.px_state.proofs.Cited.{take_all, ◌∙◌}
+use Rattle.px_state.proofs.Cited.{after_clocks, arith, common_steps, HoldsPixelsAndNodes, map, State, subst, take_all}
 use Rattle.px_state.proofs.ClockedLemmas.{but_leaves, has_words, none_stray, room_is, with_leaves}
+use Rattle.px_state.proofs.ShapeLemmas.{kept_both}
 use Rattle.px_state.proofs.PackingLemmas.{micro_only}
 use Rattle.px_state.specs.Packing.{micro_in}
 use Rattle.px_state.proofs.clocks.clock_all.Goals as goal
@@ -11,7 +11,6 @@ clock-requires-clause-place c = grind (arith, common_steps, none_stray, micro_on
 pub returns-clause-clocked : goal.returns-clause-clocked
 returns-clause-clocked c = λ s held.
     let shape = c.args.shape.now in
-    let is = c.requires.shape in
     let old = c.args.words.now in
     let new = c.write_leaves.new.words in
     let micros = c.args.micros.now in
@@ -20,9 +19,8 @@ returns-clause-clocked c = λ s held.
     let end : State = after_clocks (map micro_in micros) s in
     let inner : HoldsPixelsAndNodes shape end c.loop-word.words =
     subst (λ ms. HoldsPixelsAndNodes shape (after_clocks (map micro_in ms) s) c.loop-word.words)
-    (take_all c.loop-word.word-index micros c.loop-word-test.false) (before.clocked s (but_leaves shape s is old held)) in
+    (take_all c.loop-word.word-index micros c.loop-word-test.false) (before.clocked s (but_leaves shape s old held)) in
     has_words shape.bits shape.nx shape.ny end old new
-    (with_leaves shape end is c.loop-word.words new inner leaves.others
+    (with_leaves shape end c.loop-word.words new inner leaves.kept
     (leaves.leaves end.tree (record { columns = inner.grid.columns; rows = inner.grid.rows }) inner.nodes))
-    (leaves.length ∙ before.same)
-    (λ j past. leaves.others j (inr (omega (arith, past, room_is shape is))) ∙ before.behind j past)
+    (rw (room_is shape) (kept_both before.kept leaves.kept (omega arith)))

@@ -1,4 +1,5 @@
-use Rattle.px_state.proofs.Cited.{after_feed, ap, arith, inl, inr, nat_bit, nodes_at, ◌+◌, ◌-◌, ◌/◌, ◌<◌, ◌∙◌, ◌≡◌}
+use Rattle.px_state.proofs.Cited.{after_feed, ap, arith, nat_bit, nodes_at, ◌+◌, ◌-◌, ◌/◌, ◌<◌, ◌∙◌, ◌≡◌}
+use Rattle.px_state.proofs.ShapeLemmas.{kept_both}
 use Rattle.px_state.proofs.NodeLemmas.{one_more_word}
 use Rattle.px_state.proofs.nodes.feed_nodes.Goals as goal
 
@@ -34,7 +35,5 @@ loop-w-preserved c =
           ∙ before.outputs k (omega (arith, low));
       carries = λ k low. put.others (nodes_at shape + shape.nodes + k) (omega (arith, low, within)) (omega (arith, low))
           ∙ before.carries k (omega (arith, low));
-      others = λ j out. put.others j (elim out [ inl low ↦ omega arith | inr high ↦ omega (arith, within) ])
-          (elim out [ inl low ↦ omega arith | inr high ↦ omega (arith, within) ]) ∙ before.others j out;
-      same = put.length ∙ before.same;
+      kept = kept_both before.kept put.kept (omega arith);
     }

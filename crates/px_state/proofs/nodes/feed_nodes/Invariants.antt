@@ -1,5 +1,5 @@
-use Rattle.px_state.proofs.Cited.{after_feed, get_or, HoldsNodes, IsNodeWord, IsShapeOf, length, nodes_at, TreeState, ℕ}
-use Rattle.px_state.proofs.Cited.{◌*◌, ◌+◌, ◌<◌, ◌≡◌, ◌≤◌, ◌⊎◌}
+use Rattle.px_state.proofs.Cited.{after_feed, get_or, HoldsNodes, IsNodeWord, IsShapeOf, KeepsOutside, nodes_at}
+use Rattle.px_state.proofs.Cited.{nodes_end, TreeState, ℕ, ◌+◌, ◌<◌, ◌≡◌, ◌≤◌}
 use Rattle.px_state.proofs.nodes.feed_nodes.Given as goal
 
 abbrev pub invariant-loop-w : goal.invariant-loop-w
@@ -15,7 +15,5 @@ invariant-loop-w l = record {
   outputs : (k : ℕ) → k < l.w → get_or l.words (nodes_at l.shape + k) 0 ≡ get_or l.fn.words (nodes_at l.shape + k) 0;
   carries : (k : ℕ) → k < l.w → get_or l.words (nodes_at l.shape + l.shape.nodes + k) 0
       ≡ get_or l.fn.words (nodes_at l.shape + l.shape.nodes + k) 0;
-  others : (j : ℕ) → (j < nodes_at l.shape) ⊎ (nodes_at l.shape + 2 * l.shape.nodes ≤ j)
-      → get_or l.words j 0 ≡ get_or l.fn.words j 0;
-  same : length l.words ≡ length l.fn.words;
+  kept : KeepsOutside (nodes_at l.shape) (nodes_end l.shape) l.fn.words l.words;
 }

@@ -1,5 +1,5 @@
-use Rattle.px_state.proofs.Cited.{ap, arith, common_steps, get_or, get_or-append_right, get_or_append_left, IsNodeWord}
-use Rattle.px_state.proofs.Cited.{leaves_at, length, nat_bit, nodes_at, pow-add, row_words, sym, ℕ, ◌*◌}
+use Rattle.px_state.proofs.Cited.{ap, arith, common_steps, get_or, get_or-append_right, get_or_append_left}
+use Rattle.px_state.proofs.Cited.{IsNodeWord, leaves_at, length, nat_bit, nodes_at, pow-add, row_words, sym, ℕ, ◌*◌}
 use Rattle.px_state.proofs.Cited.{◌+◌, ◌-◌, ◌<◌, ◌^◌, ◌∙◌, ◌≡◌}
 use Rattle.px_state.proofs.NodeLemmas.{leaf_law}
 use Rattle.px_state.proofs.ShapeLemmas.{plane_end}
@@ -11,7 +11,6 @@ write_plane-requires-clause-row c = grind (arith, common_steps, pow-add)
 pub returns-clause-leaves : goal.returns-clause-leaves
 returns-clause-leaves c = λ tree size held y k i row low bit.
     let shape = c.args.shape.now in
-    let is = c.requires.shape in
     let cut = c.split_at_mut-planes in
     let new = c.write_plane.new.words in
     let nodes = cut.result.1.now in
@@ -19,7 +18,7 @@ returns-clause-leaves c = λ tree size held y k i row low bit.
     let place = leaves_at shape + (y * each + k) in
     let long : length cut.result.0.now ≡ nodes_at shape = cut.ensures.front_len ∙ c.start.ensures.start in
     let inside : place < length new =
-    omega (arith, long, c.write_plane.ensures.length, is.plane, low, plane_end y (2 ^ shape.ny) each row) in
+    omega (arith, long, c.write_plane.ensures.kept.length, shape.plane_is, low, plane_end y (2 ^ shape.ny) each row) in
     let outputs : (k : ℕ) → k < shape.nodes → IsNodeWord (λ n. n.output) tree k (get_or nodes k 0) =
     λ k within i bit.
     let back : nodes_at shape + k - nodes_at shape ≡ k = omega arith in
@@ -30,4 +29,4 @@ returns-clause-leaves c = λ tree size held y k i row low bit.
     ap (λ w. nat_bit w i) (sym read) ∙ held.output k within i bit in
     ap (λ w. nat_bit w i) (get_or_append_left new nodes 0 place inside)
     ∙ ((rw (c.start-first.ensures.start, c.power.ensures) at c.write_plane.ensures.plane) y k i row low bit
-    ∙ leaf_law shape tree size nodes is outputs (64 * k + i) y row)
+    ∙ leaf_law shape tree size nodes outputs (64 * k + i) y row)

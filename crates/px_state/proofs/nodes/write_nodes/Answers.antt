@@ -1,4 +1,5 @@
-use Rattle.px_state.proofs.Cited.{arith, inl, inr, nodes_at, ◌+◌, ◌<◌, ◌∙◌}
+use Rattle.px_state.proofs.Cited.{arith, nodes_at, ◌+◌, ◌<◌, ◌∙◌}
+use Rattle.px_state.proofs.ShapeLemmas.{kept_both}
 use Rattle.px_state.proofs.NodeLemmas.{latch_word, masked, one_more_word}
 use Rattle.px_state.proofs.nodes.write_nodes.Goals as goal
 
@@ -27,7 +28,5 @@ loop-w-preserved c =
           c.places-there.ensures (λ j bit some inside. latch_word tree (λ n. n.carry) c.args.carries.now w j is bit
           (rw (size.columns, size.rows) inside)) j bit)
           k (omega (arith, low, within)) (λ other. before.carry tree size is k (omega (arith, low, other)));
-      others = λ j out. put.others j (elim out [ inl low ↦ omega arith | inr high ↦ omega (arith, within) ])
-          (elim out [ inl low ↦ omega arith | inr high ↦ omega (arith, within) ]) ∙ before.others j out;
-      same = put.length ∙ before.same;
+      kept = kept_both before.kept put.kept (omega arith);
     }

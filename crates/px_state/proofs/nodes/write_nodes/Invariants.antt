@@ -1,5 +1,5 @@
-use Rattle.px_state.proofs.Cited.{get_or, IsLatch, IsNodeWord, IsShapeOf, length, nodes_at, TreeState, ℕ, ◌*◌, ◌+◌, ◌<◌}
-use Rattle.px_state.proofs.Cited.{◌≡◌, ◌≤◌, ◌⊎◌}
+use Rattle.px_state.proofs.Cited.{get_or, IsLatch, IsNodeWord, IsShapeOf, KeepsOutside, nodes_at, nodes_end}
+use Rattle.px_state.proofs.Cited.{TreeState, ℕ, ◌+◌, ◌<◌}
 use Rattle.px_state.proofs.nodes.write_nodes.Given as goal
 
 abbrev pub invariant-loop-w : goal.invariant-loop-w
@@ -8,7 +8,5 @@ invariant-loop-w l = record {
       → IsNodeWord (λ n. n.output) tree k (get_or l.words (nodes_at l.shape + k) 0);
   carry : (tree : TreeState) → IsShapeOf l.shape tree → IsLatch tree (λ n. n.carry) l.carries → (k : ℕ) → k < l.w
       → IsNodeWord (λ n. n.carry) tree k (get_or l.words (nodes_at l.shape + l.shape.nodes + k) 0);
-  others : (j : ℕ) → (j < nodes_at l.shape) ⊎ (nodes_at l.shape + 2 * l.shape.nodes ≤ j)
-      → get_or l.words j 0 ≡ get_or l.fn.words j 0;
-  same : length l.words ≡ length l.fn.words;
+  kept : KeepsOutside (nodes_at l.shape) (nodes_end l.shape) l.fn.words l.words;
 }

@@ -1,5 +1,5 @@
-use Rattle.px_state.proofs.Cited.{ap, arith, cases_lt, div-mul-add, inl, inr, mod-lt, mod-mul-add}
-use Rattle.px_state.proofs.Cited.{nat_bit, placed, row_words, sym, word_bit, ◌%◌, ◌*◌, ◌+◌, ◌/◌, ◌<◌, ◌^◌, ◌∙◌, ◌≡◌}
+use Rattle.px_state.proofs.Cited.{ap, arith, cases_lt, div-mul-add, inl, inr, mod-lt, mod-mul-add, nat_bit, placed}
+use Rattle.px_state.proofs.Cited.{row_words, sym, word_bit, ◌%◌, ◌*◌, ◌+◌, ◌/◌, ◌<◌, ◌^◌, ◌∙◌, ◌≡◌}
 use Rattle.px_state.proofs.PlaneLemmas.{block_is, same_place, some_words}
 use Rattle.px_state.proofs.ShapeLemmas.{plane_end}
 use Rattle.px_state.proofs.TurningLemmas.{turned_in}
@@ -33,13 +33,15 @@ loop-b-preserved c =
             ∙ (rw c.row_words-each.ensures.words at c.block_of.ensures) i (y % 64) within (omega arith) (omega (arith, whole, row))
             ∙ (ap (bit (64 * (b % each) + i)) whole ∙ ap (λ k. bit (64 * k + i) y) (sym there))))
       ];
-      others = λ k out. put.others k (λ v in_plane here same.
-          let end = plane_end v (2 ^ shape.ny) each in_plane in
-          elim out [
-            | inl low ↦ omega (arith, low, same)
-            | inr high ↦ omega (arith, high, same, end, column, c.requires.shape.plane)
-          ]) ∙ before.others k out;
-      same = put.length ∙ before.same;
+      kept = record {
+        others = λ k out. put.others k (λ v in_plane here same.
+            let end = plane_end v (2 ^ shape.ny) each in_plane in
+            elim out [
+              | inl low ↦ omega (arith, low, same)
+              | inr high ↦ omega (arith, high, same, end, column, shape.plane_is)
+            ]) ∙ before.kept.others k out;
+        length = put.length ∙ before.kept.length;
+      };
     }
 
 pub returns-clause-plane : goal.returns-clause-plane

@@ -1,5 +1,4 @@
-use Rattle.px_state.proofs.Cited.{get_or, length, placed, row_words, word_bit, ℕ, ◌*◌, ◌+◌, ◌/◌, ◌<◌, ◌^◌, ◌≡◌, ◌≤◌}
-use Rattle.px_state.proofs.Cited.{◌⊎◌}
+use Rattle.px_state.proofs.Cited.{KeepsOutside, placed, row_words, word_bit, ℕ, ◌*◌, ◌+◌, ◌/◌, ◌<◌, ◌^◌, ◌≡◌}
 use Rattle.px_state.proofs.plane.write_plane.Given as goal
 
 abbrev pub invariant-loop-b : goal.invariant-loop-b
@@ -8,6 +7,5 @@ invariant-loop-b l =
     record {
       done : (y c i : ℕ) → y < 2 ^ l.shape.ny → c < each → i < 64 → y / 64 * each + c < l.b
           → word_bit l.words (l.first + (y * each + c)) i ≡ placed l.shape l.row l.from (64 * c + i) y;
-      others : (k : ℕ) → (k < l.first) ⊎ (l.first + l.shape.plane ≤ k) → get_or l.words k 0 ≡ get_or l.fn.words k 0;
-      same : length l.words ≡ length l.fn.words;
+      kept : KeepsOutside l.first (l.first + l.shape.plane) l.fn.words l.words;
     }

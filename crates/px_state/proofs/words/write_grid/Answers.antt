@@ -1,36 +1,24 @@
-use Rattle.px_state.proofs.Cited.{ap, arith, HoldsNodes, HoldsWords, inl, inr, IsShapeOf, length, nat_bit, nodes_at}
-use Rattle.px_state.proofs.Cited.{PixelState, refl, room_of, row_words, subst, sym, ◌*◌, ◌+◌, ◌<◌, ◌^◌, ◌∙◌, ◌≡◌}
-use Rattle.px_state.proofs.ClockedLemmas.{room_is, same_behind, whole_of}
-use Rattle.px_state.proofs.RegisterLemmas.{placed_register, row_room}
-use Rattle.px_state.proofs.ShapeLemmas.{plane_end}
+use Rattle.px_state.proofs.Cited.{ap, arith, common_steps, HoldsWords, inl, IsShapeOf, KeepsOutside, leaves_at}
+use Rattle.px_state.proofs.Cited.{nat_bit, nodes_end, PixelState, pow-add, refl, room_of, row_words, subst, sym, ◌*◌}
+use Rattle.px_state.proofs.Cited.{◌+◌, ◌<◌, ◌^◌, ◌∙◌, ◌≡◌}
+use Rattle.px_state.proofs.ClockedLemmas.{kept_nodes, room_is, same_behind, whole_of}
+use Rattle.px_state.proofs.RegisterLemmas.{placed_register}
+use Rattle.px_state.proofs.ShapeLemmas.{kept_both, plane_end}
 use Rattle.px_state.proofs.words.write_grid.Goals as goal
 
 pub write_plane-requires-clause-row : goal.write_plane-requires-clause-row
-write_plane-requires-clause-row g c =
-    row_room c.of-shape.result c.args.grid.now.state.tree (length c.register_rows.result.0.now) (record {
-      columns = sym (rw c.size-nx.ensures.size at c.of-shape.ensures.columns);
-      rows = sym (rw c.size-nx.ensures.size at c.of-shape.ensures.rows);
-    }) c.register_rows.ensures.enable.words
+write_plane-requires-clause-row g c = grind (arith, common_steps, pow-add)
 
 pub write_plane-requires-2-clause-row : goal.write_plane-requires-2-clause-row
-write_plane-requires-2-clause-row g c =
-    row_room c.of-shape.result c.args.grid.now.state.tree (length c.register_rows.result.1.now) (record {
-      columns = sym (rw c.size-nx.ensures.size at c.of-shape.ensures.columns);
-      rows = sym (rw c.size-nx.ensures.size at c.of-shape.ensures.rows);
-    }) c.register_rows.ensures.carry.words
+write_plane-requires-2-clause-row g c = grind (arith, common_steps, pow-add)
 
 pub write_plane-requires-3-clause-row : goal.write_plane-requires-3-clause-row
-write_plane-requires-3-clause-row g c =
-    row_room c.of-shape.result c.args.grid.now.state.tree (length c.register_rows.result.2.now) (record {
-      columns = sym (rw c.size-nx.ensures.size at c.of-shape.ensures.columns);
-      rows = sym (rw c.size-nx.ensures.size at c.of-shape.ensures.rows);
-    }) c.register_rows.ensures.latch.words
+write_plane-requires-3-clause-row g c = grind (arith, common_steps, pow-add)
 
 pub returns-clause-words : goal.returns-clause-words
 returns-clause-words g c =
     let s = c.args.grid.now.state in
     let shape = c.of-shape.result in
-    let is = c.of-shape.ensures.shape in
     let size : IsShapeOf shape s.tree = record {
       columns = sym (rw c.size-nx.ensures.size at c.of-shape.ensures.columns);
       rows = sym (rw c.size-nx.ensures.size at c.of-shape.ensures.rows);
@@ -45,52 +33,40 @@ returns-clause-words g c =
     let leaves = c.write_leaves.ensures in
     let new = c.write_leaves.new.words in
     let written = nodes.nodes s.tree size c.nodes.ensures.outputs c.nodes.ensures.carries in
-    let held : HoldsNodes shape s.tree new = record {
-      output = λ k within i bit.
-          ap (λ w. nat_bit w i) (leaves.others (nodes_at shape + k) (inr (omega arith))) ∙ written.output k within i bit;
-      carry = λ k within i bit.
-          ap (λ w. nat_bit w i) (leaves.others (nodes_at shape + shape.nodes + k) (inr (omega arith)))
-          ∙ written.carry k within i bit;
-    } in
-    let room : room_of g.row.N s.tree.nx s.tree.ny ≡ nodes_at shape + 2 * shape.nodes =
-    rw (size.columns, size.rows, ← c.of-shape.ensures.bits) (room_is shape is) in
+    let room : room_of g.row.N s.tree.nx s.tree.ny ≡ nodes_end shape =
+    rw (size.columns, size.rows, ← c.of-shape.ensures.bits) (room_is shape) in
+    let end = nodes_end shape in
+    let from_nodes : KeepsOutside (leaves_at shape) end c.write_plane-3.new.words new =
+    kept_both nodes.kept leaves.kept (omega arith) in
+    let from_latch : KeepsOutside ((shape.bits + 2) * shape.plane) end c.write_plane-2.new.words new =
+    kept_both latch.kept from_nodes (omega arith) in
+    let from_carry : KeepsOutside ((shape.bits + 1) * shape.plane) end c.write_plane.new.words new =
+    kept_both carry.kept from_latch (omega arith) in
+    let from_enable : KeepsOutside (shape.bits * shape.plane) end c.write_memory.new.words new =
+    kept_both enable.kept from_carry (omega arith) in
+    let all : KeepsOutside 0 end c.args.words.now new = kept_both memory.kept from_enable (omega arith) in
     record {
-      holds = subst (λ b. HoldsWords b s new) c.of-shape.ensures.bits (whole_of shape s is size new (record {
+      holds = subst (λ b. HoldsWords b s new) c.of-shape.ensures.bits (whole_of shape s size new (record {
         pixels = λ y k i row word bit.
             let q = y * each + k in
-            let within : q < shape.plane = omega (arith, is.plane, word, plane_end y (2 ^ shape.ny) each row) in
+            let within : q < shape.plane = omega (arith, shape.plane_is, word, plane_end y (2 ^ shape.ny) each row) in
             record {
               memory = λ b below.
                   let end = plane_end b shape.bits shape.plane below in
-                  ap (λ w. nat_bit w i) (leaves.others (b * shape.plane + q) (inl (omega arith))
-                  ∙ (nodes.others (b * shape.plane + q) (inl (omega arith))
-                  ∙ (latch.others (b * shape.plane + q) (inl (omega arith))
-                  ∙ (carry.others (b * shape.plane + q) (inl (omega arith))
-                  ∙ enable.others (b * shape.plane + q) (inl (omega arith))))))
+                  ap (λ w. nat_bit w i) (from_enable.others (b * shape.plane + q) (inl (omega arith)))
                   ∙ memory.memory b below y k i row word bit;
-              enable = ap (λ w. nat_bit w i) (leaves.others (shape.bits * shape.plane + q) (inl (omega arith))
-                  ∙ (nodes.others (shape.bits * shape.plane + q) (inl (omega arith))
-                  ∙ (latch.others (shape.bits * shape.plane + q) (inl (omega arith))
-                  ∙ carry.others (shape.bits * shape.plane + q) (inl (omega arith)))))
+              enable = ap (λ w. nat_bit w i) (from_carry.others (shape.bits * shape.plane + q) (inl (omega arith)))
                   ∙ (enable.plane y k i row word bit ∙ placed_register shape s (λ (p : PixelState). p.enable) _ size refl
                   rows.enable (64 * k + i) y row);
-              carry = ap (λ w. nat_bit w i) (leaves.others ((shape.bits + 1) * shape.plane + q) (inl (omega arith))
-                  ∙ (nodes.others ((shape.bits + 1) * shape.plane + q) (inl (omega arith))
-                  ∙ latch.others ((shape.bits + 1) * shape.plane + q) (inl (omega arith))))
+              carry = ap (λ w. nat_bit w i) (from_latch.others ((shape.bits + 1) * shape.plane + q) (inl (omega arith)))
                   ∙ (carry.plane y k i row word bit ∙ placed_register shape s (λ (p : PixelState). p.carry) _ size refl
                   rows.carry (64 * k + i) y row);
-              latch = ap (λ w. nat_bit w i) (leaves.others ((shape.bits + 2) * shape.plane + q) (inl (omega arith))
-                  ∙ nodes.others ((shape.bits + 2) * shape.plane + q) (inl (omega arith)))
+              latch = ap (λ w. nat_bit w i) (from_nodes.others ((shape.bits + 2) * shape.plane + q) (inl (omega arith)))
                   ∙ (latch.plane y k i row word bit ∙ placed_register shape s (λ (p : PixelState). p.latch) _ size refl
                   rows.latch (64 * k + i) y row);
             };
         leaves = leaves.leaves s.tree size written;
-        nodes = held;
+        nodes = kept_nodes shape s.tree _ c.write_nodes.new.words new leaves.kept written;
       }));
-      behind = same_behind (room_of g.row.N s.tree.nx s.tree.ny) new c.args.words.now (leaves.length ∙ (nodes.length
-          ∙ (latch.length ∙ (carry.length ∙ (enable.length ∙ memory.length)))))
-          (λ j past. leaves.others j (inr (omega (arith, past, room)))
-          ∙ (nodes.others j (inr (omega (arith, past, room))) ∙ (latch.others j (inr (omega (arith, past, room)))
-          ∙ (carry.others j (inr (omega (arith, past, room))) ∙ (enable.others j (inr (omega (arith, past, room)))
-          ∙ memory.behind j (omega (arith, past, room)))))));
+      behind = same_behind 0 (room_of g.row.N s.tree.nx s.tree.ny) c.args.words.now new (rw room all);
     }

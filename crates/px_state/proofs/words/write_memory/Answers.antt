@@ -1,14 +1,12 @@
-use Rattle.px_state.proofs.Cited.{ap, arith, bit_at, cases_eq, false, inl, inr, length, nat_bit, PixelState, row_words}
-use Rattle.px_state.proofs.Cited.{zero_pixel, ◌*◌, ◌+◌, ◌<◌, ◌^◌, ◌∙◌, ◌≡◌}
+use Rattle.px_state.proofs.Cited.{ap, arith, bit_at, cases_eq, common_steps, false, inl, inr, nat_bit, PixelState}
+use Rattle.px_state.proofs.Cited.{pow-add, row_words, zero_pixel, ◌*◌, ◌+◌, ◌<◌, ◌^◌, ◌∙◌, ◌≡◌}
 use Rattle.std.proofs.lemmas.List.{get_or-replicate}
-use Rattle.px_state.proofs.RegisterLemmas.{memory_register, placed_register, row_room}
-use Rattle.px_state.proofs.ShapeLemmas.{plane_end}
+use Rattle.px_state.proofs.RegisterLemmas.{memory_register, placed_register}
+use Rattle.px_state.proofs.ShapeLemmas.{kept_both, plane_end}
 use Rattle.px_state.proofs.words.write_memory.Goals as goal
 
 pub write_plane-requires-clause-row : goal.write_plane-requires-clause-row
-write_plane-requires-clause-row g c =
-    row_room c.args.shape.now c.args.grid.now.state.tree (length c.row.result.now) c.requires.size
-    (omega (arith, c.row.ensures.words))
+write_plane-requires-clause-row g c = grind (arith, common_steps, pow-add)
 
 pub loop-at-preserved : goal.loop-at-preserved
 loop-at-preserved g c =
@@ -31,13 +29,11 @@ loop-at-preserved g c =
         | inr other ↦
             let early : b < at = omega (arith, low, other) in
             let within : y * each + k < plane =
-            omega (arith, c.requires.shape.plane, word, plane_end y (2 ^ shape.ny) each row) in
+            omega (arith, shape.plane_is, word, plane_end y (2 ^ shape.ny) each row) in
             ap (λ w. nat_bit w i)
-            (put.others (b * plane + (y * each + k)) (inl (omega (arith, within, plane_end b at plane early))))
+            (put.kept.others (b * plane + (y * each + k)) (inl (omega (arith, within, plane_end b at plane early))))
             ∙ before.done b early y k i row word bit
       ];
-      others = λ k past.
-          put.others k (inr (omega (arith, past, plane_end at shape.bits plane c.loop-at-test.true)))
-          ∙ before.others k past;
-      same = put.length ∙ before.same;
+      kept = kept_both before.kept put.kept
+          (omega (arith, plane_end at shape.bits plane c.loop-at-test.true));
     }
