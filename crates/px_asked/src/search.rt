@@ -37,6 +37,7 @@ impl Search {
     }
 
     /// Goes past a byte, and says whether the scene part ends with it.
+    #[tactic(auto, using(crate::proofs::PartLemmas::not_feed, crate::proofs::PartLemmas::seen_byte, crate::proofs::PartLemmas::seen_end, crate::proofs::PartLemmas::seen_feed))]
     fn pass(&mut self, text: &[u8]) -> bool
         requires more { self.old.at < length text.now }
         requires seen { HasSeen self.old text.now }

@@ -22,12 +22,8 @@ accepts refusal due answer none answers = rw none answers
 
 pub roomy : (room due : ℕ) (found : Found) → due ≤ room → within_room room due found
     ≡ record { status = OK; found = found }
-roomy room due found enough =
-    let test : nat_lt room due ≡ false = grind (arith, nat_tests) in
-    rw test refl
+roomy room due found enough = grind (arith, nat_lt, false, nat_tests)
 
 pub scant : (room due : ℕ) (found : Found) → room < due
     → within_room room due found ≡ record { status = NO_ROOM; found = record found { room = due } }
-scant room due found short =
-    let test : nat_lt room due ≡ true = grind (arith, nat_tests) in
-    rw test refl
+scant room due found short = grind (arith, nat_lt, true, nat_tests)

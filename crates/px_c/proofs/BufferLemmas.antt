@@ -14,9 +14,7 @@ use Rattle.px_frame.specs.Strips.{HasNumbers, HoldsRow, strip_number}
 use Rattle.px_c.specs.Buffers.{HasColour}
 
 pub few_pixels : (width height : ℕ) → width ≤ 512 → height ≤ 512 → width * height ≤ 262144
-few_pixels width height narrow low =
-    let wide : width * height ≤ 512 * height = mul-le-mul_right {m = width} {n = 512} height narrow in
-    omega (arith, wide, low)
+few_pixels width height narrow low = grind (arith, mul-le-mul_right)
 
 -- a drawn array has numbers in a field for each row of the picture
 pub rows_stored : (bits : ℕ) (scene : SceneView) (device : Device) (field : Field) → IsLawfulScene scene
@@ -36,25 +34,18 @@ rows_stored bits scene device field lawful drawn room low few y above =
 
 -- the place of a pixel is before those of a row further down
 pub place_above : (x row y width : ℕ) → x < width → row < y → row * width + x < y * width
-place_above x row y width left above =
-    let rows : (row + 1) * width ≤ y * width = mul-le-mul_right width (omega arith) in
-    grind (arith, rows)
+place_above x row y width left above = grind (arith, mul-le-mul_right)
 
 -- what the pixels of some rows have, and those of the next one
 pub rows_more : (P : (x y : ℕ) → Type 0) (width y : ℕ) → ((x row : ℕ) → x < width → row < y → P x row)
     → ((x : ℕ) → x < width → P x y) → (x row : ℕ) → x < width → row < y + 1 → P x row
-rows_more P width y before next x row left =
-    below_more (λ at. P x at) y (λ at. before x at left) (next x left) row
+rows_more P width y before next x row left = grind (arith, below_more)
 
 -- a colour stays where the bytes before a place do
 pub colour_kept : (before now : List ℕ) (at end : ℕ) (colour : Colour)
     → ((i : ℕ) → i < end → get_or now i 0 ≡ get_or before i 0) → at + 2 < end → HasColour before at colour
     → HasColour now at colour
-colour_kept before now at end colour same within has = record {
-  red = same at (omega arith) ∙ has.red;
-  green = same (at + 1) (omega arith) ∙ has.green;
-  blue = same (at + 2) (omega arith) ∙ has.blue;
-}
+colour_kept before now at end colour same within has = grind (arith)
 
 -- the face that a pixel shows, where a strip has the numbers of its row
 pub face_in_strip : (bits : ℕ) (scene : SceneView) (device : Device) (strip : List ℕ) (x y : ℕ) → IsLawfulScene scene

@@ -1,13 +1,13 @@
 -- How many bytes the images of a command have, and what is answered where there is no room for them.
-use Rattle.px_num.proofs.Basics.{ℕ, ◌≡◌, ◌+◌, ◌*◌, ◌<◌, ◌∙◌, inl, true, List, [], ◌∷◌, ◌++◌, length, length-append, None, Err, Ok, OnOk, Result}
+use Rattle.px_num.proofs.Basics.{ℕ, ◌≡◌, ◌+◌, ◌*◌, ◌<◌, ◌∙◌, true, List, [], ◌∷◌, ◌++◌, length, length-append, None, Err, Ok, OnOk, Result}
 use Rattle.px_num.proofs.Basics.{ap, arith, nat_lt, nat_tests, range_with_len, flat_map, length-range_with_len, refl, subst, sym}
 use Rattle.std.proofs.Math.Nat.{mul_assoc}
 use Rattle.std.specs.Result.{IfErr}
 use Rattle.px_model.specs.Scenes.{SceneView}
 use Rattle.px_frame.specs.Finer.{fine_scene}
-use Rattle.px_frame.specs.Picture.{colour_at, colour_pixel, depth_at, depth_image, face_at, face_image, header}
-use Rattle.px_frame.specs.Picture.{image_of_pixels, number_pixel, row_of_pixels, three_bytes}
-use Rattle.px_frame.specs.Refined.{doublings, mean_pixel, refined_image}
+use Rattle.px_frame.specs.Picture.{depth_image, face_image, header}
+use Rattle.px_frame.specs.Picture.{image_of_pixels, row_of_pixels, three_bytes}
+use Rattle.px_frame.specs.Refined.{doublings, refined_image}
 use Rattle.px_frame.specs.declared.plane.Fineness.{Fineness}
 use Rattle.px_commands.specs.declared.command.Size.{Size}
 use Rattle.px_commands.specs.declared.command.Work.{Work}
@@ -18,8 +18,6 @@ use Rattle.px_commands.specs.Results.{Meets}
 use Rattle.px_commands.specs.Stops.{StopsAt, stopped}
 use Rattle.px_commands.specs.Refusals.{text_refusal}
 use Rattle.px_commands.proofs.StopLaws.{stop_serves}
-use Rattle.px_scene.specs.Reading.{scene_of}
-use Rattle.px_scene.specs.Text.{worded}
 use Rattle.px_draw.specs.Refining.{fine_refusal, refined}
 use Rattle.px_draw.specs.Tiling.{tiles_refusal}
 use Rattle.px_draw.specs.Works.{made, worked_out}
@@ -53,16 +51,13 @@ unfolding three_bytes
 three_long number = refl
 
 depths_long : (scene : SceneView) → length (depth_image scene) ≡ image_size scene.width scene.height
-depths_long scene =
-    image_long scene.width scene.height (number_pixel (depth_at scene)) (λ x y. three_long (depth_at scene x y))
+depths_long scene = grind (arith, image_long, three_long)
 
 faces_long : (scene : SceneView) → length (face_image scene) ≡ image_size scene.width scene.height
-faces_long scene =
-    image_long scene.width scene.height (number_pixel (face_at scene)) (λ x y. three_long (face_at scene x y))
+faces_long scene = grind (arith, image_long, three_long)
 
 maps_long : (scene : SceneView) → length (depth_image scene ++ face_image scene) ≡ 2 * image_size scene.width scene.height
-maps_long scene =
-    omega (arith, length-append (depth_image scene) (face_image scene), depths_long scene, faces_long scene)
+maps_long scene = grind (arith, length-append, depths_long, faces_long)
 
 -- what comes where nothing is refused
 writes : (count : ℕ) (o : Outcome) (bytes : List ℕ) → o ≡ done bytes → length bytes ≡ count → WritesBytes count o
@@ -70,25 +65,16 @@ writes count o bytes is long = subst (λ o. WritesBytes count o) (sym is) long
 
 render_writes : (scene : SceneView) (bits : ℕ) → ((o : Outcome) → drawable bits scene o ≡ o)
     → WritesBytes (2 * image_size scene.width scene.height) (made w.Render scene bits)
-render_writes scene bits fits =
-    let bytes = depth_image scene ++ (face_image scene ++ []) in
-    writes _ _ bytes (fits (done bytes)) (grind (arith, length-append, depths_long, faces_long))
+render_writes scene bits fits = grind (arith, writes, length-append, depths_long, faces_long)
 
 colour_writes : (scene : SceneView) (bits : ℕ) → ((o : Outcome) → drawable bits scene o ≡ o)
     → WritesBytes (image_size scene.width scene.height) (made w.Colour scene bits)
-colour_writes scene bits fits =
-    let image = image_of_pixels scene.width scene.height (colour_pixel (colour_at scene)) in
-    let long : length image ≡ image_size scene.width scene.height =
-    image_long scene.width scene.height (colour_pixel (colour_at scene)) (λ x y. refl) in
-    writes _ _ (image ++ []) (fits (done (image ++ []))) (grind (arith, length-append, long))
+colour_writes scene bits fits = grind (arith, length, image_long, writes, length-append)
 
 refine_writes : (scene : SceneView) (s bits : ℕ) → fine_refusal s scene ≡ None
     → ((o : Outcome) → drawable bits (fine_scene s scene) o ≡ o)
     → WritesBytes (image_size scene.width scene.height) (refined s scene bits)
-refine_writes scene s bits none fits =
-    let pixel = mean_pixel s (colour_at (fine_scene s scene)) in
-    let image = image_of_pixels scene.width scene.height pixel in
-    rw none (writes _ _ image (fits (done image)) (image_long scene.width scene.height pixel (λ x y. refl)))
+refine_writes scene s bits none fits = grind (arith, writes, image_long)
 
 pub refine_done : (result : Result (Unit {0}) SceneStop) (fine scene : SceneView) (s bits : ℕ)
     → fine_refusal s scene ≡ None → fine ≡ fine_scene s scene
@@ -116,24 +102,19 @@ fine_meets scene s bits stop stops =
 
 pub refine_meets : (scene : SceneView) (s bits : ℕ) (stop : SceneStop) → fine_refusal s scene ≡ None
     → StopsAt (drawable bits (fine_scene s scene)) stop → Meets (Err (stopped stop)) (refined s scene bits)
-refine_meets scene s bits stop none stops =
-    rw none (stop_meets (drawable bits (fine_scene s scene)) stop (done (refined_image s scene)) stops)
+refine_meets scene s bits stop none stops = grind (arith, stop_meets)
 
 -- what a check of each command says of the outcome
 pub drawn_done : (result : Result (Unit {0}) SceneStop) (work : Work) (scene : SceneView) (bits : ℕ) → work ≡ w.Render
     → OnOk result ((o : Outcome) → drawable bits scene o ≡ o)
     → OnOk result (WritesBytes (images_size work scene.width scene.height) (made work scene bits))
-drawn_done (Ok u) work scene bits is fits =
-    subst (λ work. WritesBytes (images_size work scene.width scene.height) (made work scene bits)) (sym is)
-    (render_writes scene bits fits)
+drawn_done (Ok u) work scene bits is fits = grind (arith, render_writes)
 drawn_done (Err stop) work scene bits is fits = tt
 
 pub coloured_done : (result : Result (Unit {0}) SceneStop) (work : Work) (scene : SceneView) (bits : ℕ)
     → work ≡ w.Colour → OnOk result ((o : Outcome) → drawable bits scene o ≡ o)
     → OnOk result (WritesBytes (images_size work scene.width scene.height) (made work scene bits))
-coloured_done (Ok u) work scene bits is fits =
-    subst (λ work. WritesBytes (images_size work scene.width scene.height) (made work scene bits)) (sym is)
-    (colour_writes scene bits fits)
+coloured_done (Ok u) work scene bits is fits = grind (arith, colour_writes)
 coloured_done (Err stop) work scene bits is fits = tt
 
 pub refined_done : (result : Result (Unit {0}) SceneStop) (work : Work) (scene : SceneView) (fineness : Fineness)
@@ -148,23 +129,16 @@ pub refined_stops : (result : Result (Unit {0}) SceneStop) (work : Work) (scene 
     (s bits : ℕ) → work ≡ w.Refine fineness → s ≡ doublings fineness
     → IfErr result (λ stop. Meets (Err (stopped stop)) (refined s scene bits))
     → IfErr result (λ stop. Meets (Err (stopped stop)) (made work scene bits))
-refined_stops result work scene fineness s bits is times stops =
-    subst (λ work. IfErr result (λ stop. Meets (Err (stopped stop)) (made work scene bits))) (sym is)
-    (subst (λ s. IfErr result (λ stop. Meets (Err (stopped stop)) (refined s scene bits))) times stops)
+refined_stops result work scene fineness s bits is times stops = grind (arith)
 
 pub unread : (room : ℕ) (work : Work) (text : List ℕ) (bits : ℕ) (stop : SceneStop) (answer : Answer)
     → StopsAt (unless_refused (text_refusal text)) stop → answer ≡ stop_answer (stopped stop)
     → Answers (outcome_answer room (worked_out work text bits)) answer
-unread room work text bits stop answer stops is =
-    subst (λ answer. Answers (outcome_answer room (worked_out work text bits)) answer) (sym is)
-    (answers_stop room (worked_out work text bits) (stopped stop)
-    (stop_meets (unless_refused (text_refusal text)) stop (made work (scene_of (worded text)) bits) stops))
+unread room work text bits stop answer stops is = grind (arith, answers_stop, stop_meets)
 
 pub answers_short : (room due : ℕ) (o : Outcome) → room < due → WritesBytes due o
     → Answers (outcome_answer room o) (record { status = NO_ROOM; found = record nothing { room = due } })
 answers_short room due usage short long = absurd long
 answers_short room due (refused reason) short long = absurd long
 answers_short room due (cut bytes reason) short long = absurd long
-answers_short room due (done bytes) short long =
-    let test : nat_lt room (length bytes) ≡ true = grind (arith, nat_tests, long, short) in
-    rw test (inl (ap (λ n. record { status = NO_ROOM; found = record nothing { room = n } }) (sym long)))
+answers_short room due (done bytes) short long = grind (arith, nat_lt, length, true, nat_tests)

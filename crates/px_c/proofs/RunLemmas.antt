@@ -1,18 +1,16 @@
 -- What a command comes to, as an answer.
-use Rattle.px_num.proofs.Basics.{ℕ, ◌≡◌, ◌∙◌, inl, inr, List, [], length, Bool, true, false, Option, Some, None, Ok}
-use Rattle.px_num.proofs.Basics.{Err, refl, ap, sym, subst, if◌then◌else◌, ◌&&◌, not, nat_lt, Appends}
+use Rattle.px_num.proofs.Basics.{arith}
+use Rattle.px_num.proofs.Basics.{ℕ, ◌≡◌, inl, inr, List, [], length, Bool, true, false, Option, Some, None, Ok}
+use Rattle.px_num.proofs.Basics.{Err, refl, ap, subst, if◌then◌else◌, not, nat_lt, Appends}
 use Rattle.px_commands.specs.declared.command.Command.{Command}
 use Rattle.px_commands.specs.declared.command.Command.TheVariants as c
-use Rattle.px_prune.specs.Kept.{crowd_of}
-use Rattle.px_sched.specs.Layouts.{layout_of, need_of}
-use Rattle.px_draw.specs.Debugs.{admitted, all_sitting, answered, debugged, has_part, scene_part_of}
-use Rattle.px_draw.specs.Debugs.{scene_written, whole_sitting}
+use Rattle.px_draw.specs.Debugs.{admitted, all_sitting, answered, debugged}
 use Rattle.px_commands.specs.declared.refusal.Refusal.{Refusal}
 use Rattle.px_commands.specs.declared.stop.Stop.{Stop}
 use Rattle.px_commands.specs.declared.stop.Stop.TheVariants as s
 use Rattle.px_commands.specs.Ends.{Ends, Input}
 use Rattle.px_commands.specs.Outcomes.{Outcome, cut, done, output, refused, refused_past, unless_refused, usage}
-use Rattle.px_commands.specs.Refusals.{is_long, short_of_bits, text_refusal, too_long}
+use Rattle.px_commands.specs.Refusals.{short_of_bits, too_long}
 use Rattle.px_commands.specs.Results.{Meets}
 use Rattle.px_draw.specs.Runs.{Leaves, Performs, commanded}
 use Rattle.px_c.specs.declared.answer.Answer.{Answer}
@@ -36,12 +34,7 @@ sitting_whole false false false None need None front whole bytes is = cc
 debugged_whole : (bits : ℕ) (text bytes : List ℕ) → debugged text bits ≡ done bytes
     → (all_sitting bits text).said ≡ bytes
 unfolding debugged admitted answered
-debugged_whole bits text bytes is =
-    let scene = scene_written (scene_part_of text) in
-    let need = need_of (layout_of scene) in
-    sitting_whole (is_long text && not (has_part text)) (is_long text && not (whole_sitting bits text).quit)
-    (nat_lt bits need) (text_refusal (scene_part_of text)) need (crowd_of scene) (whole_sitting bits text).said
-    (all_sitting bits text).said bytes is
+debugged_whole bits text bytes is = grind (arith, sitting_whole, not, nat_lt)
 
 -- with Ok the output gained what the command answers
 gains : (command : Option Command) (bits : ℕ) (u : Unit {0}) (input : Input) (before after : Ends)
@@ -60,19 +53,13 @@ gains (Some c.Play) bits u input before after meets leaves = leaves.wrote.all
 pub comes_whole : (command : Option Command) (bits : ℕ) (u : Unit {0}) (before after : Ends) (text bytes : List ℕ)
     → Performs (Ok u) command bits before after → before.rest ≡ Some text → before.out.written ≡ Some []
     → after.out.written ≡ Some bytes → commanded command text bits ≡ done bytes
-comes_whole command bits u before after text bytes performs rest empty now =
-    let is : performs.input.bytes ≡ text = rw rest at performs.known in
-    let all : bytes ≡ output (commanded command performs.input.bytes bits) =
-    rw now at (rw empty at (gains command bits u performs.input before after performs.meets performs.leaves)) in
-    subst (λ t. commanded command t bits ≡ done bytes) is (performs.meets ∙ ap done (sym all))
+comes_whole command bits u before after text bytes performs rest empty now = grind (arith, gains)
 
 -- and where it does not come, that is for the reason of the text, or a fault
 pub comes_not : (command : Option Command) (bits : ℕ) (stop : Stop) (before after : Ends) (text : List ℕ)
     → Performs (Err stop) command bits before after → before.rest ≡ Some text
     → Meets (Err stop) (commanded command text bits)
-comes_not command bits stop before after text performs rest =
-    let is : performs.input.bytes ≡ text = rw rest at performs.known in
-    subst (λ t. Meets (Err stop) (commanded command t bits)) is performs.meets
+comes_not command bits stop before after text performs rest = grind (arith)
 
 pub answers_done : (room : ℕ) (o : Outcome) (bytes : List ℕ) (answer : Answer) → o ≡ done bytes
     → answer ≡ bytes_answer room (length bytes) → Answers (outcome_answer room o) answer

@@ -100,7 +100,7 @@ fn image_size(width: u32, height: u32) -> usize
 }
 
 /// Whether the images of a scene can be drawn, or why not.
-#[tactic(auto, using(crate::proofs::RoomLemmas::tile_writes, crate::proofs::RoomLemmas::stop_meets))]
+#[tactic(auto, using(crate::proofs::RoomLemmas::tile_writes, crate::proofs::RoomLemmas::stop_meets, crate::proofs::RoomLemmas::coloured_done, crate::proofs::RoomLemmas::drawn_done, crate::proofs::RoomLemmas::refined_done, crate::proofs::RoomLemmas::refined_stops))]
 fn check_images(alloc: Global, work: Work, scene: &Scene) -> Result<(), SceneStop>
     requires size { HasSize work }
     requires images { 0 < images_size work scene.now.width scene.now.height }
@@ -126,7 +126,7 @@ fn check_drawing(alloc: Global, scene: &Scene) -> Result<(), SceneStop>
 }
 
 /// Whether there is a finer scene and an array can draw it, or why not.
-#[tactic(auto, using(crate::proofs::RoomLemmas::fine_meets, crate::proofs::RoomLemmas::refine_meets))]
+#[tactic(auto, using(crate::proofs::RoomLemmas::fine_meets, crate::proofs::RoomLemmas::refine_meets, crate::proofs::RoomLemmas::refine_done))]
 fn check_refined(alloc: Global, scene: &Scene, s: u32) -> Result<(), SceneStop>
     requires few { s ≤ 2 }
     ensures ok { OnOk result (WritesBytes (image_size scene.now.width scene.now.height)

@@ -50,20 +50,11 @@ stays bits at (l ∷ ls) quits = ap (λ k. fold (turned bits) k ls) (first at.qu
 
 quit_stays : (bits : ℕ) (s : SessionView) (ls ms : List (List ℕ)) → (sitting bits s ls).quit ≡ true
     → sitting bits s (ls ++ ms) ≡ sitting bits s ls
-quit_stays bits s ls ms quits =
-    fold-append (turned bits) (no_sitting s) ls ms ∙ stays bits (sitting bits s ls) ms quits
+quit_stays bits s ls ms quits = grind (arith, fold-append, stays)
 
 pub quit_ends : (bits : ℕ) (s : SessionView) (xs ys : List ℕ) → (sitting bits s (whole_lines xs)).quit ≡ true
     → StaysOver bits s xs ys
-quit_ends bits s xs ys quits =
-    let whole : sitting bits s (whole_lines (xs ++ ys)) ≡ sitting bits s (whole_lines xs) =
-    ap (λ ls. sitting bits s ls) (ended-append [] xs ys)
-    ∙ quit_stays bits s (whole_lines xs) (ended (left [] xs) ys) quits in
-    record {
-      whole = whole;
-      all = quit_stays bits s (whole_lines (xs ++ ys)) (last_of (left [] (xs ++ ys))) (rw whole quits) ∙ whole
-          ∙ sym (quit_stays bits s (whole_lines xs) (last_of (left [] xs)) quits);
-    }
+quit_ends bits s xs ys quits = grind (arith, ended-append, quit_stays)
 
 -- a session keeps its scene
 either : (t : Bool) (a b : Sitting) → b.session.scene ≡ a.session.scene
@@ -145,20 +136,12 @@ broke_line bits text b from now is broke = rw (line_end text b is) broke
 pub fed_line : (on : Going) (bits : ℕ) (text : List ℕ) (b : ℕ) (from now : Stand) (held : List ℕ) → b ≡ 10
     → Went on bits from now (whole_lines text ++ left [] text ∷ []) → held ≡ []
     → Fed on bits (text ++ b ∷ []) from now held
-fed_line on bits text b from now held is went none =
-    let left : [] ≡ left [] (text ++ b ∷ []) = rw is (sym (left-append [] text (10 ∷ []))) in
-    record { went = rw (line_end text b is) went; held = λ more. none ∙ ap short left }
+fed_line on bits text b from now held is went none = grind (arith, left-append, line_end)
 
 pub fed_key : (bits : ℕ) (text : List ℕ) (b : ℕ) (from now : Stand) (held kept : List ℕ) → b ≢ 10
     → Fed g.More bits text from now held → kept ≡ short (left [] text ++ b ∷ [])
     → Fed g.More bits (text ++ b ∷ []) from now kept
-fed_key bits text b from now held kept other fed is =
-    let key = not_feed b other in
-    let left : left [] text ++ b ∷ [] ≡ left [] (text ++ b ∷ []) = rw (left-append [] text (b ∷ []), key) refl in
-    record {
-      went = rw (ended-append [] text (b ∷ []), key, append-nil (whole_lines text)) fed.went;
-      held = λ more. is ∙ ap short left;
-    }
+fed_key bits text b from now held kept other fed is = grind (arith, not_feed, left-append, ended-append, append-nil)
 
 -- the bytes behind a quit count for nothing
 pub fed_quit : (bits : ℕ) (xs ys : List ℕ) (s t : Stand) (held kept : List ℕ) → Fed g.Quit bits xs s t held
@@ -191,9 +174,7 @@ fed_all bits text s t held fed =
 -- one byte more of some, behind others, and all of them
 pub one_byte_more : (text bytes : List ℕ) (i : ℕ) → i < length bytes
     → (text ++ take i bytes) ++ get_or bytes i 0 ∷ [] ≡ text ++ take (i + 1) bytes
-one_byte_more text bytes i less =
-    append_assoc text (take i bytes) (get_or bytes i 0 ∷ []) ∙ ap (λ k. text ++ k) (sym (take_more bytes i 0 less))
+one_byte_more text bytes i less = grind (arith, append_assoc, take_more)
 
 pub all_bytes : (text bytes : List ℕ) (i : ℕ) → (text ++ take i bytes) ++ drop i bytes ≡ text ++ bytes
-all_bytes text bytes i = append_assoc text (take i bytes) (drop i bytes)
-    ∙ ap (λ k. text ++ k) (take-append-drop i bytes)
+all_bytes text bytes i = grind (arith, append_assoc, take-append-drop)

@@ -1,5 +1,5 @@
 -- The trace that a session shows, of the last broadcasts before its clock.
-use Rattle.px_num.proofs.Basics.{◌≡◌, ℕ, ◌-◌, ◌≤◌, length, length-drop, min, take, refl, arith}
+use Rattle.px_num.proofs.Basics.{◌≡◌, ℕ, ◌-◌, ◌≤◌, length, length-drop, min, refl, arith}
 use Rattle.px_debug.proofs.Words.{Buffer, buffer, length-take, Micro, program, SceneView, total, trace_text}
 use Rattle.px_debug.specs.Lines.{trace_lines}
 use Rattle.px_debug.specs.Marks.{last_before}
@@ -7,9 +7,7 @@ use Rattle.px_debug.specs.Marks.{last_before}
 -- the broadcasts before a clock are 32, or all of them
 pub short_trace : (scene : SceneView) (now : ℕ) → now ≤ total scene → length (last_before scene now) ≡ min 32 now
 unfolding last_before
-short_trace scene now within =
-    let all = take now (program scene) in
-    omega (arith, length-take now (program scene), length-drop (length all - 32) all)
+short_trace scene now within = grind (arith, program, length-take, length-drop)
 
 last_lines : (scene : SceneView) (now : ℕ) → trace_lines (now - 32) (last_before scene now) ≡ trace_text scene now
 unfolding last_before

@@ -25,14 +25,12 @@ pub counted : (n k : ℕ) (bytes : List ℕ) → k ≡ min (length bytes) (n - 1
 counted n k bytes is = ap (λ i. take i bytes) (is ∙ omega arith) ∙ take_min (n - 1) bytes
 
 pub nothing_counts : (n : ℕ) (text bytes : List ℕ) → bytes ≡ [] → text ++ seen n bytes ≡ text
-nothing_counts n text bytes none =
-    rw (none, take_all {A = ℕ} (n - 1) [] (omega arith)) (append-nil text)
+nothing_counts n text bytes none = grind (arith, take_all, append-nil)
 
 -- nothing was asked for
 prompts_none : (bits : ℕ) (read : List ℕ) (n : ℕ) (was now : Moment) → now.asks ≡ was.asks → now.rest ≡ was.rest
     → Prompts bits read n was now
-prompts_none bits read n was now asks rest =
-    record { asks = []; asked = rw asks (asked_none was.asks); taken = rw rest (consumes_none was.rest); prompt = tt }
+prompts_none bits read n was now asks rest = grind (arith, asked_none, consumes_none)
 
 pub caught_begun : (bits : ℕ) (read : List ℕ) (n : ℕ) (was p : Moment) (held : List ℕ) → p.asks ≡ was.asks
     → p.rest ≡ was.rest → p.faults ≡ was.faults → p.at.out.faults ≡ was.at.out.faults
@@ -171,19 +169,7 @@ stopped_in ending bits b n p now held bytes caught some few took end ends served
 -- or nothing can be read
 pub stopped_full : (bits : ℕ) (b : Begun) (n : ℕ) (p : Moment) (held : List ℕ) → n ≡ 0 → Caught bits b n p held
     → IsOverBy e.Long bits b p
-stopped_full bits b n p held none caught =
-    let given = all_given caught.prompts.asks in
-    let full : length given ≡ b.more = omega (arith, caught.left, none) in
-    record {
-      bytes = given;
-      few = omega (arith, full);
-      taken = caught.prompts.taken;
-      ended = full;
-      served = rw caught.seen (caught.fed.went.answered, sym caught.fed.went.going);
-      cause = caught.calm_in;
-      out_cause = caught.calm_out;
-      prompts = caught.prompts;
-    }
+stopped_full bits b n p held none caught = grind (arith)
 
 -- the output is finished, or a write fails in that
 pub finished_ok : (from : Stand) (session : SessionView) (work : ℕ) (a b : SinkState) (to : Sitting)

@@ -159,6 +159,7 @@ fn read_and_answer<S: Asks<O>, O: Sink, A: Operating>(
 }
 
 /// Has the lines answered that a read ends; no byte is the end of the input, and none counts past `limit - 1`.
+#[tactic(auto, using(crate::proofs::FeedingLemmas::broke_more, crate::proofs::FeedingLemmas::fed_all, crate::proofs::TurningLemmas::counted, crate::proofs::TurningLemmas::nothing_counts))]
 fn answer_piece<O: Sink, A: Operating>(
     session: &mut Session<'_>,
     held: &mut Line,

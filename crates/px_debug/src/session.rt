@@ -161,7 +161,7 @@ impl<'s> Session<'s> {
     }
 
     /// The answer to a command, after its move.
-    #[tactic(auto, unfolding(crate::specs::Answers::answer_in))]
+    #[tactic(auto, unfolding(crate::specs::Answers::answer_in), using(crate::proofs::TracingLemmas::short_trace, crate::proofs::TracingLemmas::traced_text))]
     fn answer<A: Array>(&self, array: &A, command: Command) -> Text
         requires fits { Fits A.BITS self.now (A.view array.now) }
         ensures { result.bytes ≡ answer_in self.now.scene (A.view array.now).device.state self.now.now

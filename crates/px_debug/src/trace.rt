@@ -12,6 +12,7 @@ use px_array::{Act, Micro, TreeOp};
 /// which there are at most 32, oldest first.
 ///
 /// `now` broadcasts were made, these last. Their clocks are counted from 0.
+#[tactic(auto, using(crate::proofs::TraceLineLemmas::line_more))]
 pub fn trace_text(trace: &HeapCircularBuffer<Micro>, now: u64) -> Text
     requires few { length trace.now.items ≤ 32 }
     requires made { length trace.now.items ≤ now }

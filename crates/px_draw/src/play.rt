@@ -23,6 +23,7 @@ use std::alloc::Global;
 
 /// Reads the input to its end, plays the listing that it writes, and prints every pixel's memory
 /// (docs/LISTINGS.md, "Playing").
+#[tactic(auto, using(crate::proofs::PlayLemmas::performs_played, crate::proofs::PlayLemmas::performs_unread, crate::proofs::PlayLemmas::plays_listing, crate::proofs::PlayLemmas::plays_text, px_commands::proofs::RunLaws::still))]
 pub fn play_input<S: Source, O: Sink, A: Operating>(
     alloc: Global,
     input: &mut S,

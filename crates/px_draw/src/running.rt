@@ -34,6 +34,7 @@ use std::alloc::Global;
 /// `debug` holds its session on it. Every other command and every refusal leaves it as it was, its
 /// slots and its work too; if memory runs out it may be left closed, with a tile drawn, or opened for
 /// a session.
+#[tactic(auto, using(crate::proofs::RunLemmas::run_done))]
 pub fn run<S: Asks<O>, O: Sink, E: Sink, A: Operating>(
     alloc: Global,
     words: &[String],
@@ -66,6 +67,7 @@ pub fn run<S: Asks<O>, O: Sink, E: Sink, A: Operating>(
 }
 
 /// Does a command, as `run` does, and reports its end. Where there is none, that is `Usage`.
+#[tactic(auto, using(crate::proofs::RunLemmas::performs_usage, crate::proofs::RunLemmas::performs_sample))]
 pub fn perform<S: Asks<O>, O: Sink, A: Operating>(
     alloc: Global,
     command: Option<Command>,

@@ -86,6 +86,7 @@ fn read_rows<A: Array>(
 }
 
 /// The numbers in a field of the memories of eight pixels, from a place on.
+#[tactic(auto, using(crate::proofs::StripLemmas::moved_bit, crate::proofs::StripLemmas::small_more, px_num::proofs::TruthLaws::power_grows, std::proofs::Common::suc, std::proofs::Common::get_or, std::proofs::Common::subst))]
 fn eight_numbers<A: Array>(array: &A, field: Field, place: usize) -> [u32; 8]
     requires is_open { IsOpen (A.view array.now).device }
     requires room { field.at + field.len ≤ A.BITS }

@@ -89,8 +89,7 @@ all_padded stays (op ∷ ops) x y p more lawful =
 
 -- zeros behind a memory change no number in it, since every place behind it reads as 0
 zero_behind : (xs : List Bool) (n at : ℕ) → bit_at (xs ++ replicate n false) at ≡ bit_at xs at
-zero_behind xs n at =
-    grind (arith, cases_lt, bit_padded, get_or-append_right, get_or_past, get_or-replicate, length-replicate)
+zero_behind xs n at = grind (arith, bit_padded, get_or-append_right, get_or_past, get_or-replicate, length-replicate)
 
 number_same_behind : (f : Field) (xs : List Bool) (n : ℕ) → number_in f (xs ++ replicate n false) ≡ number_in f xs
 number_same_behind f xs n = grind (arith, number_same, zero_behind)

@@ -1,4 +1,5 @@
 -- The grid and the passes of a scene, as a listing.
+use Rattle.std.proofs.Common.{rules}
 use Rattle.px_num.proofs.Basics.{nat_tests, common_steps, ◌≡◌, ℕ, ◌+◌, ◌^◌, ◌<◌, ◌≤◌, All, List, [], ◌++◌, false, Some}
 use Rattle.px_num.proofs.Basics.{length, take, drop, slice_get, ap, sym, ◌∙◌, arith, subst, append_assoc, Result, OnOk}
 use Rattle.px_num.proofs.Basics.{OnErr, replicate, length-append, length-replicate, get_or_from_slice_get}
@@ -78,16 +79,10 @@ few_bits scene lawful = let is = scene_layout scene lawful in omega (arith, is.d
 
 pub passes_lawful_in_all : (scene : SceneView) → IsLawfulScene scene → All IsLawfulSolid scene.solids
     → All (λ m. IsLawful m 256) (passes scene)
-passes_lawful_in_all scene h solids =
-    passes_lawful is_lawful_in_more passes_are_lawful 256 scene h solids (few_bits scene h)
+passes_lawful_in_all scene h solids = search (rules, passes_lawful, is_lawful_in_more, passes_are_lawful, few_bits)
 
 pub passes_read_back : PassesAreReadBack
-passes_read_back bits scene can few =
-    read_back bits (passes_listing scene) few (
-      exponent_between scene.width can.scene_is.sizes.width_limit,
-      exponent_between scene.height can.scene_is.sizes.height_limit,
-    )
-    can.lawful
+passes_read_back bits scene can few = search (rules, read_back, exponent_between)
 
 pub scenes_grid : PassesHaveTheScenesGrid
 scenes_grid scene lawful = grind (arith, exponent_is)

@@ -18,7 +18,7 @@ ghost use Rattle.px_sched.specs.Steps.{behind_step};
 ghost use Rattle.px_sched.specs.declared.group.Stage.TheVariants as s;
 ghost use Rattle.px_sched.specs.declared.literal.TheConstants.{MAX_LITERALS};
 
-use crate::literal::{Literal, MAX_LITERALS, literals, others};
+use crate::literal::{Literal, MAX_LITERALS, keep_others, literals};
 use crate::step::Step;
 use arrayvec::ArrayVec;
 use px_model::Scene;
@@ -103,9 +103,9 @@ impl Group {
         ensures others { result.1.items ≡ others_of products.now self }
         ensures few { self.literal < MAX_LITERALS }
     {
-        let all = literals(&products[self.product]);
-        let q = all[self.literal];
-        let rs = others(q, all.as_slice());
+        let mut rs = literals(&products[self.product]);
+        let q = rs[self.literal];
+        keep_others(q, &mut rs);
         (q, rs)
     }
 }

@@ -29,18 +29,11 @@ pub fn literals(product: &Product) -> ArrayVec<Literal, MAX_LITERALS>
     list
 }
 
-/// The literals that are of another solid.
-pub(crate) fn others(q: Literal, all: &[Literal]) -> ArrayVec<Literal, MAX_LITERALS>
-    requires { length all.now ≤ MAX_LITERALS }
-    ensures { result.items ≡ filter (λ r. not (r.solid == q.solid)) all.now }
+/// Leaves of these literals those that are of another solid.
+pub(crate) fn keep_others(q: Literal, all: &mut ArrayVec<Literal, MAX_LITERALS>)
+    ensures { all.new.items ≡ filter (λ r. not (r.solid == q.solid)) all.old.items }
 {
-    let mut list = ArrayVec::new();
-    for r in all {
-        if r.solid != q.solid {
-            list.push(*r);
-        }
-    }
-    list
+    all.retain(|r| r.solid != q.solid);
 }
 
 fn push_literals(list: &mut ArrayVec<Literal, MAX_LITERALS>, indices: &[u8], plain: bool)

@@ -46,9 +46,3 @@ loop-piece-preserved g c =
       seen = rw (sym same) (c.find-part.ensures.seen none);
       all = rw (sym same) (c.find-part.ensures.all none);
     }
-
-pub returns-then-count-eq0-clause-part : goal.returns-then-count-eq0-clause-part
-returns-then-count-eq0-clause-part g c = grind (arith, common_steps)
-
-pub returns-clause-part : goal.returns-clause-part
-returns-clause-part g c = grind (arith, common_steps)

@@ -21,6 +21,3 @@ pub returns-clause-heard : goal.returns-clause-heard
 returns-clause-heard g c begun waits =
     rw c.in_ok-extend_from_slice.ensures.items
     (heard_more _ _ _ _ _ _ _ _ waits c.in_ok-count.ensures.noted c.in_ok-count.ensures.bytes.0)
-
-pub returns-clause-bytes : goal.returns-clause-bytes
-returns-clause-bytes g c = grind (arith, common_steps)

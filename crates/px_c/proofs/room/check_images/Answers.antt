@@ -1,11 +1,5 @@
-use Rattle.px_c.proofs.RoomLemmas.{coloured_done, drawn_done, refined_done, refined_stops}
+use Rattle.px_c.proofs.RoomLemmas.{refined_done, refined_stops}
 use Rattle.px_c.proofs.room.check_images.Goals as goal
-
-pub returns-in-Render-clause-ok : goal.returns-in-Render-clause-ok
-returns-in-Render-clause-ok c = drawn_done _ c.args.work _ _ c.in-Render.is c.check_drawing.ensures.fits
-
-pub returns-in-Colour-clause-ok : goal.returns-in-Colour-clause-ok
-returns-in-Colour-clause-ok c = coloured_done _ c.args.work _ _ c.in-Colour.is c.check_drawing-in-Colour.ensures.fits
 
 pub returns-in-Refine-clause-ok : goal.returns-in-Refine-clause-ok
 returns-in-Refine-clause-ok c =

@@ -1,10 +1,6 @@
-use Rattle.px_num.proofs.Basics.{arith, refl, err_from_is_err_and}
-use Rattle.px_commands.proofs.RunLaws.{still}
-use Rattle.px_draw.proofs.PlayLemmas.{performs_played, performs_unread, plays_listing, plays_text}
+use Rattle.px_num.proofs.Basics.{refl, err_from_is_err_and}
+use Rattle.px_draw.proofs.PlayLemmas.{performs_played, plays_listing, plays_text}
 use Rattle.px_draw.proofs.play.play_input.Goals as goal
-
-pub returns-in_err-text-clause-performs : goal.returns-in_err-text-clause-performs
-returns-in_err-text-clause-performs g c = grind (arith, err_from_is_err_and, performs_unread, still)
 
 pub returns-in_err-listing-clause-performs : goal.returns-in_err-listing-clause-performs
 returns-in_err-listing-clause-performs g c =

@@ -2,7 +2,7 @@ use Rattle.px_num.proofs.Basics.{◌≡◌, ◌+◌, ◌*◌, ◌^◌, ◌<◌, 
 use Rattle.px_frame.proofs.Words.{doublings_of, header, on_err, row_of_pixels, shown_pixel, side_shown}
 use Rattle.px_frame.proofs.Words.{stored_number}
 use Rattle.px_frame.proofs.MeanLemmas.{next_in_strip}
-use Rattle.px_frame.proofs.RowLaws.{all_written, front_written, other_row, rows_broken, rows_grown}
+use Rattle.px_frame.proofs.RowLaws.{front_written, other_row, rows_broken, rows_grown}
 use Rattle.px_frame.proofs.ShownLemmas.{few_doublings, row_shown}
 use Rattle.px_frame.proofs.image.write_rows.Goals as goal
 
@@ -21,13 +21,6 @@ returns-in_err-write_whole-clause-err g c =
     let front = front_written _ _ _ _ _ c.loop-y.invariant.front rest in
     on_err _ (rw (end, c.side_shown-width.ensures, c.side_shown-height.ensures, c.width.ensures.value, c.height.ensures.value)
     at front)
-
-pub returns-clause-ok : goal.returns-clause-ok
-returns-clause-ok g c =
-    let end : c.loop-y.y ≡ c.side_shown-height.result = omega arith in
-    let rest = rw c.as_slice.ensures.value at c.in_ok-write_whole.ensures.ok in
-    let all = all_written _ _ _ _ _ c.loop-y.invariant.front rest in
-    rw (end, c.side_shown-width.ensures, c.side_shown-height.ensures, c.width.ensures.value, c.height.ensures.value) at all
 
 pub loop-y-preserved : goal.loop-y-preserved
 loop-y-preserved g c =

@@ -1,13 +1,7 @@
 use Rattle.px_num.proofs.Basics.{◌≡◌, suc, arith, ◌+◌, ◌^◌, ◌/◌, ◌%◌, ◌∙◌, ap, get_or, if◌then◌else◌, subst, ◌<◌, sym}
-use Rattle.px_frame.proofs.Words.{memory_bit, nat_bit, number_from_bits, power_grows, power_next}
+use Rattle.px_frame.proofs.Words.{memory_bit, nat_bit, number_from_bits, power_next}
 use Rattle.px_frame.proofs.StripLemmas.{moved_bit, small_more}
 use Rattle.px_frame.proofs.strip.eight_numbers.Goals as goal
-
-pub add_bits-requires-clause-few : goal.add_bits-requires-clause-few
-add_bits-requires-clause-few g c = omega (arith, c.loop-t.invariant.value, power_grows c.loop-t.t 23 (omega arith))
-
-pub overflow_mul-value : goal.overflow_mul-value
-overflow_mul-value g c = omega (arith, c.loop-t.invariant.value, power_grows c.loop-t.t 23 (omega arith))
 
 pub loop-t-preserved : goal.loop-t-preserved
 loop-t-preserved g c =
