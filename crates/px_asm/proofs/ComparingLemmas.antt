@@ -28,8 +28,7 @@ pub record HasCompared (u : ℤ) (number n : ℕ) (p q : PixelState) : Type 0 wh
 pub kept_by_carry : (u : ℤ) (number w : ℕ) (p q : PixelState) (v test : Bool) → number < 2 ^ w
     → HasCompared u number w p q
     → beq (nat_le (modulo u w) number) v ≡ test → bits_of (kept (beq q.carry v) q) ≡ keep test (bits_of p)
-kept_by_carry u number w p q v test below h says =
-    rw (h.memory, h.enable, h.carry, carry_is_at_most u number w below, says) refl
+kept_by_carry u number w p q v test below h says = grind (arith, carry_is_at_most)
 
 fetch_place : (f g : Field) (n : ℕ) → n < f.len → less_act f g (suc (2 * n)) ≡ act.Fetch (g.at + n)
 fetch_place f g n low = grind (arith, nat_tests)

@@ -1,6 +1,5 @@
 -- What the acts of the operations on a form leave of one pixel, to which the tree brings the bits of its value.
 use Rattle.std.proofs.Common.{tests}
-use Rattle.px_num.proofs.Basics.{rules}
 use Rattle.px_num.proofs.Basics.{◌≡◌, ℕ, zero, suc, ◌+◌, ◌<◌, ◌≤◌, ◌==◌, ℤ, pos, ◌+ℤ◌, Bool, true, false, not, length}
 use Rattle.px_num.proofs.Basics.{if◌then◌else◌, nat_le, refl, ap, ◌∙◌, arith, beq, is_negative, nat_tests, ints}
 use Rattle.px_asm.proofs.Words.{Act, act_at, after_act, beq_true, bit_at, bit_of, bits_of, BitsOfNumber, carry_from}
@@ -30,18 +29,7 @@ waiting levels first each tree (suc n) p low =
 pub after_bits : (levels count len : ℕ) (first : Act) (each : ℕ → Act) (tree : ℕ → Bool) (v : ℤ) (p : PixelState)
     → count ≡ 1 + levels + len → ((t : ℕ) → t < len → tree (suc (t + levels)) ≡ bit_of v t)
     → after_acts (act_at levels first each) tree count p ≡ after_acts each (bit_of v) len (after_act first (tree 0) p)
-after_bits levels count len first each tree v p total bits = search (
-  rules,
-  tests,
-  arith,
-  after_act,
-  act_at,
-  after_acts-parts,
-  waiting,
-  after_acts-same,
-  bit_of,
-  bit_act,
-) depth 8
+after_bits levels count len first each tree v p total bits = grind (arith, tests, after_act, act_at, after_acts-parts, waiting, after_acts-same, bit_of, bit_act)
 
 -- loading
 pub put_by_load : (levels count : ℕ) (f : Field) (tree : ℕ → Bool) (v : ℤ) (p : PixelState) → count ≡ 1 + levels

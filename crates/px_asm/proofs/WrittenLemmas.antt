@@ -35,8 +35,7 @@ not_there at n i (inr high) = omega arith
 pub one_written : (at n : ℕ) (v : ℕ → Bool) (enable : Bool) (old new : List Bool) → at + n < length old
     → IsWritten at n v enable old new
     → IsWritten at (suc n) v enable old (if enable then slice_set new (at + n) (v n) else new)
-one_written at n v enable old new room h =
-    grind (arith, length-stored, cases_lt, other_bit, written_bit, not_there, outside)
+one_written at n v enable old new room h = grind (arith, length-stored, other_bit, written_bit, not_there, outside)
 
 is_in_true : (f : Field) (k : ℕ) → f.at ≤ k → k < f.at + f.len → is_in f k ≡ true
 is_in_true f k low high = grind (arith, nat_tests)
