@@ -65,8 +65,7 @@ zero_memory (suc bits) words p = grind (arith, zero_bit, zero_memory bits words 
 
 zero_pixel_in : (bits words mask : ℕ) (planes : Planes) (p : ℕ) → IsZero bits words mask planes → pixel_in planes p
     ≡ zero_pixel bits
-zero_pixel_in bits words mask planes p z =
-    rw (z.memory, z.enable, z.carry, z.latch, zero_memory bits words p, zero_bit words p) refl
+zero_pixel_in bits words mask planes p z = grind (arith, zero_memory, zero_bit)
 
 pub zero_law : (bits words mask n : ℕ) (planes : Planes) → IsZero bits words mask planes → pixels_in n planes
     ≡ replicate n (zero_pixel bits)
