@@ -1,4 +1,5 @@
 -- Each line is answered before more is asked for.
+use Rattle.std.proofs.Common.{rules}
 use Rattle.px_num.proofs.Basics.{ℕ, ◌≡◌, ◌+◌, ◌-◌, ◌++◌, List, [], length, true, false, Option, Some, None, refl, ap}
 use Rattle.px_num.proofs.Basics.{◌∙◌, arith, is_some, length-append, take_all, Consumes}
 use Rattle.px_io.proofs.ToldLaws.{appends_none, consumes_both}
@@ -66,11 +67,7 @@ prompted : (part : Option ℕ) (ending : Ending) (bits : ℕ) (o : Opening) (sce
     → (sits : Sits o ending bits read was now)
     → EachTime (IsInTime bits was.at.out.written) o.text.items sits.serves.prompts.asks
 prompted None ending bits o scene read was now is begins start sits = rw (sits.idle is).1 tt
-prompted (Some n) ending bits o scene read was now is begins start sits =
-    each_so (IsPrompt bits was.at (length read + more_than o.text.items)) (IsInTime bits was.at.out.written) read
-    o.text.items sits.serves.prompts.asks
-    (λ told given prompt. prompt_due bits n o scene read was.at told given begins is start prompt)
-    sits.serves.prompts.prompt
+prompted (Some n) ending bits o scene read was now is begins start sits = search (rules, each_so, length, prompt_due)
 
 pub answers_sat : (ending : Ending) (bits : ℕ) (o : Opening) (scene : SceneView) (read : List ℕ)
     (a : Option (List Ask)) (r : Option (List ℕ)) (was now : Moment) → Begins bits o scene read

@@ -1,4 +1,5 @@
 -- The text of a scene's passes, played.
+use Rattle.std.proofs.Common.{rules}
 use Rattle.px_num.proofs.Basics.{arith, ℕ, ◌≡◌, ◌≢◌, ◌≤◌, List, length, Bool, true, false, nat_lt, if◌then◌else◌}
 use Rattle.px_num.proofs.Basics.{Option, Some, None, refl, ap, subst, sym, ◌∙◌}
 use Rattle.px_num.specs.Want.{want}
@@ -22,7 +23,7 @@ use Rattle.px_commands.specs.declared.refusal.Refusal.{Refusal}
 use Rattle.px_draw.specs.ListedScenes.{DoneShowsThePicture, IsListed, ListedPassesArePlayed, ListedPassesShowThePicture}
 use Rattle.px_draw.specs.Listings.{list_refusal, list_refusal_by, listing_written}
 use Rattle.px_commands.specs.Outcomes.{Outcome, done, refused, refused_past, unless_refused}
-use Rattle.px_commands.specs.Refusals.{short_of_bits, too_long}
+use Rattle.px_commands.specs.Refusals.{short_of_bits}
 use Rattle.px_commands.proofs.LimitLaws.{at_most}
 use Rattle.px_show.specs.declared.fault.TextFault.TheVariants as f
 
@@ -40,13 +41,7 @@ same_bytes : (short : Bool) (reason : Refusal) (crowd : Option ℕ) (bytes text 
 same_bytes short reason crowd bytes text is = grind arith
 
 can_play : (bits : ℕ) (scene : SceneView) (text : List ℕ) → IsListed bits scene text → CanPlay bits scene
-can_play bits scene text is =
-    let enough = lt_fails bits (need_of (layout_of scene)) (not_short _ _ _ _ text is.answer) in
-    record {
-      scene_is = is.scene_is;
-      solids = is.solids;
-      lawful = passes_lawful is_lawful_in_more passes_are_lawful bits scene is.scene_is is.solids enough;
-    }
+can_play bits scene text is = search (rules, lt_fails, not_short, passes_lawful, is_lawful_in_more, passes_are_lawful)
 
 read_as : (bits : ℕ) (scene : SceneView) (text : List ℕ) → IsListed bits scene text
     → IsReadAsListing bits text (passes_listing scene)
@@ -91,9 +86,7 @@ short_of false reason past none = none
 
 accepted : (bits : ℕ) (text : List ℕ) → list_refusal bits text ≡ None → listing_refusal_of bits text ≡ None
 unfolding list_refusal
-accepted bits text none =
-    no_refusal (listing_refusal_of bits text) (memory_is_no_refusal bits text)
-    (short_of (nat_lt MAX_TEXT_BYTES (length text)) (list_refusal_by (listing_refusal_of bits text)) too_long none)
+accepted bits text none = search (rules, no_refusal, memory_is_no_refusal, short_of, nat_lt, length)
 
 pub done_shown : DoneShowsThePicture
 done_shown listed_bits bits scene text answer is done_so =

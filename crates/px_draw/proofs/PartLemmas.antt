@@ -111,14 +111,7 @@ admitted_is o bits scene read outcome is = grind (arith, unless_refused, drawabl
 pub long_refuses : (bits : ℕ) (o : Opening) → IsOpening o → o.part ≡ None → length o.text.items ≡ 1048577
     → Refuses bits o (halted.Refused too_long)
 unfolding debugged has_part
-long_refuses bits o opening none full more follows =
-    let text = o.text.items in
-    let count : 1048577 - length text - 1 ≡ 0 = omega (arith, full) in
-    let within : within_limit (text ++ more) ≡ within_limit text =
-    within_both text more ∙ ap (λ k. within_limit text ++ take k more) count ∙ append-nil (within_limit text) in
-    let part : holds_part (within_limit (text ++ more)) ≡ false =
-    ap holds_part within ∙ ap is_some (sym opening.part ∙ none) in
-    rw (long_is (text ++ more) (omega (arith, length-append text more, full)), part) refl
+long_refuses bits o opening none full more follows = grind (arith, length, within_both, take, append-nil, false, is_some, long_is, length-append)
 
 -- of one that is no scene's
 refused_for : (why : Option Refusal) (reason : Refusal) (o : Outcome)

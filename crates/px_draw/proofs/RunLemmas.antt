@@ -1,4 +1,5 @@
 -- What a command does is what a run of its words does.
+use Rattle.px_num.proofs.Basics.{arith}
 use Rattle.px_num.proofs.Basics.{ℕ, ◌≡◌, List, [], Option, Some, None, Ok, Err, refl, subst, Result, sym}
 use Rattle.px_io.proofs.ToldLaws.{consumes_none, stays}
 use Rattle.px_io.specs.Reports.{SinkState}
@@ -21,8 +22,7 @@ pub run_done : (words : List (List ℕ)) (bits : ℕ) (u : Unit {0}) (before aft
     → Performs (Ok u) (command_of words) bits before after
     → HasCauses (Ok u) before.faults after.faults before.out.faults after.out.faults
     → IsRunOf words bits status.Done (with_notes before notes) (with_notes after notes)
-run_done words bits u before after notes performs causes =
-    record { result = Ok u; status = refl; performs = performs; causes = causes; noted = stays notes }
+run_done words bits u before after notes performs causes = grind (arith, stays)
 
 -- words that name no command
 pub performs_usage : (command : Option Command) (bits : ℕ) (ends : Ends) → command ≡ None

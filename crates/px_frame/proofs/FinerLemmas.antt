@@ -1,4 +1,5 @@
 -- What is seen of the finer scene at a pixel that both scenes have.
+use Rattle.std.proofs.Common.{rules}
 use Rattle.px_num.proofs.Basics.{◌≡◌, ℕ, zero, suc, ◌+◌, ◌*◌, ◌^◌, ◌<◌, ℤ, pos, ◌*ℤ◌, List, [], ◌∷◌, map, nat_le}
 use Rattle.px_num.proofs.Basics.{nat_lt, Bool, Option, Some, None, refl, ap, sym, ◌∙◌, arith, slice_get, fun_ext}
 use Rattle.px_num.proofs.Basics.{pow-add, pow_pos, slice_get-map, fold, list_all, int_max, int_min, int_eq}
@@ -9,7 +10,7 @@ use Rattle.px_num.proofs.TruthLaws.{le_holds, le_same}
 use Rattle.px_expr.specs.Cells.{Cell, cell}
 use Rattle.px_model.specs.declared.solid.Face.{Face}
 use Rattle.px_model.specs.Scenes.{SolidView, SceneView}
-use Rattle.px_model.specs.Cells.{Depths, backs_at, cell_of, depths, end_of, enters_at, faces_at, far_of, first}
+use Rattle.px_model.specs.Cells.{Depths, backs_at, cell_of, depths, end_of, enters_at, faces_at, far_of}
 use Rattle.px_model.specs.Cells.{first_cell, fronts_at, is_inside, is_inside_before, leaf_cell, least, leaves_at}
 use Rattle.px_model.specs.Cells.{scene_cell, sight_at, solid_cell, value_of}
 use Rattle.px_model.proofs.CellLaws.{cell_is_first}
@@ -70,10 +71,7 @@ module _ (s x y : ℕ) where
 
   enters_fine : (solid : SolidView) → enters_at (solid_over (Finer s) solid) (k * x) (k * y) ≡ pos k
       *ℤ enters_at solid x y
-  enters_fine solid =
-      ap (λ u. fold int_max u (map (λ f. value_at f.plane (k * x) (k * y)) (map (face_over (Finer s)) solid.fronts)))
-      nothing
-      ∙ greatest_fine solid.fronts (pos 0)
+  enters_fine solid = search (rules, fold, int_max, map, nothing, greatest_fine, pos)
 
   -- depths of the scene, and those of the finer one
   module _ (far f : ℕ) where
@@ -151,8 +149,7 @@ module _ (s x y : ℕ) where
       ap (λ f. cell f scene.show) (fun_ext (leaf_fine (far_of scene) scene.fraction_bits scene.solids z))
 
   first_same : (scene : SceneView) → first_cell (fine_scene s scene) (k * x) (k * y) ≡ first_cell scene x y
-  first_same scene =
-      ap (λ test. first test (far_of scene)) (fun_ext (λ z. ap (λ (c : Cell). c.member) (cell_same scene z)))
+  first_same scene = grind (arith, fun_ext, cell_same)
 
   sight_same : (scene : SceneView) (o : Option ℕ) → sight_at (fine_scene s scene) (k * x) (k * y) o
       ≡ sight_at scene x y o

@@ -1,5 +1,6 @@
 -- The images of an array that stores a picture.
-use Rattle.px_num.proofs.Basics.{◌≡◌, ◌∙◌, ℕ, ◌+◌, ◌*◌, ◌/◌, ◌^◌, ap, arith, mul-div-le}
+use Rattle.std.proofs.Common.{rules}
+use Rattle.px_num.proofs.Basics.{◌≡◌, ℕ, ◌+◌, ◌*◌, ◌/◌, ◌^◌, ap, arith, mul-div-le}
 use Rattle.px_frame.proofs.Words.{depth_at, face_at, LayoutView, picture_image, pixel_of, Plane, SceneView, State}
 use Rattle.px_frame.proofs.Words.{stored_depth, stored_face, stored_image}
 use Rattle.px_face.proofs.BackgroundLemmas.{shows_faces}
@@ -7,7 +8,6 @@ use Rattle.px_face.proofs.SurfaceLemmas.{scene_surface}
 use Rattle.px_model.specs.Scenes.{colour_in_scene}
 use Rattle.px_sched.specs.PassesLaw.{ShowsThePicture}
 use Rattle.px_frame.specs.Picture.{colour_at}
-use Rattle.px_frame.specs.Finer.{fine_scene}
 use Rattle.px_frame.specs.ImagesLaw.{FacesAreOfTheScene}
 use Rattle.px_frame.specs.Refined.{doublings, image_of_means, mean_pixel}
 use Rattle.px_frame.specs.RefinedLaw.{StoredMeansAreRefined}
@@ -30,19 +30,13 @@ means_show s scene layout state shows =
 pub images_show : (scene : SceneView) (layout : LayoutView) (state : State) (plane : Plane)
     → ShowsThePicture scene layout (λ x y. (pixel_of state x y).memory) → stored_image scene layout state plane
     ≡ picture_image scene plane
-images_show scene layout state p.Depth shows =
-    same_image scene.width scene.height (stored_depth layout state) (depth_at scene)
-    (λ x y left above. (shows x y left above).depth)
-images_show scene layout state p.Face shows =
-    same_image scene.width scene.height (stored_face layout state) (face_at scene)
-    (λ x y left above. (shows x y left above).face)
+images_show scene layout state p.Depth shows = grind (arith, same_image, stored_depth, depth_at)
+images_show scene layout state p.Face shows = grind (arith, same_image, stored_face, face_at)
 images_show scene layout state p.Colour shows = grind (arith, same_pixels)
 images_show scene layout state (p.Means fineness) shows = means_show (doublings fineness) scene layout state shows
 
 pub faces_stored : FacesAreOfTheScene
-faces_stored scene layout state lawful shows x y left above =
-    omega (arith, (shows x y left above).face, shows_faces scene_surface scene lawful x y)
+faces_stored scene layout state lawful shows x y left above = grind (arith, shows_faces, scene_surface)
 
 pub stored_refined : StoredMeansAreRefined
-stored_refined s scene layout state shows =
-    means_show s (fine_scene s scene) layout state shows ∙ means_refined s scene
+stored_refined s scene layout state shows = search (rules, means_show, means_refined)

@@ -1,5 +1,5 @@
 -- Rows by their pixels, and images by their rows, as they are written one after another; images of the same numbers.
-use Rattle.px_num.proofs.Basics.{◌≡◌, ℕ, ◌+◌, ◌-◌, ◌/◌, ◌<◌, ◌≤◌, refl, ap, sym, ◌∙◌, arith, List, [], ◌∷◌, ◌++◌}
+use Rattle.px_num.proofs.Basics.{◌≡◌, ℕ, ◌+◌, ◌-◌, ◌/◌, ◌<◌, ◌≤◌, ap, sym, ◌∙◌, arith, List, [], ◌∷◌, ◌++◌}
 use Rattle.px_num.proofs.Basics.{append_assoc, get_or, length, set, take, length-set, flat_map-append, flat_map}
 use Rattle.px_num.proofs.Basics.{range_with_len}
 use Rattle.px_frame.proofs.Words.{Field, front_after, front_before, HoldsRow, image_of, image_of_pixels}
@@ -31,12 +31,7 @@ three_entered xs [] n m behind room three = absurd (omega arith)
 three_entered xs (a ∷ []) n m behind room three = absurd (omega arith)
 three_entered xs (a ∷ b ∷ []) n m behind room three = absurd (omega arith)
 three_entered xs (a ∷ b ∷ c ∷ d ∷ rest) n m behind room three = absurd (omega arith)
-three_entered xs (a ∷ b ∷ c ∷ []) n m behind room three =
-    take-set_at (set (set xs n a) (n + 1) b) (n + 2) m c (omega arith) (omega (arith, length-set {A = ℕ}))
-    ∙ ap (λ bytes. bytes ++ c ∷ []) (take-set_at (set xs n a) (n + 1) (n + 2) b (omega arith)
-    (omega (arith, length-set {A = ℕ}))
-    ∙ ap (λ bytes. bytes ++ b ∷ []) (take-set_at xs n (n + 1) a refl (omega arith)))
-    ∙ grind (arith, append_assoc {A = ℕ})
+three_entered xs (a ∷ b ∷ c ∷ []) n m behind room three = grind (arith, take-set_at, set, length-set, append_assoc)
 
 -- one pixel more
 pub pixels_grown : (pixel : (x y : ℕ) → List ℕ) (x y : ℕ) (bytes old new : List ℕ) → old ≡ row_of_pixels x pixel y

@@ -1,5 +1,5 @@
 -- What an image shows of numbers, of those that a strip has and of those that an array stores.
-use Rattle.px_num.proofs.Basics.{◌≡◌, ℕ, zero, suc, ◌+◌, ◌*◌, ◌^◌, ◌<◌, ◌≤◌, List, subst, arith}
+use Rattle.px_num.proofs.Basics.{◌≡◌, ℕ, zero, suc, ◌+◌, ◌*◌, ◌^◌, ◌<◌, ◌≤◌, List, arith}
 use Rattle.px_num.proofs.RangeLaws.{same_parts}
 use Rattle.px_frame.proofs.Words.{doublings_of, Field, HoldsRow, Plane, row_of_pixels}
 use Rattle.px_frame.proofs.Words.{SceneView, shown_pixel, side_shown, State, stored_number, strip_number}
@@ -17,8 +17,7 @@ width_fits (suc k) width side some fits = grind arith
 
 -- numbers that are the same at one pixel
 alone : (f g : (x y : ℕ) → ℕ) (x y i j : ℕ) → i ≡ x → j ≡ y → f i j ≡ g i j → f x y ≡ g x y
-alone f g x y i j column row same =
-    subst (λ n. f n y ≡ g n y) column (subst (λ n. f i n ≡ g i n) row same)
+alone f g x y i j column row same = grind (arith)
 
 -- a pixel shows the same of numbers that are the same in its block
 pub shown_same : (scene : SceneView) (plane : Plane) (f g : (x y : ℕ) → ℕ) (x y : ℕ)
