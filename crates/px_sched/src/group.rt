@@ -18,9 +18,8 @@ ghost use Rattle.px_sched.specs.Steps.{behind_step};
 ghost use Rattle.px_sched.specs.declared.group.Stage.TheVariants as s;
 ghost use Rattle.px_sched.specs.declared.literal.TheConstants.{MAX_LITERALS};
 
-use crate::literal::{Literal, MAX_LITERALS, keep_others, literals};
+use crate::literal::{MAX_LITERALS, literals, take_literal};
 use crate::step::Step;
-use arrayvec::ArrayVec;
 use px_model::Scene;
 use px_normal::Product;
 
@@ -92,21 +91,9 @@ impl Group {
             (behind_step scene.now (literal_of products.now self) (others_of products.now self) self.step) result }
         ensures few { self.literal < MAX_LITERALS }
     {
-        let (q, rs) = self.literal_and_others(products);
-        self.step.next(scene, q, rs.as_slice())
-    }
-
-    fn literal_and_others(self, products: &[Product]) -> (Literal, ArrayVec<Literal, MAX_LITERALS>)
-        requires product { self.product < length products.now }
-        requires literal { self.literal < length (literals (product_at products.now self.product)) }
-        ensures literal { result.0 ≡ literal_of products.now self }
-        ensures others { result.1.items ≡ others_of products.now self }
-        ensures few { self.literal < MAX_LITERALS }
-    {
         let mut rs = literals(&products[self.product]);
-        let q = rs[self.literal];
-        keep_others(q, &mut rs);
-        (q, rs)
+        let q = take_literal(&mut rs, self.literal);
+        self.step.next(scene, q, rs.as_slice())
     }
 }
 

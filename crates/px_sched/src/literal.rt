@@ -1,7 +1,7 @@
 //! The solids of a product.
-ghost use Rattle.std.specs.Prelude.{◌≡◌, ◌≤◌, ◌+◌, ◌++◌, ◌==◌, filter, length, not};
+ghost use Rattle.std.specs.Prelude.{◌≡◌, ◌<◌, ◌≤◌, ◌+◌, ◌++◌, ◌==◌, filter, length, not};
 ghost use Rattle.arrayvec.specs.ArrayVec.{array_vec_len};
-ghost use Rattle.px_sched.specs.Passes.{literals, literals_of};
+ghost use Rattle.px_sched.specs.Passes.{literal_at, literals, literals_of};
 ghost use Rattle.px_sched.specs.declared.literal.TheConstants.{MAX_LITERALS};
 
 use arrayvec::ArrayVec;
@@ -29,11 +29,16 @@ pub fn literals(product: &Product) -> ArrayVec<Literal, MAX_LITERALS>
     list
 }
 
-/// Leaves of these literals those that are of another solid.
-pub(crate) fn keep_others(q: Literal, all: &mut ArrayVec<Literal, MAX_LITERALS>)
-    ensures { all.new.items ≡ filter (λ r. not (r.solid == q.solid)) all.old.items }
+/// The literal at a place of these, of which those stay that are of another solid.
+pub(crate) fn take_literal(all: &mut ArrayVec<Literal, MAX_LITERALS>, place: usize) -> Literal
+    requires { place < length all.old.items }
+    ensures literal { result ≡ literal_at all.old.items place }
+    ensures others { all.new.items ≡ filter (λ r. not (r.solid == result.solid)) all.old.items }
+    ensures few { place < MAX_LITERALS }
 {
+    let q = all[place];
     all.retain(|r| r.solid != q.solid);
+    q
 }
 
 fn push_literals(list: &mut ArrayVec<Literal, MAX_LITERALS>, indices: &[u8], plain: bool)
