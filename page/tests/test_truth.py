@@ -184,7 +184,9 @@ def test_two_maps_are_compared_without_a_scene(page: Browser, tmp_path: Path) ->
     page.run("delete document.body.dataset.compared")
     click(page, "#no-second")
     ours = called(page, "text => studio.library().then(px => [...px.render(text).depths])", source(page))
-    assert page.until("document.body.dataset.compared") == "%d of 1536 pixels differ" % sum(own != other for own, other in zip(ours, DEPTHS))
+    differ = "%d of 1536 pixels differ" % sum(own != other for own, other in zip(ours, DEPTHS))
+    # (what the text that was mended is compared with for the first time may come behind the click)
+    assert page.until("document.body.dataset.compared === '%s' && document.body.dataset.compared" % differ) == differ
 
 
 @pytest.mark.parametrize("name, content, said", [
